@@ -6,7 +6,6 @@ import shutil
 import subprocess
 import sys
 import tempfile
-import time
 from pathlib import Path
 
 BENCH = Path(__file__).resolve().parent
@@ -112,19 +111,19 @@ def build_peer(name, soft=False, cpu=None):
 
 
 def run_timed(command, path, sink=subprocess.PIPE):
-    """Runs the command on a file, and returns what it printed, where that goes to no sink, the seconds that it took by the
-    clock, those that it used of processors, and the most memory that it held, in bytes: as `time` tells it, whose own
-    process is small. A process that starts another hands its own most on to it."""
+    """Runs the command on a file, and returns what it printed, where that goes to no sink, the seconds that it used of
+    processors, and the most memory that it held, in bytes: as `time` tells it, whose own process is small. A process that
+    starts another hands its own most on to it."""
     if not os.access(TIME, os.X_OK):
         stop(f"{TIME} is not there: it is in the package time")
     with open(path, "rb") as source, tempfile.NamedTemporaryFile("r") as told:
         words = [TIME, "-f", "%M", "-o", told.name, *map(str, command)]
-        begun, before = time.perf_counter(), used_by_children()
+        before = used_by_children()
         done = subprocess.run(words, stdin=source, stdout=sink)
-        took, used = time.perf_counter() - begun, used_by_children() - before
+        used = used_by_children() - before
         if done.returncode != 0:
             stop(f"{' '.join(map(str, command))} ended with {done.returncode}")
-        return done.stdout, took, used, int(told.read()) * 1024
+        return done.stdout, used, int(told.read()) * 1024
 
 
 def used_by_children():
@@ -135,5 +134,5 @@ def used_by_children():
 
 def run(program, words, path=os.devnull):
     """The numbers that the program prints, and the most memory that it held, in bytes."""
-    printed, _, _, held = run_timed([program, *words], path)
+    printed, _, held = run_timed([program, *words], path)
     return [int(word) for word in printed.split()], held

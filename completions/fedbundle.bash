@@ -3,35 +3,38 @@ _fedbundle() {
     local word=${COMP_WORDS[COMP_CWORD]} before=${COMP_WORDS[COMP_CWORD - 1]} words
     COMPREPLY=()
     if [ "$COMP_CWORD" -eq 1 ]; then
-        COMPREPLY=($(compgen -W 'canon config report list diff status bundle explain observe merge migrate reseed polls distrust serve pull help --help --version' -- "$word"))
+        COMPREPLY=($(compgen -W 'canon config report list diff graph status bundle explain observe merge migrate reseed polls distrust serve pull replica stop help --help --version' -- "$word"))
         return
     fi
     case $before in
-        --at|--config|--state|--to|--with)
+        --at|--config|--socket|--state|--to|--with)
             compopt -o filenames 2>/dev/null
             COMPREPLY=($(compgen -f -- "$word"))
             return
             ;;
-        --allow|--domain|--endpoint|--format|--key|--listen|--most-bytes|--now|--peer|--sessions|--wait) return ;;
+        --allow|--domain|--endpoint|--every|--format|--key|--listen|--most-bytes|--now|--peer|--peers|--sessions|--wait) return ;;
     esac
     case ${COMP_WORDS[1]} in
-        canon) words='--domain --help' ;;
-        config) words='--config --with --help' ;;
-        report) words='--config --state --help' ;;
-        list) words='--config --state --domain --verbose --help' ;;
+        canon) words='--domain --format --help' ;;
+        config) words='--config --with --format --help' ;;
+        report) words='--config --state --format --at --help' ;;
+        list) words='--config --state --domain --format --verbose --help' ;;
         diff) words='--config --state --with --verbose --help' ;;
-        status) words='--config --state --format --verbose --help' ;;
-        bundle) words='--config --state --domain --format --verbose --help' ;;
-        explain) words='--config --state --domain --short --verbose --help' ;;
-        observe) words='--config --state --domain --endpoint --key --wait --verbose --help' ;;
-        merge) words='--config --state --wait --most-bytes --verbose --help' ;;
+        graph) words='--config --state --domain --verbose --help' ;;
+        status) words='--config --state --format --verbose --at --help' ;;
+        bundle) words='--config --state --domain --format --verbose --at --help' ;;
+        explain) words='--config --state --domain --short --format --verbose --at --help' ;;
+        observe) words='--config --state --domain --endpoint --key --wait --verbose --at --help' ;;
+        merge) words='--config --state --wait --most-bytes --verbose --at --help' ;;
         migrate) words='--config --state --to --records-only --help' ;;
         reseed) words='--config --state --allow --verbose --help' ;;
-        polls) words='--config --state --now --verbose --help' ;;
-        distrust) words='--config --state --domain --key --dry-run --wait --verbose --help' ;;
+        polls) words='--config --state --now --format --verbose --at --help' ;;
+        distrust) words='--config --state --domain --key --dry-run --wait --verbose --at --help' ;;
         serve) words='--config --state --listen --sessions --verbose --help' ;;
         pull) words='--config --state --peer --wait --most-bytes --verbose --help' ;;
-        help) words='canon config report list diff status bundle explain observe merge migrate reseed polls distrust serve pull help' ;;
+        replica) words='--config --state --socket --listen --peers --every --most-bytes --new --verbose --help' ;;
+        stop) words='--at --help' ;;
+        help) words='canon config report list diff graph status bundle explain observe merge migrate reseed polls distrust serve pull replica stop help' ;;
         *) return ;;
     esac
     COMPREPLY=($(compgen -W "$words" -- "$word"))

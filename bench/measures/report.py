@@ -129,7 +129,7 @@ def write_stream(folder, documents, receipts):
 def measure(command, path, answer):
     """The processor time of a run, and the most bytes that its process held."""
     with answer.open("wb") as sink:
-        _, _, used, held = run_timed(command, path, sink)
+        _, used, held = run_timed(command, path, sink)
     return used, held
 
 

@@ -33,6 +33,7 @@
 #include <stdint.h>
 #include <stdlib.h>
 #include <string.h>
+#include <sys/epoll.h>
 #include <sys/file.h>
 #include <sys/mman.h>
 #include <sys/socket.h>
@@ -297,6 +298,7 @@ int fsync(int fd) { SYSTEM_CALL(SYNC, "fsync", fd, syscall(SYS_fsync, fd)); }
 int fdatasync(int fd) { SYSTEM_CALL(SYNC, "fdatasync", fd, syscall(SYS_fdatasync, fd)); }
 
 int ftruncate(int fd, off_t length) { SYSTEM_CALL(CHANGE, "ftruncate", fd, syscall(SYS_ftruncate, fd, length)); }
+int chmod(const char *path, mode_t mode) { SYSTEM_CALL(CHANGE, "chmod", -1, syscall(SYS_chmod, path, mode)); }
 int fchmod(int fd, mode_t mode) { SYSTEM_CALL(CHANGE, "fchmod", fd, syscall(SYS_fchmod, fd, mode)); }
 
 int fchown(int fd, uid_t owner, gid_t group) {
@@ -360,5 +362,12 @@ int getsockname(int fd, struct sockaddr *address, socklen_t *length) {
 }
 int getpeername(int fd, struct sockaddr *address, socklen_t *length) {
     SYSTEM_CALL(SOCKET, "getpeername", fd, syscall(SYS_getpeername, fd, address, length));
+}
+int epoll_create1(int flags) { SYSTEM_CALL(SOCKET, "epoll_create1", -1, syscall(SYS_epoll_create1, flags)); }
+int epoll_ctl(int fd, int operation, int of, struct epoll_event *event) {
+    SYSTEM_CALL(SOCKET, "epoll_ctl", fd, syscall(SYS_epoll_ctl, fd, operation, of, event));
+}
+int epoll_wait(int fd, struct epoll_event *events, int most, int milliseconds) {
+    SYSTEM_CALL(SOCKET, "epoll_wait", fd, syscall(SYS_epoll_wait, fd, events, most, milliseconds));
 }
 int shutdown(int fd, int which) { SYSTEM_CALL(SOCKET, "shutdown", fd, syscall(SYS_shutdown, fd, which)); }

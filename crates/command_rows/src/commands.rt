@@ -3,27 +3,27 @@
 //!
 //! A file's name is the name of a text; where no text has the name, the file is not there.
 use crate::devices::{AMPLE_ROOM, Devices};
+use crate::shown_forms::{canon, explain, graph_held, list_held, polls, print_config, report_held};
 use crate::words::split_words;
-use bundle_view::{Verdict, write_report};
+use bundle_view::Verdict;
 use byte_lines::{FromRead, MemSink, write_all};
 use closure_core::Closure;
-use config_view::{write_config, write_config_difference};
+use config_view::write_config_difference;
 use fed_config::Config;
 use fedbundle::{
-    Call, CommandError, CommandName, ExplanationForm, RunError, WordsError, read_sessions,
-    read_words, run_bundle, run_bundle_pem, run_canon, run_distrust, run_explain, run_merge,
-    run_migrate, run_observe, run_polls, run_pull, run_report, run_report_with, run_serve,
-    show_distrust, status, write_fault, write_served,
+    Call, CommandError, CommandName, RunError, WordsError, read_sessions, read_status_format,
+    read_words, run_bundle, run_bundle_pem, run_distrust, run_merge, run_migrate, run_observe,
+    run_pull, run_report, run_report_with, run_serve, show_distrust, status, write_fault,
+    write_served,
 };
-use jiff::Timestamp;
 use jwk_set::KeyId;
 use migration::Choice;
-use poll_log::read_seconds;
 use receipt_core::Distrust;
 use replica_sync::{read_snapshot, write_snapshot};
-use replica_view::{write_held, write_held_difference};
+use replica_view::write_held_difference;
 use row_script::Script;
 use spiffe_name::{SpiffeId, TrustDomain};
+use status_view::write_status;
 use std::alloc::Global;
 
 /// What is run.
@@ -66,7 +66,7 @@ fn end(ended: u8, is_told: bool, devices: &mut Devices) {
     devices.status = if is_told { ended } else { ended.max(3) };
 }
 
-fn tell(line: &[u8], ended: u8, devices: &mut Devices) {
+pub(crate) fn tell(line: &[u8], ended: u8, devices: &mut Devices) {
     let is_told = write_all(&mut devices.errors, line).is_ok();
     end(ended, is_told, devices);
 }
@@ -101,7 +101,7 @@ fn do_call<C: Closure>(
     devices: &mut Devices,
 ) -> Result<(), CommandError> {
     match (call.name, call.texts.as_slice()) {
-        (CommandName::Canon, [Some(domain)]) => canon(case, domain, devices),
+        (CommandName::Canon, [Some(domain), form]) => canon(case, domain, *form, devices),
         (CommandName::Serve, [_, _, _, Some(sessions), _]) if read_sessions(sessions).is_none() => {
             tell(b"fedbundle: usage\n", 2, devices);
             Ok(())
@@ -111,11 +111,6 @@ fn do_call<C: Closure>(
         }
         _ => Err(CommandError::Full),
     }
-}
-
-fn canon(case: &Case<'_>, domain: &str, devices: &mut Devices) -> Result<(), CommandError> {
-    let domain = TrustDomain::read(case.alloc, domain)?;
-    run_canon(case.alloc, &domain, &mut devices.input, &mut devices.output)
 }
 
 fn do_under<C: Closure>(
@@ -138,20 +133,15 @@ fn do_under_config<C: Closure>(
     devices: &mut Devices,
 ) -> Result<(), CommandError> {
     match (asked.name, asked.given) {
-        (CommandName::Config, [None]) => print_config(case.alloc, config, devices),
-        (CommandName::Config, [Some(with)]) => compare_configs(case, config, with, devices),
-        (CommandName::Report, [None]) => report::<C>(case, config, devices),
+        (CommandName::Config, [None, form]) => print_config(case, config, *form, devices),
+        (CommandName::Config, [Some(with), _]) => compare_configs(case, config, with, devices),
+        (CommandName::Report, [None, ..]) => report::<C>(case, config, devices),
         (name, [Some(state), given @ ..]) => {
             let file = case.script.text(state);
             do_over_file::<C>(case, Asked { name, given }, config, file, devices)
         }
         _ => Err(CommandError::Full),
     }
-}
-
-fn print_config(alloc: Global, config: &Config, devices: &mut Devices) -> Result<(), CommandError> {
-    write_config(alloc, config, &mut devices.output)?;
-    Ok(())
 }
 
 // Two digests make the exit status 1.
@@ -271,14 +261,18 @@ fn do_asked<C: Closure>(
 ) -> Result<(), CommandError> {
     let (input, output) = (&mut devices.input, &mut devices.output);
     match (asked.name, asked.given) {
-        (CommandName::Report, []) => report_held(case.alloc, closure, devices),
-        (CommandName::List, [domain, _]) => list_held(case, closure, *domain, devices),
+        (CommandName::Report, [form, _]) => report_held(case, closure, *form, devices),
+        (CommandName::List, [domain, form, _]) => {
+            list_held(case, closure, *domain, *form, devices)
+        }
+        (CommandName::Graph, [domain, _]) => graph_held(case, closure, *domain, devices),
         (CommandName::Diff, [Some(with), _]) => compare_held(case, closure, with, devices),
-        (CommandName::Bundle, [Some(domain), format, _]) => {
+        (CommandName::Status, [format, ..]) => status_of(case, closure, *format, devices),
+        (CommandName::Bundle, [Some(domain), format, ..]) => {
             bundle(case, closure, domain, *format, devices)
         }
-        (CommandName::Explain, [Some(domain), Some(short), _]) => {
-            explain(case, closure, domain, short, devices)
+        (CommandName::Explain, [Some(domain), short, form, ..]) => {
+            explain(case, closure, domain, *short, *form, devices)
         }
         (CommandName::Observe, [Some(domain), Some(endpoint), Some(key), ..]) => {
             observe(case, closure, domain, endpoint, key, devices)
@@ -287,7 +281,7 @@ fn do_asked<C: Closure>(
         (CommandName::Migrate, [Some(to), Some(records_only)]) => {
             migrate(case, closure, to, records_only, devices)
         }
-        (CommandName::Polls, [Some(now), _]) => polls(case, closure, now, devices),
+        (CommandName::Polls, [Some(now), form, ..]) => polls(case, closure, now, *form, devices),
         (CommandName::Distrust, [Some(domain), Some(key), flags @ ..]) => {
             let record = record_of(case.alloc, domain, key)?;
             distrust(case, closure, &record, flags, devices)
@@ -301,26 +295,20 @@ fn do_asked<C: Closure>(
 }
 
 // Of what the state file holds.
-fn report_held<C: Closure>(
-    alloc: Global,
-    closure: &C,
-    devices: &mut Devices,
-) -> Result<(), CommandError> {
-    write_report(alloc, closure, &mut devices.output).map_err(RunError::from)?;
-    Ok(())
-}
-
-fn list_held<C: Closure>(
+// A warning makes the exit status 1.
+fn status_of<C: Closure>(
     case: &Case<'_>,
     closure: &C,
-    domain: Option<&str>,
+    format: Option<&str>,
     devices: &mut Devices,
 ) -> Result<(), CommandError> {
-    let Some(domain) = domain else {
-        return Ok(write_held(case.alloc, closure, None, &mut devices.output)?);
+    let Ok(format) = read_status_format(format) else {
+        tell(b"fedbundle: usage\n", 2, devices);
+        return Ok(());
     };
-    let domain = TrustDomain::read(case.alloc, domain)?;
-    Ok(write_held(case.alloc, closure, Some(&domain), &mut devices.output)?)
+    let is_warned = write_status(case.alloc, closure, format, &mut devices.output)?;
+    devices.status = u8::from(is_warned);
+    Ok(())
 }
 
 // Two states that hold different things make the exit status 1.
@@ -381,26 +369,6 @@ fn bundle<C: Closure>(
     Ok(())
 }
 
-fn explain<C: Closure>(
-    case: &Case<'_>,
-    closure: &C,
-    domain: &str,
-    short: &str,
-    devices: &mut Devices,
-) -> Result<(), CommandError> {
-    let domain = TrustDomain::read(case.alloc, domain)?;
-    let form = if short == "true" {
-        ExplanationForm::Steps
-    } else {
-        ExplanationForm::Receipts
-    };
-    let (input, output) = (&mut devices.input, &mut devices.output);
-    if !run_explain(case.alloc, closure, &domain, form, input, output)? {
-        tell(b"fedbundle: not accepted\n", 1, devices);
-    }
-    Ok(())
-}
-
 fn observe<C: Closure>(
     case: &Case<'_>,
     closure: &mut C,
@@ -447,7 +415,7 @@ fn distrust<C: Closure>(
     if is_dry(flags) {
         return show_distrust(case.alloc, closure, record, &mut devices.output);
     }
-    if flags.last() == Some(&Some("true")) {
+    if flags.get(2) == Some(&Some("true")) {
         let _ = show_distrust(case.alloc, closure, record, &mut devices.errors);
     }
     run_distrust(closure, &record.domain, record.key)
@@ -462,20 +430,6 @@ fn record_of(alloc: Global, domain: &str, key: &str) -> Result<Distrust, Command
         domain: TrustDomain::read(alloc, domain)?,
         key: key_of(key),
     })
-}
-
-fn polls<C: Closure>(
-    case: &Case<'_>,
-    closure: &C,
-    now: &str,
-    devices: &mut Devices,
-) -> Result<(), CommandError> {
-    let now = read_seconds(now.as_bytes()).unwrap_or(i64::MAX);
-    let (input, output) = (&mut devices.input, &mut devices.output);
-    match Timestamp::from_second(now) {
-        Ok(now) => run_polls(case.alloc, closure, now, input, output),
-        Err(_) => Err(CommandError::Full),
-    }
 }
 
 // The line `served` tells of the questions here, since there is one session.

@@ -2,13 +2,16 @@
 //!
 //! The head of the script says what rows there are. A row in which the words of a command stand is
 //! run over both closures, with the input in pieces of several sizes, and its lines are printed
-//! once where they are the same each time.
+//! once where they are the same each time. Words that a running replica answers too are sent to one
+//! as a request, and have to come to the same.
 #![tactic(auto)]
 
 mod commands;
 mod devices;
 mod refusals;
+mod requests;
 mod settings;
+mod shown_forms;
 mod words;
 
 use crate::settings::{Trial, answer_run, answer_trial};

@@ -1,6 +1,7 @@
 //! The settings in which a row is run.
 use crate::commands::{Case, carry_out};
 use crate::devices::{AMPLE_ROOM, Devices, Limits};
+use crate::requests::ask;
 use crate::words::head_words;
 use closure_core::Closure;
 use row_script::{Answers, Row, Script};
@@ -53,7 +54,25 @@ fn answer_pieces(case: &Case<'_>, pieces: &[usize], answer: &mut String) -> Resu
     if case.words.starts_with("report\0") && case.input.len() <= MAX_CUT_BYTES {
         add_own(case, &mut answers)?;
     }
+    add_request::<IndexedClosure>(case, "indexed, as a request", &mut answers)?;
+    add_request::<PlainClosure>(case, "plain, as a request", &mut answers)?;
     answers.write(answer)
+}
+
+/// The same words sent to a running replica, where it answers such.
+fn add_request<C: Closure>(
+    case: &Case<'_>,
+    setting: &str,
+    answers: &mut Answers,
+) -> Result<(), AllocError> {
+    let mut devices = Devices::new(case.alloc, case.input, Limits::in_pieces(65_536), false)?;
+    let mut text = String::new(case.alloc);
+    match ask::<C>(case, &mut devices) {
+        Ok(true) => devices.show(case.script, &mut text)?,
+        Ok(false) => return Ok(()),
+        Err(error) => write!(text, "{error}\n")?,
+    }
+    answers.add(setting, text.as_str())
 }
 
 /// A report that chooses its closure itself.

@@ -1,1 +1,2 @@
 pub mod ConfigText
+pub mod ConfigJson

@@ -1,8 +1,10 @@
-//! What a configuration says, printed for operators: one of them, or where two differ. Replicas
-//! exchange receipts only where their configurations are equal.
+//! What a configuration says, printed for operators: one of them, as lines or as JSON, or where two
+//! differ. Replicas exchange receipts only where their configurations are equal.
 #![tactic(auto)]
 
+mod config_json;
 mod config_output;
 mod shown_lines;
 
+pub use config_json::write_config_json;
 pub use config_output::{write_config, write_config_difference};

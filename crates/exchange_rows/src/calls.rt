@@ -1,5 +1,6 @@
 //! The calls that rows try.
 use crate::absorbing::tell_absorbed;
+use crate::answer_pieces::pull_pieces;
 use crate::devices::in_pieces;
 use crate::messages::tell_messages;
 use crate::places::AMPLE_ROOM;
@@ -8,7 +9,7 @@ use crate::row_call::{RowCall, bucket_of};
 use crate::serving::serve_pieces;
 use crate::session::tell_session;
 use crate::stop::Stop;
-use byte_lines::{LineBuf, MemSink, MemSource, Sink, Source};
+use byte_lines::{LineBuf, MemSink, MemSource, Sink, Source, write_all};
 use closure_core::Closure;
 use fed_config::Config;
 use replica_sync::{
@@ -124,6 +125,15 @@ fn perform_at<C: Closure, R: Source, W: Sink>(
             let pulled = pull(alloc, closure, source, sink);
             tell_pulled(closure, pulled, outcome)
         }
+        "pulling" => {
+            let mut journal = Vec::new(alloc);
+            let pulled = pull_pieces(alloc, closure, source, sink, &mut journal);
+            tell_pulled(closure, pulled, outcome)
+        }
+        "journal" => {
+            let pulled = pull_into_journal(alloc, closure, source, sink);
+            tell_pulled(closure, pulled, outcome)
+        }
         "absorb" => tell_absorbed(row, closure, sink, outcome),
         "session" => tell_session(row, closure, sink, outcome),
         _ => Err(Stop::Verb),
@@ -139,6 +149,31 @@ fn copy_snapshot<C: Closure, R: Source, W: Sink>(
 ) -> Result<(), SyncError> {
     let closure: C = read_snapshot(alloc, config, source)?;
     write_snapshot(alloc, &closure, sink)
+}
+
+// Pulls by the machine that takes pieces, and writes what it appends to the journal.
+fn pull_into_journal<C: Closure, R: Source, W: Sink>(
+    alloc: Global,
+    closure: &mut C,
+    source: &mut R,
+    sink: &mut W,
+) -> Result<u64, PullFault> {
+    let mut journal = Vec::new(alloc);
+    let pulled = match MemSink::new(alloc, AMPLE_ROOM) {
+        Ok(mut haves) => pull_pieces(alloc, closure, source, &mut haves, &mut journal),
+        Err(_) => return Err(no_memory()),
+    };
+    match write_all(sink, journal.as_slice()) {
+        Ok(()) => pulled,
+        Err(_) => Err(no_memory()),
+    }
+}
+
+fn no_memory() -> PullFault {
+    PullFault {
+        why: SyncError::NoMemory,
+        taken: 0,
+    }
 }
 
 // Asks about the bucket that the third word tells.

@@ -7,6 +7,7 @@
 #![tactic(auto)]
 
 mod absorbing;
+mod answer_pieces;
 mod calls;
 mod devices;
 mod events;

@@ -1,20 +1,24 @@
 -- What a command answers where its source gave no bytes.
-use Rattle.std.proofs.Common.{◌≡◌, inl, Err, refl, List, ℕ}
+use Rattle.std.proofs.Common.{◌≡◌, inl, Err, refl, List, ℕ, arith}
 use Rattle.receipt_core.specs.Acceptance.{Meaning}
 use Rattle.byte_lines.specs.declared.error.DeviceError.{DeviceError}
 use Rattle.byte_lines.specs.declared.error.DeviceError.TheVariants.{Io as SourceFailed}
 use Rattle.byte_lines.specs.declared.error.DeviceError.TheVariants.{NoMemory as NoMemoryForBytes}
-use Rattle.fedbundle.specs.CommandRun.{CommandRun, StateRun, HasFailed, WritesNothing}
+use Rattle.closure_core.specs.Changes.{HeldAndRoom, IsUnchanged}
+use Rattle.fedbundle.specs.CommandRun.{CommandRun, DeviceRun, HasFailed, WritesNothing, run_of, state_run}
 use Rattle.fedbundle.specs.Canon.{RunsCanon}
 use Rattle.fedbundle.specs.Errors.{of_read}
 use Rattle.fedbundle.specs.Explain.{ExplanationCall, RunsExplain}
-use Rattle.fedbundle.specs.Observe.{Fetched, IsAsHeld, RunsObserve}
+use Rattle.fedbundle.specs.Observe.{Fetched, RefusesToMake, RunsObserve}
+use Rattle.fedbundle.specs.declared.option_texts.OutputForm.{OutputForm}
+use Rattle.fedbundle.specs.declared.error.CommandError.{CommandError}
+use Rattle.fedbundle.specs.declared.error.CommandError.TheVariants.{Io, NoMemory, Observe}
 
 -- Where the source failed or memory ran out, nothing was written: the promise of `canon` at both.
-pub canon_unread : (run : CommandRun) (domain : List ℕ) (e : DeviceError) → (e ≡ SourceFailed → HasFailed run.source)
-    → WritesNothing run.sink → RunsCanon run domain (Err (of_read e))
-canon_unread run domain SourceFailed failed same = inl (failed refl, same)
-canon_unread run domain NoMemoryForBytes failed same = same
+pub canon_unread : (run : CommandRun) (domain : List ℕ) (form : OutputForm) (e : DeviceError) → (e ≡ SourceFailed → HasFailed run.source)
+    → WritesNothing run.sink → RunsCanon run domain form (Err (of_read e))
+canon_unread run domain form SourceFailed failed same = inl (failed refl, same)
+canon_unread run domain form NoMemoryForBytes failed same = same
 
 -- the same of `explain`
 pub explain_unread : (run : CommandRun) (m : Meaning) (call : ExplanationCall) (e : DeviceError)
@@ -22,9 +26,26 @@ pub explain_unread : (run : CommandRun) (m : Meaning) (call : ExplanationCall) (
 explain_unread run m call SourceFailed failed same = inl (failed refl, same)
 explain_unread run m call NoMemoryForBytes failed same = same
 
--- the same of `observe`, which has observed nothing either
-pub observe_unread : (run : CommandRun) (state : StateRun) (fetched : Fetched) (e : DeviceError)
-    → (e ≡ SourceFailed → HasFailed run.source) → WritesNothing run.sink → IsAsHeld state
-    → RunsObserve run state fetched (Err (of_read e))
-observe_unread run state fetched SourceFailed failed same held = inl ((failed refl, same), held)
-observe_unread run state fetched NoMemoryForBytes failed same held = (same, inl held)
+-- where a source gave no bytes, no receipt is made
+pub observe_unread : (source : DeviceRun) (m : Meaning) (fetched : Fetched) (e : DeviceError)
+    → (e ≡ SourceFailed → HasFailed source) → RefusesToMake source m fetched (of_read e)
+observe_unread source m fetched SourceFailed failed = failed refl
+observe_unread source m fetched NoMemoryForBytes failed = tt
+
+-- where nothing was done nothing is changed
+as_before : (s : HeldAndRoom) → IsUnchanged s s
+as_before s = record { meaning = refl; room = record { receipts = omega arith; offers = omega arith } }
+
+-- Where no receipt is made, `observe` has observed and written nothing.
+pub observe_unmade : (source sink : DeviceRun) (s : HeldAndRoom) (fetched : Fetched) (e : CommandError)
+    → RefusesToMake source s.meaning fetched e → WritesNothing sink
+    → RunsObserve (run_of source sink) (state_run s s) fetched (Err e)
+observe_unmade source sink s fetched Io failed same = inl ((failed, same), refl)
+observe_unmade source sink s fetched NoMemory none same = (same, refl)
+observe_unmade source sink s fetched (Observe why) none same = record {
+  bytes = none.bytes;
+  read = none.read;
+  refused = record { cause = none.cause; unchanged = as_before s };
+  unwritten = same;
+}
+observe_unmade source sink s fetched _ none same = absurd none

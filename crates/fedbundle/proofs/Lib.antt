@@ -1,9 +1,9 @@
 mod WordsFacts
+mod OptionTextFacts
 mod TakenFacts
 mod ComplaintFacts
 mod RunFacts
 mod ComplaintOrderFacts
-mod PollsFacts
 mod SessionsFacts
 mod DeviceFacts
 mod CommandFacts

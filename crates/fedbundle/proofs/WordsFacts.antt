@@ -9,7 +9,8 @@ use Rattle.fedbundle.specs.declared.command_name.CommandName.{CommandName}
 use Rattle.fedbundle.specs.declared.command_name.CommandName.TheVariants as command
 use Rattle.fedbundle.specs.declared.command_name.OptionName.{OptionName}
 use Rattle.fedbundle.specs.declared.command_name.OptionName.TheVariants.{At}
-use Rattle.fedbundle.specs.Words.{given, is_settled, is_settled_in, leaf, the_command}
+use Rattle.fedbundle.specs.declared.words.WordsPlace.{WordsPlace}
+use Rattle.fedbundle.specs.Words.{given, is_settled_in, leaf, settled_at, the_command}
 
 -- what is left is the next item and what is left after it
 next_at : {X : Type 0} (xs : List X) (k : ℕ) (x : X) → k < length xs → x ≡ get_or xs k x → drop k xs ≡ x ∷ drop (k + 1) xs
@@ -35,9 +36,9 @@ has_text f None t e = ap is_some (sym e)
 has_text f (Some x) t e = ap is_some (sym e)
 
 -- what the code finds of an option is what the rows say of it
-pub settled_as : (rows : List Row) (option : OptionName) (at given_text : Bool) → is_some (given rows At) ≡ at
-    → is_some (given rows option) ≡ given_text → is_settled at given_text option ≡ is_settled_in rows option
-settled_as rows option at given_text e f = λ i. is_settled (sym e i) (sym f i) option
+pub settled_as : (place : WordsPlace) (rows : List Row) (option : OptionName) (at given_text : Bool) → is_some (given rows At) ≡ at
+    → is_some (given rows option) ≡ given_text → settled_at place at given_text option ≡ is_settled_in place rows option
+settled_as place rows option at given_text e f = λ i. settled_at place (sym e i) (sym f i) option
 
 -- one more option is settled: the step of the loop in `are_settled`
 pub settled_more : {X : Type 0} (p : X → Bool) (xs : List X) (k : ℕ) (x : X) → k < length xs → x ≡ get_or xs k x
@@ -60,6 +61,7 @@ plain_leaf command.Config = refl
 plain_leaf command.Report = refl
 plain_leaf command.List = refl
 plain_leaf command.Diff = refl
+plain_leaf command.Graph = refl
 plain_leaf command.Status = refl
 plain_leaf command.Bundle = refl
 plain_leaf command.Explain = refl
@@ -71,6 +73,8 @@ plain_leaf command.Polls = refl
 plain_leaf command.Distrust = refl
 plain_leaf command.Serve = refl
 plain_leaf command.Pull = refl
+plain_leaf command.Replica = refl
+plain_leaf command.Stop = refl
 
 -- the command is a simple one, and of such alone clap's contract says what is read of words
 pub simple_command : is_simple the_command ≡ true

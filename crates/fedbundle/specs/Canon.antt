@@ -8,6 +8,9 @@ use Rattle.jwk_set.specs.Element.{key_id_of}
 use Rattle.bundle_doc.specs.Bundle.{Bundle, canonical_text, doc_id_of}
 use Rattle.fedbundle.specs.CommandRun.{CommandRun, ReadsDocument, RefusesDocument, PrintsText}
 use Rattle.fedbundle.specs.CommandRun.{WritesNothing, CutsOff, FailsToRead}
+use Rattle.bundle_json.specs.DocumentJson.{document_json}
+use Rattle.fedbundle.specs.declared.option_texts.OutputForm.{OutputForm}
+use Rattle.fedbundle.specs.declared.option_texts.OutputForm.TheVariants.{Text, Json}
 use Rattle.fedbundle.specs.declared.error.CommandError.{CommandError}
 use Rattle.fedbundle.specs.declared.error.CommandError.TheVariants.{Document, NoMemory, Io}
 
@@ -31,26 +34,31 @@ abbrev pub canon_text : List ℕ → Bundle → List ℕ
 canon_text domain b = canonical_text b
     ++ (10 ∷ [] ++ (digest_line (codes "id ") (doc_id_of domain b) ++ key_lines b.authorities))
 
+-- that, or the same as JSON
+abbrev pub canon_in : OutputForm → List ℕ → Bundle → List ℕ
+canon_in Text domain b = canon_text domain b
+canon_in Json domain b = document_json domain b
+
 -- ---- a run
 
 -- The bytes read are a document, and its text was written and nothing else.
-pub record PrintsCanon (run : CommandRun) (domain : List ℕ) : Type 0 where
+pub record PrintsCanon (run : CommandRun) (domain : List ℕ) (form : OutputForm) : Type 0 where
   pub document : Bundle
   pub read : ReadsDocument run.source document
-  pub written : PrintsText run.sink (canon_text domain document)
+  pub written : PrintsText run.sink (canon_in form domain document)
 
 -- The bytes read are a document, and the sink failed after a beginning of its text.
-pub record CutsCanon (run : CommandRun) (domain : List ℕ) : Type 0 where
+pub record CutsCanon (run : CommandRun) (domain : List ℕ) (form : OutputForm) : Type 0 where
   pub document : Bundle
   pub read : ReadsDocument run.source document
-  pub cut : CutsOff run.sink (canon_text domain document)
+  pub cut : CutsOff run.sink (canon_in form domain document)
 
 -- By the answer: the text of the document was written; the source failed before anything was
 -- written, or the sink failed; memory ran out before anything was written; the bytes are no
 -- document. There is no other error.
-abbrev pub RunsCanon : CommandRun → List ℕ → Result (Unit {0}) CommandError → Type 0
-RunsCanon run domain (Ok _) = PrintsCanon run domain
-RunsCanon run domain (Err Io) = FailsToRead run ⊎ CutsCanon run domain
-RunsCanon run domain (Err NoMemory) = WritesNothing run.sink
-RunsCanon run domain (Err (Document why)) = RefusesDocument run why
-RunsCanon run domain (Err _) = ⊥
+abbrev pub RunsCanon : CommandRun → List ℕ → OutputForm → Result (Unit {0}) CommandError → Type 0
+RunsCanon run domain form (Ok _) = PrintsCanon run domain form
+RunsCanon run domain form (Err Io) = FailsToRead run ⊎ CutsCanon run domain form
+RunsCanon run domain form (Err NoMemory) = WritesNothing run.sink
+RunsCanon run domain form (Err (Document why)) = RefusesDocument run why
+RunsCanon run domain form (Err _) = ⊥

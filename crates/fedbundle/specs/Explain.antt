@@ -7,11 +7,12 @@ use Rattle.receipt_core.specs.Acceptance.{Meaning, IsMember}
 use Rattle.receipt_core.specs.Receipt.{Receipt, Pair, line}
 use Rattle.closure_core.specs.AcceptedList.{document_of}
 use Rattle.bundle_view.specs.Explain.{IsShortest}
+use Rattle.bundle_json.specs.ChainJson.{chain_json, root_id}
 use Rattle.fedbundle.specs.CommandRun.{CommandRun, DeviceRun, ReadsDocument, RefusesDocument}
 use Rattle.fedbundle.specs.CommandRun.{PrintsText, WritesNothing, CutsOff, FailsToRead}
 use Rattle.text_lines.specs.TextLines.{number_or_none}
 use Rattle.fedbundle.specs.declared.chain_text.ExplanationForm.{ExplanationForm}
-use Rattle.fedbundle.specs.declared.chain_text.ExplanationForm.TheVariants.{Receipts, Steps}
+use Rattle.fedbundle.specs.declared.chain_text.ExplanationForm.TheVariants.{Receipts, Steps, Json}
 use Rattle.fedbundle.specs.declared.error.CommandError.{CommandError}
 use Rattle.fedbundle.specs.declared.error.CommandError.TheVariants.{Document, NoMemory, Io}
 
@@ -37,11 +38,6 @@ vouched_part r = codes " <- key "
 abbrev pub step_line : Receipt → List ℕ
 step_line r = brought_part r ++ vouched_part r
 
--- the id of the configured document from which the receipts lead
-abbrev pub root_id : Pair → List Receipt → List ℕ
-root_id p [] = doc_id_of p.domain p.document
-root_id p (r ∷ chain) = r.voucher.0
-
 abbrev pub root_line : List ℕ → List ℕ
 root_line id = encode_lower id ++ (codes " configured" ++ codes "\n")
 
@@ -52,6 +48,7 @@ steps_text p chain = flat_map step_line (reverse chain) ++ root_line (root_id p 
 abbrev pub explanation_text : ExplanationForm → Pair → List Receipt → List ℕ
 explanation_text Receipts p chain = chain_text chain
 explanation_text Steps p chain = steps_text p chain
+explanation_text Json p chain = chain_json p chain
 
 -- of which domain a document is explained, and how that is written
 pub record ExplanationCall : Type 0 where

@@ -19,6 +19,8 @@ pub mod SameSets
 pub mod Serve
 pub mod Sessions
 pub mod Status
+pub mod Exits
 pub mod Stream
 pub mod Words
+pub mod OptionTexts
 pub mod Inside

@@ -1,11 +1,13 @@
 -- What a run of `observe` does.
 use Rattle.std.specs.Prelude.{◌≡◌, ℕ, ◌⊎◌, List, Result, Ok, Err}
 use Rattle.receipt_core.specs.Receipt.{Receipt}
-use Rattle.bundle_view.specs.Observe.{FetchedBundle, HasObserved, HasNotObserved}
+use Rattle.receipt_core.specs.Acceptance.{Meaning}
+use Rattle.bundle_view.specs.Observe.{FetchedBundle, HasObserved, HasNotObserved, IsObservation}
+use Rattle.bundle_view.specs.Observe.{RefusesObservation}
 use Rattle.bundle_view.specs.declared.observation.Verdict.{Verdict}
 use Rattle.bundle_view.specs.declared.observe_error.ObserveError.{ObserveError}
-use Rattle.fedbundle.specs.CommandRun.{CommandRun, StateRun, Reads, PrintsText, WritesNothing}
-use Rattle.fedbundle.specs.CommandRun.{CutsOff, FailsToRead}
+use Rattle.fedbundle.specs.CommandRun.{CommandRun, DeviceRun, StateRun, Reads, PrintsText}
+use Rattle.fedbundle.specs.CommandRun.{CutsOff, FailsToRead, HasFailed, WritesNothing}
 use Rattle.fedbundle.specs.Explain.{receipt_line}
 use Rattle.fedbundle.specs.declared.error.CommandError.{CommandError}
 use Rattle.fedbundle.specs.declared.error.CommandError.TheVariants.{Observe, NoMemory, Io}
@@ -21,6 +23,27 @@ fetched_bundle fetched bytes =
 
 abbrev pub IsAsHeld : StateRun → Type 0
 IsAsHeld state = state.new.meaning ≡ state.old.meaning
+
+-- The bytes read make this receipt, of what is held.
+pub record MakesReceipt (source : DeviceRun) (m : Meaning) (fetched : Fetched)
+    (receipt : Receipt) : Type 0 where
+  pub bytes : List ℕ
+  pub read : Reads source bytes
+  pub observation : IsObservation m (fetched_bundle fetched bytes) receipt
+
+-- They make none, for this cause.
+pub record MakesNone (source : DeviceRun) (m : Meaning) (fetched : Fetched)
+    (why : ObserveError) : Type 0 where
+  pub bytes : List ℕ
+  pub read : Reads source bytes
+  pub cause : RefusesObservation m (fetched_bundle fetched bytes) why
+
+-- By the error: the source failed; memory ran out; they make none. There is no other error.
+abbrev pub RefusesToMake : DeviceRun → Meaning → Fetched → CommandError → Type 0
+RefusesToMake source m fetched Io = HasFailed source
+RefusesToMake source m fetched NoMemory = Unit {0}
+RefusesToMake source m fetched (Observe why) = MakesNone source m fetched why
+RefusesToMake source m fetched _ = ⊥
 
 -- The bytes read were observed as this receipt.
 pub record ObservesAs (run : CommandRun) (state : StateRun) (fetched : Fetched)
@@ -51,19 +74,13 @@ pub record RefusesBundle (run : CommandRun) (state : StateRun) (fetched : Fetche
   pub refused : HasNotObserved state.old (fetched_bundle fetched bytes) state.new why
   pub unwritten : WritesNothing run.sink
 
--- Nothing was observed, or the line of what was observed was not made.
-abbrev pub LacksMemory : CommandRun → StateRun → Fetched → Type 0
-LacksMemory run state fetched = IsAsHeld state
-    ⊎ ((receipt : Receipt) × ObservesAs run state fetched receipt)
-
 -- By the answer: the bundle was observed, and its receipt's line written; the source failed before
--- anything was observed or written, or the sink failed; memory ran out before anything was written;
--- nothing was observed. There is no other error.
+-- anything was observed or written, or the sink failed; memory ran out before anything was observed
+-- or written; nothing was observed. There is no other error.
 abbrev pub RunsObserve : CommandRun → StateRun → Fetched → Result (Unit {0}) CommandError → Type 0
 RunsObserve run state fetched (Ok _) = PrintsObservation run state fetched
 RunsObserve run state fetched (Err Io) = (FailsToRead run × IsAsHeld state)
     ⊎ CutsObservation run state fetched
-RunsObserve run state fetched (Err NoMemory) = WritesNothing run.sink
-    × LacksMemory run state fetched
+RunsObserve run state fetched (Err NoMemory) = WritesNothing run.sink × IsAsHeld state
 RunsObserve run state fetched (Err (Observe why)) = RefusesBundle run state fetched why
 RunsObserve run state fetched (Err _) = ⊥

@@ -8,6 +8,8 @@ use Rattle.clap.specs.declared.builder.action.ArgAction.TheVariants.{Set, SetTru
 use Rattle.fedbundle.specs.declared.command_name.CommandName.{CommandName}
 use Rattle.fedbundle.specs.declared.command_name.CommandName.TheVariants as command
 use Rattle.fedbundle.specs.declared.command_name.OptionName.{OptionName}
+use Rattle.fedbundle.specs.declared.words.WordsPlace.{WordsPlace}
+use Rattle.fedbundle.specs.declared.words.WordsPlace.TheVariants.{CommandLine, Request}
 use Rattle.fedbundle.specs.declared.command_name.OptionName.TheVariants.{Config, State, Domain}
 use Rattle.fedbundle.specs.declared.command_name.OptionName.TheVariants.{Endpoint, Key, Now, Listen}
 use Rattle.fedbundle.specs.declared.command_name.OptionName.TheVariants.{Sessions, Peer}
@@ -16,7 +18,9 @@ use Rattle.fedbundle.specs.declared.command_name.OptionName.TheVariants.{Optiona
 use Rattle.fedbundle.specs.declared.command_name.OptionName.TheVariants.{At, Wait, MostBytes}
 use Rattle.fedbundle.specs.declared.command_name.OptionName.TheVariants.{Allow, DryRun, Verbose}
 use Rattle.fedbundle.specs.declared.command_name.OptionName.TheVariants.{OptionalDomain, Format}
-use Rattle.fedbundle.specs.declared.command_name.OptionName.TheVariants.{Short}
+use Rattle.fedbundle.specs.declared.command_name.OptionName.TheVariants.{Short, Socket, Every, New}
+use Rattle.fedbundle.specs.declared.command_name.OptionName.TheVariants.{OptionalListen, Peers}
+use Rattle.fedbundle.specs.declared.command_name.OptionName.TheVariants.{FileFormat}
 
 abbrev pub option_text : OptionName → List ℕ
 option_text Config = codes "config"
@@ -41,6 +45,12 @@ option_text DryRun = codes "dry-run"
 option_text Verbose = codes "verbose"
 option_text Format = codes "format"
 option_text Short = codes "short"
+option_text Socket = codes "socket"
+option_text OptionalListen = codes "listen"
+option_text Peers = codes "peers"
+option_text Every = codes "every"
+option_text New = codes "new"
+option_text FileFormat = codes "format"
 
 -- it has no text after it
 abbrev pub is_flag : OptionName → Bool
@@ -48,6 +58,7 @@ is_flag RecordsOnly = true
 is_flag DryRun = true
 is_flag Verbose = true
 is_flag Short = true
+is_flag New = true
 is_flag option = false
 
 -- the words may leave it out
@@ -60,12 +71,19 @@ may_be_left_out Wait = true
 may_be_left_out MostBytes = true
 may_be_left_out Allow = true
 may_be_left_out Format = true
+may_be_left_out OptionalListen = true
+may_be_left_out Peers = true
+may_be_left_out Every = true
+may_be_left_out FileFormat = true
 may_be_left_out option = false
 
--- it names a file that a running replica has itself, so words with `--at` leave it out
+-- it names a file that a running replica has itself, or it is a format that such a replica does not
+-- print, so words with `--at` leave it out
 abbrev pub is_place : OptionName → Bool
 is_place Config = true
 is_place State = true
+is_place OptionalState = true
+is_place FileFormat = true
 is_place option = false
 
 abbrev pub name_text : CommandName → List ℕ
@@ -74,6 +92,7 @@ name_text command.Config = codes "config"
 name_text command.Report = codes "report"
 name_text command.List = codes "list"
 name_text command.Diff = codes "diff"
+name_text command.Graph = codes "graph"
 name_text command.Status = codes "status"
 name_text command.Bundle = codes "bundle"
 name_text command.Explain = codes "explain"
@@ -85,30 +104,38 @@ name_text command.Polls = codes "polls"
 name_text command.Distrust = codes "distrust"
 name_text command.Serve = codes "serve"
 name_text command.Pull = codes "pull"
+name_text command.Replica = codes "replica"
+name_text command.Stop = codes "stop"
 
 abbrev pub options_of : CommandName → List OptionName
-options_of command.Canon = Domain ∷ []
-options_of command.Config = Config ∷ With ∷ []
-options_of command.Report = Config ∷ OptionalState ∷ []
-options_of command.List = Config ∷ State ∷ OptionalDomain ∷ Verbose ∷ []
+options_of command.Canon = Domain ∷ FileFormat ∷ []
+options_of command.Config = Config ∷ With ∷ FileFormat ∷ []
+options_of command.Report = Config ∷ OptionalState ∷ FileFormat ∷ At ∷ []
+options_of command.List = Config ∷ State ∷ OptionalDomain ∷ FileFormat ∷ Verbose ∷ []
 options_of command.Diff = Config ∷ State ∷ With ∷ Verbose ∷ []
-options_of command.Status = Config ∷ State ∷ Format ∷ Verbose ∷ []
-options_of command.Bundle = Config ∷ State ∷ Domain ∷ Format ∷ Verbose ∷ []
-options_of command.Explain = Config ∷ State ∷ Domain ∷ Short ∷ Verbose ∷ []
-options_of command.Observe = Config ∷ State ∷ Domain ∷ Endpoint ∷ Key ∷ Wait ∷ Verbose ∷ []
-options_of command.Merge = Config ∷ State ∷ Wait ∷ MostBytes ∷ Verbose ∷ []
+options_of command.Graph = Config ∷ State ∷ OptionalDomain ∷ Verbose ∷ []
+options_of command.Status = Config ∷ State ∷ Format ∷ Verbose ∷ At ∷ []
+options_of command.Bundle = Config ∷ State ∷ Domain ∷ Format ∷ Verbose ∷ At ∷ []
+options_of command.Explain = Config ∷ State ∷ Domain ∷ Short ∷ FileFormat ∷ Verbose ∷ At ∷ []
+options_of command.Observe = Config ∷ State ∷ Domain ∷ Endpoint ∷ Key ∷ Wait ∷ Verbose
+    ∷ At ∷ []
+options_of command.Merge = Config ∷ State ∷ Wait ∷ MostBytes ∷ Verbose ∷ At ∷ []
 options_of command.Migrate = Config ∷ State ∷ To ∷ RecordsOnly ∷ []
 options_of command.Reseed = Config ∷ State ∷ Allow ∷ Verbose ∷ []
-options_of command.Polls = Config ∷ State ∷ Now ∷ Verbose ∷ []
-options_of command.Distrust = Config ∷ State ∷ Domain ∷ Key ∷ DryRun ∷ Wait ∷ Verbose ∷ []
+options_of command.Polls = Config ∷ State ∷ Now ∷ FileFormat ∷ Verbose ∷ At ∷ []
+options_of command.Distrust = Config ∷ State ∷ Domain ∷ Key ∷ DryRun ∷ Wait ∷ Verbose
+    ∷ At ∷ []
 options_of command.Serve = Config ∷ State ∷ Listen ∷ Sessions ∷ Verbose ∷ []
 options_of command.Pull = Config ∷ State ∷ Peer ∷ Wait ∷ MostBytes ∷ Verbose ∷ []
+options_of command.Replica = Config ∷ State ∷ Socket ∷ OptionalListen ∷ Peers ∷ Every
+    ∷ MostBytes ∷ New ∷ Verbose ∷ []
+options_of command.Stop = At ∷ []
 
 abbrev pub all_names : List CommandName
 all_names = command.Canon ∷ command.Config ∷ command.Report ∷ command.List ∷ command.Diff
-    ∷ command.Status ∷ command.Bundle ∷ command.Explain ∷ command.Observe ∷ command.Merge
-    ∷ command.Migrate ∷ command.Reseed ∷ command.Polls ∷ command.Distrust ∷ command.Serve
-    ∷ command.Pull ∷ []
+    ∷ command.Graph ∷ command.Status ∷ command.Bundle ∷ command.Explain ∷ command.Observe
+    ∷ command.Merge ∷ command.Migrate ∷ command.Reseed ∷ command.Polls ∷ command.Distrust
+    ∷ command.Serve ∷ command.Pull ∷ command.Replica ∷ command.Stop ∷ []
 
 -- ---- the command, as clap knows it
 
@@ -151,21 +178,35 @@ the_command = fold with_name bare_app all_names
 abbrev pub given : List Row → OptionName → Option Text
 given rows option = first_of (option_text option) rows
 
--- Whether an option may stand as it does, with a text or without one. With `--at` the words leave
--- out the places, and without it they give them.
-abbrev pub is_settled : (at has_text : Bool) → OptionName → Bool
-is_settled at has_text option =
-    if at && is_place option then not has_text else (has_text || may_be_left_out option)
+-- Whether an option may stand as it does, with a text or without one. Words that ask a running
+-- replica leave out the places, and others give them.
+abbrev pub is_settled : (asks has_text : Bool) → OptionName → Bool
+is_settled asks has_text option =
+    if asks && is_place option then not has_text else (has_text || may_be_left_out option)
 
-abbrev pub is_settled_in : List Row → OptionName → Bool
-is_settled_in rows option =
-    is_settled (is_some (given rows At)) (is_some (given rows option)) option
+-- The words of a request ask the replica that reads them, and name none.
+abbrev pub is_settled_asked : (has_text : Bool) → OptionName → Bool
+is_settled_asked has_text At = not has_text
+is_settled_asked has_text option = is_settled true has_text option
+
+-- the same, by where the words stand; `at` says whether they have `--at`, which names a replica
+abbrev pub settled_at : WordsPlace → (at has_text : Bool) → OptionName → Bool
+settled_at CommandLine at has_text option = is_settled at has_text option
+settled_at Request at has_text option = is_settled_asked has_text option
+
+abbrev pub is_settled_in : WordsPlace → List Row → OptionName → Bool
+is_settled_in place rows option =
+    settled_at place (is_some (given rows At)) (is_some (given rows option)) option
 
 -- The words name the subcommand, give each of its options its text, and leave out none that it
 -- wants.
-pub record Calls (words : List Text) (name : CommandName) (texts : List (Option Text))
-    : Type 0 where
+pub record CallsFrom (place : WordsPlace) (words : List Text) (name : CommandName)
+    (texts : List (Option Text)) : Type 0 where
   pub rows : List Row
   pub entered : subcommand_of the_command words ≡ Some (name_text name, rows)
   pub given : map (given rows) (options_of name) ≡ texts
-  pub settled : list_all (is_settled_in rows) (options_of name) ≡ true
+  pub settled : list_all (is_settled_in place rows) (options_of name) ≡ true
+
+-- the same of the words of a request to a running replica
+abbrev pub CallsInRequest : List Text → CommandName → List (Option Text) → Type 0
+CallsInRequest words name texts = CallsFrom Request words name texts

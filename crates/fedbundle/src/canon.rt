@@ -1,12 +1,15 @@
 //! `canon`: a bundle document as it was fetched, printed in its canonical form with its ids.
 ghost use Rattle.std.specs.Prelude.{◌≡◌, ◌++◌, IfOk, IsErrOf, OnOk};
-ghost use Rattle.fedbundle.specs.Canon.{RunsCanon, canon_text, digest_line, key_line, key_lines};
+ghost use Rattle.fedbundle.specs.Canon.{RunsCanon, canon_in, canon_text, digest_line, key_line};
+ghost use Rattle.fedbundle.specs.Canon.{key_lines};
 ghost use Rattle.fedbundle.specs.CommandRun.{device_run, run_of};
 ghost use Rattle.fedbundle.specs.declared.error.CommandError.TheVariants.{Io};
 ghost use Rattle.jwk_set.specs.Element.{key_id_of};
 
 use crate::error::CommandError;
+use crate::option_texts::OutputForm;
 use bundle_doc::{Document, MAX_DOCUMENT_BYTES};
+use bundle_json::document_json;
 use byte_lines::{Sink, Source, push_digits, read_up_to, write_all};
 use jwk_set::Authority;
 use spiffe_name::TrustDomain;
@@ -14,7 +17,7 @@ use std::alloc::{AllocError, Global};
 
 /// Reads a bundle document of the domain and writes its canonical text, a line `id` with its
 /// document id, and for each X.509 authority a line `key` with its key id, in the order of the
-/// canonical text.
+/// canonical text; or the same as JSON ([`bundle_json::document_json`]).
 ///
 /// It reads at most one byte more than a document may have. Nothing is written before the whole
 /// text is made.
@@ -26,13 +29,14 @@ use std::alloc::{AllocError, Global};
 pub fn run_canon<R: Source, W: Sink>(
     alloc: Global,
     domain: &TrustDomain,
+    form: OutputForm,
     source: &mut R,
     sink: &mut W,
 ) -> Result<(), CommandError>
     ensures runs { RunsCanon
         (run_of (device_run R.remaining R.has_failed source.old source.new)
         (device_run W.contents W.has_failed sink.old sink.new))
-        domain.now result }
+        domain.now form result }
 
     // No fault of a device is passed over, or reported as another error.
     ensures sound { (IsErrOf result Io → ⊥) → (R.has_failed source.new ≡ R.has_failed source.old)
@@ -40,9 +44,23 @@ pub fn run_canon<R: Source, W: Sink>(
 {
     let bytes = read_up_to(alloc, source, MAX_DOCUMENT_BYTES + 1)?;
     let document = Document::read(alloc, bytes.as_slice())?;
-    let text = render(alloc, domain, &document)?;
+    let text = canon_in(alloc, form, domain, &document)?;
     write_all(sink, text.as_slice())?;
     Ok(())
+}
+
+fn canon_in(
+    alloc: Global,
+    form: OutputForm,
+    domain: &TrustDomain,
+    document: &Document,
+) -> Result<Vec<u8>, AllocError>
+    ensures { IfOk result (λ text. text.items ≡ canon_in form domain.now document.now) }
+{
+    match form {
+        OutputForm::Text => render(alloc, domain, document),
+        OutputForm::Json => document_json(alloc, domain, document),
+    }
 }
 
 fn render(alloc: Global, domain: &TrustDomain, document: &Document) -> Result<Vec<u8>, AllocError>

@@ -1,10 +1,11 @@
 //! A chain of receipts, as text.
 ghost use Rattle.std.specs.Prelude.{◌≡◌, ◌++◌, flat_map, reverse, IfOk, OnOk};
 ghost use Rattle.fedbundle.specs.Explain.{brought_part, chain_text, explanation_text};
-ghost use Rattle.fedbundle.specs.Explain.{receipt_line, root_id, root_line, step_line};
+ghost use Rattle.fedbundle.specs.Explain.{receipt_line, root_line, step_line};
 ghost use Rattle.fedbundle.specs.Explain.{vouched_part};
 
 use bundle_doc::{DocId, Document};
+use bundle_json::{chain_json, root_id};
 use byte_lines::push_digits;
 use receipt_core::Receipt;
 use spiffe_name::TrustDomain;
@@ -19,6 +20,8 @@ pub enum ExplanationForm {
     /// A line for each step, from the document back to the configured one: `<document id> sequence
     /// <n> <- key <key id> of <document id>`, and at the end `<document id> configured`.
     Steps,
+    /// A compact JSON object ([`bundle_json::chain_json`]).
+    Json,
 }
 
 /// The text of the chain, which leads to the document.
@@ -35,6 +38,7 @@ pub(crate) fn explanation_text(
     match form {
         ExplanationForm::Receipts => receipts_text(alloc, chain),
         ExplanationForm::Steps => steps_text(alloc, root_id(domain, document, chain), chain),
+        ExplanationForm::Json => chain_json(alloc, domain, document, chain),
     }
 }
 
@@ -54,17 +58,6 @@ fn push_receipt(alloc: Global, text: &mut Vec<u8>, receipt: &Receipt) -> Result<
     let line = receipt.write_line(alloc)?;
     text.extend_from_slice(line.as_slice())?;
     text.extend_from_slice(b"\n")
-}
-
-// The id of the configured document from which the chain leads.
-fn root_id(domain: &TrustDomain, document: &Document, chain: &[Receipt]) -> DocId
-    ensures { result.0
-        ≡ root_id (record { domain = domain.now; document = document.now }) chain.now }
-{
-    match chain.first() {
-        Some(receipt) => receipt.voucher(),
-        None => document.id(domain),
-    }
 }
 
 fn steps_text(alloc: Global, root: DocId, chain: &[Receipt]) -> Result<Vec<u8>, AllocError>

@@ -31,6 +31,14 @@ pub enum OptionName {
     Verbose,
     Format,
     Short,
+    Socket,
+    /// The address where the command does without one, too.
+    OptionalListen,
+    Peers,
+    Every,
+    New,
+    /// The format where a running replica prints one format alone.
+    FileFormat,
 }
 
 /// A subcommand.
@@ -46,6 +54,8 @@ pub enum CommandName {
     List,
     /// Prints what only one of two state files holds.
     Diff,
+    /// Prints which document vouches for which, as a graph.
+    Graph,
     /// Prints how a replica stands.
     Status,
     /// Prints the current bundle of a domain.
@@ -68,15 +78,20 @@ pub enum CommandName {
     Serve,
     /// Asks another replica, and takes what it answers.
     Pull,
+    /// Holds what a replica holds in memory, and answers requests and other replicas.
+    Replica,
+    /// Ends a running replica.
+    Stop,
 }
 
 /// All subcommands, in the order in which help lists them.
-pub(crate) static COMMANDS: [CommandName; 16] = [
+pub(crate) static COMMANDS: [CommandName; 19] = [
     CommandName::Canon,
     CommandName::Config,
     CommandName::Report,
     CommandName::List,
     CommandName::Diff,
+    CommandName::Graph,
     CommandName::Status,
     CommandName::Bundle,
     CommandName::Explain,
@@ -88,6 +103,8 @@ pub(crate) static COMMANDS: [CommandName; 16] = [
     CommandName::Distrust,
     CommandName::Serve,
     CommandName::Pull,
+    CommandName::Replica,
+    CommandName::Stop,
 ];
 
 impl OptionName {
@@ -118,6 +135,12 @@ impl OptionName {
             OptionName::Verbose => "verbose",
             OptionName::Format => "format",
             OptionName::Short => "short",
+            OptionName::Socket => "socket",
+            OptionName::OptionalListen => "listen",
+            OptionName::Peers => "peers",
+            OptionName::Every => "every",
+            OptionName::New => "new",
+            OptionName::FileFormat => "format",
         }
     }
 
@@ -127,7 +150,11 @@ impl OptionName {
     {
         matches!(
             self,
-            OptionName::RecordsOnly | OptionName::DryRun | OptionName::Verbose | OptionName::Short
+            OptionName::RecordsOnly
+                | OptionName::DryRun
+                | OptionName::Verbose
+                | OptionName::Short
+                | OptionName::New
         )
     }
 
@@ -145,24 +172,48 @@ impl OptionName {
                 | OptionName::MostBytes
                 | OptionName::Allow
                 | OptionName::Format
+                | OptionName::OptionalListen
+                | OptionName::Peers
+                | OptionName::Every
+                | OptionName::FileFormat
         )
     }
 
-    /// Whether it names a file that a running replica has itself: words with `--at` leave it out.
+    /// Whether it names a file that a running replica has itself, or is a format that such a
+    /// replica does not print: words with `--at` leave it out.
     pub fn is_place(self) -> bool
         ensures { result ≡ is_place self }
     {
-        matches!(self, OptionName::Config | OptionName::State)
+        matches!(
+            self,
+            OptionName::Config
+                | OptionName::State
+                | OptionName::OptionalState
+                | OptionName::FileFormat
+        )
     }
 }
 
-static DOMAIN: [OptionName; 1] = [OptionName::Domain];
+static CANON: [OptionName; 2] = [OptionName::Domain, OptionName::FileFormat];
 
-static CONFIG: [OptionName; 2] = [OptionName::Config, OptionName::With];
+static CONFIG: [OptionName; 3] = [OptionName::Config, OptionName::With, OptionName::FileFormat];
 
-static REPORT: [OptionName; 2] = [OptionName::Config, OptionName::OptionalState];
+static REPORT: [OptionName; 4] = [
+    OptionName::Config,
+    OptionName::OptionalState,
+    OptionName::FileFormat,
+    OptionName::At,
+];
 
-static LIST: [OptionName; 4] = [
+static LIST: [OptionName; 5] = [
+    OptionName::Config,
+    OptionName::State,
+    OptionName::OptionalDomain,
+    OptionName::FileFormat,
+    OptionName::Verbose,
+];
+
+static GRAPH: [OptionName; 4] = [
     OptionName::Config,
     OptionName::State,
     OptionName::OptionalDomain,
@@ -176,30 +227,34 @@ static DIFF: [OptionName; 4] = [
     OptionName::Verbose,
 ];
 
-static STATUS: [OptionName; 4] = [
+static STATUS: [OptionName; 5] = [
     OptionName::Config,
     OptionName::State,
     OptionName::Format,
     OptionName::Verbose,
+    OptionName::At,
 ];
 
-static BUNDLE: [OptionName; 5] = [
+static BUNDLE: [OptionName; 6] = [
     OptionName::Config,
     OptionName::State,
     OptionName::Domain,
     OptionName::Format,
     OptionName::Verbose,
+    OptionName::At,
 ];
 
-static EXPLAIN: [OptionName; 5] = [
+static EXPLAIN: [OptionName; 7] = [
     OptionName::Config,
     OptionName::State,
     OptionName::Domain,
     OptionName::Short,
+    OptionName::FileFormat,
     OptionName::Verbose,
+    OptionName::At,
 ];
 
-static OBSERVE: [OptionName; 7] = [
+static OBSERVE: [OptionName; 8] = [
     OptionName::Config,
     OptionName::State,
     OptionName::Domain,
@@ -207,14 +262,16 @@ static OBSERVE: [OptionName; 7] = [
     OptionName::Key,
     OptionName::Wait,
     OptionName::Verbose,
+    OptionName::At,
 ];
 
-static MERGE: [OptionName; 5] = [
+static MERGE: [OptionName; 6] = [
     OptionName::Config,
     OptionName::State,
     OptionName::Wait,
     OptionName::MostBytes,
     OptionName::Verbose,
+    OptionName::At,
 ];
 
 static MIGRATE: [OptionName; 4] = [
@@ -231,14 +288,16 @@ static RESEED: [OptionName; 4] = [
     OptionName::Verbose,
 ];
 
-static POLLS: [OptionName; 4] = [
+static POLLS: [OptionName; 6] = [
     OptionName::Config,
     OptionName::State,
     OptionName::Now,
+    OptionName::FileFormat,
     OptionName::Verbose,
+    OptionName::At,
 ];
 
-static DISTRUST: [OptionName; 7] = [
+static DISTRUST: [OptionName; 8] = [
     OptionName::Config,
     OptionName::State,
     OptionName::Domain,
@@ -246,6 +305,7 @@ static DISTRUST: [OptionName; 7] = [
     OptionName::DryRun,
     OptionName::Wait,
     OptionName::Verbose,
+    OptionName::At,
 ];
 
 static SERVE: [OptionName; 5] = [
@@ -265,6 +325,20 @@ static PULL: [OptionName; 6] = [
     OptionName::Verbose,
 ];
 
+static REPLICA: [OptionName; 9] = [
+    OptionName::Config,
+    OptionName::State,
+    OptionName::Socket,
+    OptionName::OptionalListen,
+    OptionName::Peers,
+    OptionName::Every,
+    OptionName::MostBytes,
+    OptionName::New,
+    OptionName::Verbose,
+];
+
+static STOP: [OptionName; 1] = [OptionName::At];
+
 impl CommandName {
     /// The subcommand's word.
     pub fn text<'a>(self) -> &'a str
@@ -276,6 +350,7 @@ impl CommandName {
             CommandName::Report => "report",
             CommandName::List => "list",
             CommandName::Diff => "diff",
+            CommandName::Graph => "graph",
             CommandName::Status => "status",
             CommandName::Bundle => "bundle",
             CommandName::Explain => "explain",
@@ -287,6 +362,8 @@ impl CommandName {
             CommandName::Distrust => "distrust",
             CommandName::Serve => "serve",
             CommandName::Pull => "pull",
+            CommandName::Replica => "replica",
+            CommandName::Stop => "stop",
         }
     }
 
@@ -295,11 +372,12 @@ impl CommandName {
         ensures { result.now ≡ options_of self }
     {
         match self {
-            CommandName::Canon => DOMAIN.as_slice(),
+            CommandName::Canon => CANON.as_slice(),
             CommandName::Config => CONFIG.as_slice(),
             CommandName::Report => REPORT.as_slice(),
             CommandName::List => LIST.as_slice(),
             CommandName::Diff => DIFF.as_slice(),
+            CommandName::Graph => GRAPH.as_slice(),
             CommandName::Status => STATUS.as_slice(),
             CommandName::Bundle => BUNDLE.as_slice(),
             CommandName::Explain => EXPLAIN.as_slice(),
@@ -311,6 +389,8 @@ impl CommandName {
             CommandName::Distrust => DISTRUST.as_slice(),
             CommandName::Serve => SERVE.as_slice(),
             CommandName::Pull => PULL.as_slice(),
+            CommandName::Replica => REPLICA.as_slice(),
+            CommandName::Stop => STOP.as_slice(),
         }
     }
 }

@@ -8,7 +8,10 @@ use byte_lines::{Fault, Sink, write_all};
 use itoa::Buffer;
 
 /// Writes a line of the label and the number. It takes no memory.
-pub(crate) fn write_counted<W: Sink>(label: &[u8], count: u64, sink: &mut W) -> Result<(), Fault>
+///
+/// # Errors
+/// The sink failed, and holds a beginning of the line.
+pub fn write_counted<W: Sink>(label: &[u8], count: u64, sink: &mut W) -> Result<(), Fault>
     ensures ok { OnOk result
         (Appends (W.contents sink.old) (W.contents sink.new) (counted label.now count)) }
     ensures beginning { AppendsBeginning (W.contents sink.old) (W.contents sink.new)

@@ -32,8 +32,11 @@ Reads from standard input a bundle document, JSON of at most 1,048,576 bytes.
 Writes to standard output the canonical document, a line `id` with its document id, and
 for each X.509 authority a line `key` with its key id. It writes no file.
 
+--format json prints one object: `document` with the id, `sequence`, `refresh_hint`, `keys`,
+and `bundle` with the canonical document.
+
 Ends with 0; with 1 where the document or the name of the domain is refused, and then
-nothing is printed.";
+nothing is printed; with 2 where the format is neither text nor json.";
 
 const CONFIG_NOTES: &str = "\
 Reads the configuration, and with --with another one, and nothing from standard input.
@@ -44,8 +47,11 @@ only the first configuration has, each after `- `, and then those that only the 
 has, each after `+ `. It writes no file. Replicas exchange receipts only under equal
 configurations, which have one digest.
 
+--format json prints one object: `config`, `relationships`, `domains` and `seeds`. It does
+not go with --with.
+
 Ends with 0; with 1 where two configurations have two digests; with 1 and nothing printed
-where one is refused.";
+where one is refused; with 2 where the format is neither text nor json.";
 
 const REPORT_NOTES: &str = "\
 Reads the configuration. With --state it reads the state file, and nothing from standard
@@ -58,9 +64,12 @@ held and how many of them are pending, and for each domain its current document,
 accepted documents, their conflicts and the keys that are distrusted there. Writes to
 standard error the number of each line that is not taken, and why. It writes no file.
 
+--format json needs --state and prints one object: `config`, `receipts`, `pending`,
+`domains` with `current` and `accepted`, `conflicts`, and `records`.
+
 Ends with 0; with 1 where a line was not taken, and the report is printed all the same;
 with 1 and no report where the configuration or the state is refused or too many receipts
-fit.";
+fit; with 2 where the format is neither text nor json.";
 
 const LIST_NOTES: &str = "\
 Reads the configuration and the state file, and nothing from standard input.
@@ -74,8 +83,11 @@ The status is `accepted` where an accepted document vouches for the receipt, `di
 where its key is distrusted in the endpoint's domain, and else `pending`. It writes no
 file.
 
+--format json prints one object of `receipts` and `records`, whose members are named as
+above.
+
 Ends with 0; with 1 and nothing printed where anything read or the name of the domain is
-refused.";
+refused; with 2 where the format is neither text nor json.";
 
 const DIFF_NOTES: &str = "\
 Reads the configuration, the state file, and with --with another state file under the
@@ -88,6 +100,19 @@ that holds it. It writes no file.
 
 Ends with 0 where both hold the same, and then nothing is printed; with 1 where they do
 not; with 1 and nothing printed where anything read is refused.";
+
+const GRAPH_NOTES: &str = "\
+Reads the configuration and the state file, and nothing from standard input.
+
+Writes to standard output which document vouches for which, as a graph in the language of
+Graphviz: `fedbundle graph .. | dot -Tsvg` draws it. A box is a document, with two borders
+where it is configured, and bold where it is the current one of its domain. An arrow is a
+receipt, from the document that vouches for it to the one that it brought, with the first
+digits of its key: dashed where it is pending, and red where its key is distrusted. With
+--domain it has what brought documents of the domain. It writes no file.
+
+Ends with 0; with 1 and nothing printed where anything read or the name of the domain is
+refused.";
 
 const STATUS_NOTES: &str = "\
 Reads the configuration and the state file, and nothing from standard input.
@@ -128,7 +153,11 @@ one for the configured document:
   DOCUMENT_ID sequence N <- key KEY_ID of DOCUMENT_ID
   DOCUMENT_ID configured
 
-Ends with 0; with 1 where the document is not accepted, or where anything read is refused.";
+--format json prints one object: `document`, `configured` with the id of the configured
+document, and `receipts`. It does not go with --short.
+
+Ends with 0; with 1 where the document is not accepted, or where anything read is refused;
+with 2 where the format is neither text nor json.";
 
 const OBSERVE_NOTES: &str = "\
 Reads the configuration, the state file, and from standard input a bundle document as it
@@ -188,7 +217,11 @@ Writes to standard output a line for each relationship: `<domain> due`,
 `<domain> <seconds>` with the moment of its next poll, or `<domain> past range`. It writes
 no file.
 
-Ends with 0; with 1 where anything read is refused, and then nothing is printed.";
+--format json prints one object of `polls`, each with `domain`, `due`, and `next`, which is
+null where the poll is due or past the range.
+
+Ends with 0; with 1 where anything read is refused, and then nothing is printed; with 2
+where the format is neither text nor json.";
 
 const DISTRUST_NOTES: &str = "\
 Reads the configuration and the state file, and nothing from standard input.
@@ -249,6 +282,36 @@ seconds are over: so it takes 630 seconds at most.
 Ends with 0; with 1 where anything read or answered is refused; with 3 where there is no
 connection or it failed.";
 
+const REPLICA_NOTES: &str = "\
+Reads the configuration and the state file, and nothing from standard input. It keeps what
+they hold in memory, and the lock of FILE.lock, until `stop` ends it.
+
+Answers requests of this machine on the socket, whose mode is 0600: the commands with --at.
+Answers other replicas at the address of --listen, as `serve` does, and pulls from each of
+--peers in turn, as `pull` does. At most 128 connections are open at once, 64 of them of
+this machine. One on which nothing moves for 30 seconds, or which is older than 600
+seconds, is closed.
+
+Each change is appended to FILE.journal and put on the disk before it is acknowledged. The
+journal is folded into the state file at the start, and when it has more than 8,388,608
+bytes and more than half of those of the state file. Without a state file --new is needed.
+
+Writes to standard output a line `ready`, the configuration's digest, `receipts` and how
+many are held, `distrusts` and how many records, once it accepts requests. Writes to
+standard error a line for each event, with pairs of a word and a value.
+
+Ends with 0 after `stop`; with 1 where the configuration or the state is refused, or there
+is no state file; with 3 where the state is locked, the socket is taken, or a change could
+not be put on the disk.";
+
+const STOP_NOTES: &str = "\
+Asks the running replica whose socket is at the path to end, and reads nothing from
+standard input. What the replica acknowledged before is on the disk.
+
+It prints nothing, and writes no file.
+
+Ends with 0; with 3 where no replica answers there.";
+
 impl OptionName {
     /// What help calls the option's text.
     pub(crate) fn value_name<'a>(self) -> &'a str {
@@ -275,6 +338,12 @@ impl OptionName {
             OptionName::Verbose => "",
             OptionName::Format => "FORMAT",
             OptionName::Short => "",
+            OptionName::Socket => "PATH",
+            OptionName::OptionalListen => "ADDRESS",
+            OptionName::Peers => "ADDRESS,..",
+            OptionName::Every => "SECONDS",
+            OptionName::New => "",
+            OptionName::FileFormat => "FORMAT",
         }
     }
 
@@ -309,6 +378,15 @@ impl OptionName {
             OptionName::Verbose => "Says more on standard error",
             OptionName::Format => "The format of what is printed; the formats are named below",
             OptionName::Short => "Prints a short line for each step",
+            OptionName::Socket => "The path of the socket to answer requests of this machine at",
+            OptionName::OptionalListen =>
+                "The address where other replicas pull: an IP address and a port",
+            OptionName::Peers =>
+                "The addresses of at most 16 replicas to pull from, with commas between them",
+            OptionName::Every =>
+                "How long after a round of pulls the next one begins, from 1 to 86400 seconds [60]",
+            OptionName::New => "Begins without a state file where there is none",
+            OptionName::FileFormat => "The format of what is printed: text, or json",
         }
     }
 }
@@ -322,56 +400,84 @@ impl CommandName {
             }
             CommandName::Config => "Prints what a configuration says, or where two differ",
             CommandName::Report => {
-                "Prints what receipts make a replica accept: those of the state file, or of standard input"
+                "Prints what receipts make a replica accept: those of the state file, or of \
+                standard input"
             }
             CommandName::List => "Prints each receipt and each record of distrust that is held",
             CommandName::Diff => "Prints what only one of two states holds",
+            CommandName::Graph => "Prints which document vouches for which, as a graph",
             CommandName::Status => "Prints how the replica stands, and what needs attention",
             CommandName::Bundle => "Prints the current bundle of a domain",
             CommandName::Explain => {
                 "Prints the receipts by which the document on standard input is accepted"
             }
             CommandName::Observe => {
-                "Takes the bundle document on standard input, as it was fetched, and prints its receipt"
+                "Takes the bundle document on standard input, as it was fetched, and prints its \
+                receipt"
             }
             CommandName::Merge => "Takes what the snapshot on standard input holds",
             CommandName::Migrate => "Prints the state file for another configuration",
             CommandName::Reseed => "Prints a configuration whose seeds are the current bundles",
             CommandName::Polls => {
-                "Reads poll lines on standard input and prints when each bundle is to be fetched next"
+                "Reads poll lines on standard input and prints when each bundle is to be fetched \
+                next"
             }
             CommandName::Distrust => "Distrusts a key in a domain, for good",
             CommandName::Serve => "Answers other replicas that pull from this one",
             CommandName::Pull => "Asks another replica, and takes what this one lacks",
+            CommandName::Replica => {
+                "Stays: answers requests of this machine and other replicas, and pulls by itself"
+            }
+            CommandName::Stop => "Ends a running replica",
         }
     }
 
     /// The subcommand's usage: its word and its options, each with what its text is.
     pub(crate) fn usage<'a>(self) -> &'a str {
         match self {
-            CommandName::Canon => "fedbundle canon --domain <DOMAIN>",
-            CommandName::Config => "fedbundle config --config <FILE> [--with <FILE>]",
-            CommandName::Report => "fedbundle report --config <FILE> [--state <FILE>]",
+            CommandName::Canon => "fedbundle canon --domain <DOMAIN> [--format <FORMAT>]",
+            CommandName::Config => {
+                "fedbundle config --config <FILE> [--with <FILE>] [--format <FORMAT>]"
+            }
+            CommandName::Report => {
+                "fedbundle report --config <FILE> [--state <FILE>] [--format <FORMAT>]\n       \
+                fedbundle report --at <PATH>"
+            }
             CommandName::List => {
-                "fedbundle list --config <FILE> --state <FILE> [--domain <DOMAIN>] [--verbose]"
+                "fedbundle list --config <FILE> --state <FILE> [--domain <DOMAIN>] \
+                [--format <FORMAT>] [--verbose]"
             }
             CommandName::Diff => {
                 "fedbundle diff --config <FILE> --state <FILE> --with <FILE> [--verbose]"
             }
+            CommandName::Graph => {
+                "fedbundle graph --config <FILE> --state <FILE> [--domain <DOMAIN>] [--verbose]"
+            }
             CommandName::Status => {
-                "fedbundle status --config <FILE> --state <FILE> [--format <FORMAT>] [--verbose]"
+                "fedbundle status --config <FILE> --state <FILE> [--format <FORMAT>] \
+                [--verbose]\n       \
+                fedbundle status --at <PATH> [--format <FORMAT>] [--verbose]"
             }
             CommandName::Bundle => {
-                "fedbundle bundle --config <FILE> --state <FILE> --domain <DOMAIN> [--format <FORMAT>] [--verbose]"
+                "fedbundle bundle --config <FILE> --state <FILE> --domain <DOMAIN> \
+                [--format <FORMAT>] [--verbose]\n       \
+                fedbundle bundle --at <PATH> --domain <DOMAIN> [--format <FORMAT>] [--verbose]"
             }
             CommandName::Explain => {
-                "fedbundle explain --config <FILE> --state <FILE> --domain <DOMAIN> [--short] [--verbose]"
+                "fedbundle explain --config <FILE> --state <FILE> --domain <DOMAIN> [--short] \
+                [--format <FORMAT>] [--verbose]\n       \
+                fedbundle explain --at <PATH> --domain <DOMAIN> [--short] [--verbose]"
             }
             CommandName::Observe => {
-                "fedbundle observe --config <FILE> --state <FILE> --domain <DOMAIN> --endpoint <SPIFFE_ID> --key <KEY_ID> [--wait <SECONDS>] [--verbose]"
+                "fedbundle observe --config <FILE> --state <FILE> --domain <DOMAIN> \
+                --endpoint <SPIFFE_ID> --key <KEY_ID> [--wait <SECONDS>] [--verbose]\n       \
+                fedbundle observe --at <PATH> --domain <DOMAIN> --endpoint <SPIFFE_ID> \
+                --key <KEY_ID> [--verbose]"
             }
             CommandName::Merge => {
-                "fedbundle merge --config <FILE> --state <FILE> [--wait <SECONDS>] [--most-bytes <BYTES>] [--verbose]"
+                "fedbundle merge --config <FILE> --state <FILE> [--wait <SECONDS>] \
+                [--most-bytes <BYTES>] [--verbose]\n       \
+                fedbundle merge --at <PATH> [--most-bytes <BYTES>] [--verbose]"
             }
             CommandName::Migrate => {
                 "fedbundle migrate --config <FILE> --state <FILE> --to <FILE> [--records-only]"
@@ -380,17 +486,30 @@ impl CommandName {
                 "fedbundle reseed --config <FILE> --state <FILE> [--allow <DOMAIN>] [--verbose]"
             }
             CommandName::Polls => {
-                "fedbundle polls --config <FILE> --state <FILE> --now <SECONDS> [--verbose]"
+                "fedbundle polls --config <FILE> --state <FILE> --now <SECONDS> \
+                [--format <FORMAT>] [--verbose]\n       \
+                fedbundle polls --at <PATH> --now <SECONDS> [--verbose]"
             }
             CommandName::Distrust => {
-                "fedbundle distrust --config <FILE> --state <FILE> --domain <DOMAIN> --key <KEY_ID> [--dry-run] [--wait <SECONDS>] [--verbose]"
+                "fedbundle distrust --config <FILE> --state <FILE> --domain <DOMAIN> \
+                --key <KEY_ID> [--dry-run] [--wait <SECONDS>] [--verbose]\n       \
+                fedbundle distrust --at <PATH> --domain <DOMAIN> --key <KEY_ID> [--dry-run] \
+                [--verbose]"
             }
             CommandName::Serve => {
-                "fedbundle serve --config <FILE> --state <FILE> --listen <ADDRESS> --sessions <COUNT> [--verbose]"
+                "fedbundle serve --config <FILE> --state <FILE> --listen <ADDRESS> \
+                --sessions <COUNT> [--verbose]"
             }
             CommandName::Pull => {
-                "fedbundle pull --config <FILE> --state <FILE> --peer <ADDRESS> [--wait <SECONDS>] [--most-bytes <BYTES>] [--verbose]"
+                "fedbundle pull --config <FILE> --state <FILE> --peer <ADDRESS> \
+                [--wait <SECONDS>] [--most-bytes <BYTES>] [--verbose]"
             }
+            CommandName::Replica => {
+                "fedbundle replica --config <FILE> --state <FILE> --socket <PATH> \
+                [--listen <ADDRESS>] [--peers <ADDRESS,..>] [--every <SECONDS>] \
+                [--most-bytes <BYTES>] [--new] [--verbose]"
+            }
+            CommandName::Stop => "fedbundle stop --at <PATH>",
         }
     }
 
@@ -402,6 +521,7 @@ impl CommandName {
             CommandName::Report => REPORT_NOTES,
             CommandName::List => LIST_NOTES,
             CommandName::Diff => DIFF_NOTES,
+            CommandName::Graph => GRAPH_NOTES,
             CommandName::Status => STATUS_NOTES,
             CommandName::Bundle => BUNDLE_NOTES,
             CommandName::Explain => EXPLAIN_NOTES,
@@ -413,6 +533,8 @@ impl CommandName {
             CommandName::Distrust => DISTRUST_NOTES,
             CommandName::Serve => SERVE_NOTES,
             CommandName::Pull => PULL_NOTES,
+            CommandName::Replica => REPLICA_NOTES,
+            CommandName::Stop => STOP_NOTES,
         }
     }
 }

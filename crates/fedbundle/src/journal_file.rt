@@ -4,14 +4,18 @@
 //! What a file holds is outside all contracts: these calls are proved only to be safe and to
 //! return, and shown by runs of the program.
 use crate::error::CommandError;
-use crate::state::{FileFault, fault_of, found, load_snapshot, save_snapshot, with_ending};
+use crate::state::{
+    FileFault, create_new, fault_of, found, load_snapshot, save_snapshot, sync_folder, to_sync,
+    with_ending,
+};
 use byte_lines::FromRead;
 use closure_core::Closure;
 use fed_config::Config;
 use replica_core::SyncError;
-use replica_service::read_journal;
+use replica_service::{begin_journal, read_journal};
 use std::alloc::{AllocError, Global};
 use std::fs::{File, Files};
+use std::io::Write;
 use std::{fs, io};
 
 /// The name of the journal of the state file at the path.
@@ -20,6 +24,30 @@ use std::{fs, io};
 /// Memory ran out.
 pub fn journal_path(alloc: Global, path: &str) -> Result<String, AllocError> {
     with_ending(alloc, path, ".journal")
+}
+
+/// Begins an empty journal of the state file at the path: a file with the first line alone, which
+/// the system has put on the disk. It has the mode, the owner and the group of the state file, as
+/// far as the system allows it. A journal that is there is removed, so the state file has to have
+/// all that it says.
+///
+/// # Errors
+/// - [`SyncError::Io`]: the system refused a step,
+/// - [`SyncError::NoMemory`]: memory ran out.
+pub fn new_journal<R: Files<File = File>>(
+    files: &R,
+    alloc: Global,
+    config: &Config,
+    path: &str,
+) -> Result<File, FileFault> {
+    let name = journal_path(alloc, path)?;
+    let mut line = Vec::new(alloc);
+    begin_journal(alloc, config, &mut line)?;
+    let mut file = create_new(files, name.as_str(), path)?;
+    to_sync(file.write_all(line.as_slice()))?;
+    to_sync(file.sync_all())?;
+    sync_folder(files, path)?;
+    Ok(file)
 }
 
 /// The closure of what is held: what the snapshot in the state file says, and what the whole lines

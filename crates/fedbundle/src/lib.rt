@@ -10,6 +10,7 @@ mod complaint;
 mod counts;
 mod distrust;
 mod error;
+mod exits;
 mod explain;
 mod fault;
 mod help_texts;
@@ -19,6 +20,7 @@ pub mod laws;
 mod merge;
 mod migrate;
 mod observe;
+mod option_texts;
 mod polls;
 mod pull;
 mod report;
@@ -32,19 +34,28 @@ pub use bundle::{run_bundle, run_bundle_pem};
 pub use canon::run_canon;
 pub use chain_text::ExplanationForm;
 pub use command_name::{CommandName, OptionName};
+pub use counts::write_counted;
 pub use distrust::{run_distrust, show_distrust};
 pub use error::{CommandError, status};
+pub use exits::{Exit, Step, SystemFault, exit_status, write_exit};
 pub use explain::run_explain;
 pub use fault::write_fault;
-pub use journal_file::{journal_path, load_state, save_state};
+pub use journal_file::{journal_path, load_state, new_journal, save_state};
 pub use merge::{run_merge, take_other};
 pub use migrate::run_migrate;
-pub use observe::run_observe;
-pub use polls::run_polls;
+pub use observe::{Observed, prepare_observe, run_observe};
+pub use option_texts::{
+    BundleFormat, Manner, OutputForm, explanation_form, given, is_flag_given, manner_of,
+    read_bundle_format, read_explanation_form, read_key, read_moment, read_output_form,
+    read_status_format, wanted,
+};
+pub use polls::{run_polls, run_polls_in};
 pub use pull::run_pull;
 pub use report::{run_report, run_report_with};
 pub use run_error::RunError;
 pub use serve::{run_serve, write_served};
 pub use sessions::read_sessions;
-pub use state::{FileFault, SeenState, StateLock, see_state, state_bytes, try_lock_state};
-pub use words::{Call, WordsError, command_of, read_words};
+pub use state::{
+    FileFault, SeenState, StateLock, is_marked, see_state, state_bytes, try_lock_state,
+};
+pub use words::{Call, WordsError, command_of, read_request, read_words};

@@ -10,7 +10,7 @@ use replica_core::SyncError;
 use replica_sync::{read_snapshot, write_snapshot};
 use std::alloc::{AllocError, Global};
 use std::fs::{File, Files, Metadata, OpenFile, OpenOptions, Permissions, TryLockError};
-use std::io::BufWriter;
+use std::io::{BufWriter, Write};
 use std::os::unix::fs::{MetadataExt, OpenOptionsExt, PermissionsExt, fchown};
 use std::{fs, io};
 
@@ -50,6 +50,12 @@ impl From<AllocError> for FileFault {
     }
 }
 
+impl From<io::Error> for FileFault {
+    fn from(error: io::Error) -> FileFault {
+        fault_of(&error)
+    }
+}
+
 impl From<FileFault> for CommandError {
     fn from(fault: FileFault) -> CommandError {
         CommandError::Sync(fault.why)
@@ -61,7 +67,30 @@ impl From<FileFault> for CommandError {
 /// which stays where it is.
 #[derive(Drop)]
 pub struct StateLock {
-    _file: File,
+    file: File,
+}
+
+/// What a running replica writes into the lock's file: that it has bytes says so.
+const MARK: &[u8] = b"a replica is running\n";
+
+impl StateLock {
+    /// Leaves a mark in the lock's file that a replica has the lock, and will keep it.
+    ///
+    /// # Errors
+    /// `NoMemory` if the system says that memory ran out, and else `Io`.
+    pub fn mark(&mut self) -> Result<(), FileFault> {
+        to_sync(self.file.write_all(MARK))
+    }
+}
+
+/// Whether a running replica has the lock of the state file, where the lock could not be taken.
+/// For a moment it may be said also of another command, where a replica was killed just before.
+///
+/// # Errors
+/// Where the system does not say: `NoMemory` if memory ran out, and else `Io`.
+pub fn is_marked<R: Files>(files: &R, alloc: Global, path: &str) -> Result<bool, FileFault> {
+    let name = with_ending(alloc, path, ".lock")?;
+    Ok(found(fs::metadata(files, name.as_str()))?.is_some_and(|lock| lock.len() > 0))
 }
 
 /// Takes the lock, or returns `None` at once where another command that writes this state file is
@@ -83,7 +112,8 @@ pub fn try_lock_state<R: Files<File = File>>(
             return Ok(None);
         }
         if is_named(files, &file, name.as_str())? {
-            return Ok(Some(StateLock { _file: file }));
+            clear_mark(&file)?;
+            return Ok(Some(StateLock { file }));
         }
     }
     Err(FileFault::from(SyncError::Io))
@@ -235,6 +265,14 @@ fn has_locked(file: &File) -> Result<bool, FileFault> {
     }
 }
 
+// Takes away the mark of a replica that was killed.
+fn clear_mark(file: &File) -> Result<(), FileFault> {
+    if to_sync(file.metadata())?.len() > 0 {
+        to_sync(file.set_len(0))?;
+    }
+    Ok(())
+}
+
 // Whether the open file is the one that has the name now.
 fn is_named<R: Files>(files: &R, file: &File, name: &str) -> Result<bool, FileFault> {
     let own = to_sync(file.metadata())?;
@@ -243,7 +281,11 @@ fn is_named<R: Files>(files: &R, file: &File, name: &str) -> Result<bool, FileFa
 }
 
 // The file that is to replace the one at the path.
-fn create_new<R: Files<File = File>>(files: &R, name: &str, path: &str) -> Result<File, FileFault> {
+pub(crate) fn create_new<R: Files<File = File>>(
+    files: &R,
+    name: &str,
+    path: &str,
+) -> Result<File, FileFault> {
     found(fs::remove_file(files, name))?;
     let mut options = OpenOptions::new();
     options.write(true).create_new(true).mode(OWNER_ONLY);
@@ -287,7 +329,7 @@ fn written_out<W: io::Write + Drop>(buffer: BufWriter<W>) -> Result<(), SyncErro
 
 // Has the system write the folder in which the file lies, so that the new name outlasts a loss of
 // power.
-fn sync_folder<R: Files>(files: &R, path: &str) -> Result<(), FileFault> {
+pub(crate) fn sync_folder<R: Files>(files: &R, path: &str) -> Result<(), FileFault> {
     let folder = match path.rfind('/') {
         Some(0) => "/",
         Some(end) => &path[..end],
@@ -304,7 +346,7 @@ pub(crate) fn with_ending(alloc: Global, path: &str, ending: &str) -> Result<Str
     Ok(name)
 }
 
-fn to_sync<T: Drop>(answer: io::Result<T>) -> Result<T, FileFault> {
+pub(crate) fn to_sync<T: Drop>(answer: io::Result<T>) -> Result<T, FileFault> {
     match answer {
         Ok(value) => Ok(value),
         Err(error) => Err(fault_of(&error)),

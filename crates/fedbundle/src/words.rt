@@ -2,8 +2,10 @@
 ghost use Rattle.std.specs.Prelude.{◌≡◌, ℕ, false, IfOk, IfSome, map, option_map};
 ghost use Rattle.std.specs.List.{list_all};
 ghost use Rattle.clap.specs.Words.{app_of, found_of, rule_of, rows_of};
-ghost use Rattle.fedbundle.specs.Words.{Calls, given, is_settled, is_settled_in, leaf, name_text};
-ghost use Rattle.fedbundle.specs.Words.{rule_of_option, the_command};
+ghost use Rattle.fedbundle.specs.Words.{CallsFrom, CallsInRequest, given, is_settled};
+ghost use Rattle.fedbundle.specs.Words.{is_settled_in, leaf, name_text, rule_of_option};
+ghost use Rattle.fedbundle.specs.Words.{settled_at, the_command};
+ghost use Rattle.fedbundle.specs.declared.words.WordsPlace.TheVariants.{CommandLine};
 
 use crate::command_name::{COMMANDS, CommandName, OptionName};
 use crate::help_texts;
@@ -32,6 +34,15 @@ pub enum WordsError {
     NoMemory,
 }
 
+/// Where words stand.
+#[derive(Clone, Copy, Debug)]
+pub(crate) enum WordsPlace {
+    /// After the program's name.
+    CommandLine,
+    /// In a request to a running replica.
+    Request,
+}
+
 /// Reads the words after the program's name, as `clap` reads them for the command with these
 /// subcommands, each of whose options has one text: the subcommand, and the text of each of its
 /// options. A flag's text is `true` where it is given, and else `false`. Words with `--at` leave
@@ -43,17 +54,44 @@ pub enum WordsError {
 ///   is missing, or `--at` stands beside a file,
 /// - [`WordsError::NoMemory`]: memory ran out.
 pub fn read_words<'a>(alloc: Global, words: &'a [&'a str]) -> Result<Call<'a>, WordsError>
-    ensures { IfOk result (λ call. Calls (map (λ w. w.now) words.now) call.name
+    ensures { IfOk result (λ call. CallsFrom CommandLine (map (λ w. w.now) words.now) call.name
         (map (option_map (λ t. t.now)) call.texts.items)) }
 {
-    match parse_words(alloc, words) {
+    read_call(alloc, words, WordsPlace::CommandLine)
+}
+
+/// Reads the words of a request to a running replica: those of the command line without `--at`,
+/// and without `--config` and `--state`, which the replica has itself.
+///
+/// # Errors
+/// Those of [`read_words`]; [`WordsError::Usage`] where one of these three is given.
+pub fn read_request<'a>(alloc: Global, words: &'a [&'a str]) -> Result<Call<'a>, WordsError>
+    ensures { IfOk result (λ call. CallsInRequest (map (λ w. w.now) words.now) call.name
+        (map (option_map (λ t. t.now)) call.texts.items)) }
+{
+    read_call(alloc, words, WordsPlace::Request)
+}
+
+fn read_call<'a>(
+    alloc: Global,
+    words: &'a [&'a str],
+    place: WordsPlace,
+) -> Result<Call<'a>, WordsError>
+    ensures { IfOk result (λ call. CallsFrom place (map (λ w. w.now) words.now) call.name
+        (map (option_map (λ t. t.now)) call.texts.items)) }
+{
+    match parse_words(alloc, words, place) {
         Err(WordsError::Words(error)) => Err(with_all_names(alloc, error)),
         read => read,
     }
 }
 
-fn parse_words<'a>(alloc: Global, words: &'a [&'a str]) -> Result<Call<'a>, WordsError>
-    ensures { IfOk result (λ call. Calls (map (λ w. w.now) words.now) call.name
+fn parse_words<'a>(
+    alloc: Global,
+    words: &'a [&'a str],
+    place: WordsPlace,
+) -> Result<Call<'a>, WordsError>
+    ensures { IfOk result (λ call. CallsFrom place (map (λ w. w.now) words.now) call.name
         (map (option_map (λ t. t.now)) call.texts.items)) }
 {
     let matches = command(alloc)?.try_get_matches_from(words)?;
@@ -64,7 +102,7 @@ fn parse_words<'a>(alloc: Global, words: &'a [&'a str]) -> Result<Call<'a>, Word
         return Err(WordsError::Usage);
     };
     let wanted = name.options();
-    if !are_settled(options, wanted) {
+    if !are_settled(options, wanted, place) {
         return Err(WordsError::Usage);
     }
     let texts = texts_of(alloc, options, wanted)?;
@@ -179,22 +217,33 @@ fn name_of(word: &str) -> Option<CommandName>
 }
 
 // Whether each option may stand as it does.
-fn are_settled(matches: &ArgMatches<'_>, options: &[OptionName]) -> bool
-    ensures { result ≡ list_all (is_settled_in (rows_of (found_of matches.now))) options.now }
+fn are_settled(matches: &ArgMatches<'_>, options: &[OptionName], place: WordsPlace) -> bool
+    ensures { result ≡ list_all (is_settled_in place (rows_of (found_of matches.now))) options.now }
 {
     let at = matches.get_str(OptionName::At.text()).is_some();
     'options: for &option in options {
-        if !is_settled(at, matches.get_str(option.text()).is_some(), option) {
+        if !is_settled_at(place, at, matches.get_str(option.text()).is_some(), option) {
             return false;
         }
     }
     true
 }
 
-fn is_settled(at: bool, has_text: bool, option: OptionName) -> bool
-    ensures { result ≡ is_settled at has_text option }
+// The same of one option, where `at` says whether the words have `--at`.
+fn is_settled_at(place: WordsPlace, at: bool, has_text: bool, option: OptionName) -> bool
+    ensures { result ≡ settled_at place at has_text option }
 {
-    if at && option.is_place() {
+    match (place, option) {
+        (WordsPlace::CommandLine, _) => is_settled(at, has_text, option),
+        (WordsPlace::Request, OptionName::At) => !has_text,
+        (WordsPlace::Request, _) => is_settled(true, has_text, option),
+    }
+}
+
+fn is_settled(asks: bool, has_text: bool, option: OptionName) -> bool
+    ensures { result ≡ is_settled asks has_text option }
+{
+    if asks && option.is_place() {
         !has_text
     } else {
         has_text || option.may_be_left_out()

@@ -1,10 +1,8 @@
 // `reseed`: a configuration for a start anew, printed.
-use crate::exit::Exit;
 use crate::options;
-use crate::options::given;
 use crate::streams::{complaints, output};
 use byte_lines::{Sink, write_all};
-use fedbundle::{Call, CommandError, OptionName};
+use fedbundle::{Call, CommandError, Exit, OptionName, given};
 use reseeding::Reseeded;
 use spiffe_name::TrustDomain;
 use trust_closure::IndexedClosure;

@@ -1,17 +1,15 @@
 // The subcommands that change what a state file holds. What they take is read before the lock of
 // the state is taken, and a fault of that is reported after those of the lock, the state and the
 // options. The replica is made and given back in one place, and each command only borrows it.
-use crate::exit::Exit;
 use crate::keeping::{keeping_of, load, lock, room_left, save};
 use crate::limited::Limited;
-use crate::options::wanted;
 use crate::streams::{input, output, output_line};
 use crate::{distrusting, options, reasons};
 use bundle_doc::MAX_DOCUMENT_BYTES;
 use bundle_view::Verdict;
 use byte_lines::{FromRead, read_up_to};
 use fed_config::Config;
-use fedbundle::{Call, CommandError, OptionName, run_observe, take_other};
+use fedbundle::{Call, CommandError, Exit, OptionName, read_key, run_observe, take_other, wanted};
 use replica_sync::read_snapshot;
 use std::io::Read;
 use trust_closure::IndexedClosure;
@@ -126,6 +124,6 @@ fn take_bundle(
 
 fn read_verdict(rt: &HostRuntime, call: &Call<'_>) -> Result<Verdict, Exit> {
     let endpoint = options::endpoint(rt.alloc(), wanted(call, OptionName::Endpoint)?)?;
-    let key = options::key(wanted(call, OptionName::Key)?)?;
+    let key = read_key(wanted(call, OptionName::Key)?)?;
     Ok(Verdict { endpoint, key })
 }

@@ -1,6 +1,5 @@
 // The words of the command line, as the system gives them.
-use crate::exit::Exit;
-use fedbundle::CommandError;
+use fedbundle::{CommandError, Exit};
 use std::alloc::{AllocError, Global};
 use std::rt::Env;
 use std::{env, io};

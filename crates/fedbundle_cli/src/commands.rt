@@ -1,14 +1,17 @@
 // The subcommands: the words are read, then the configuration, and then the command is carried out
 // by what it does with a state: it needs none, it shows what is held, it changes that, or it
 // talks with another replica.
-use crate::exit::{Exit, print_clap};
-use crate::options::{given, wanted};
+use crate::exit::print_clap;
 use crate::streams::{complaints, input, output};
-use crate::{changing, command_line, exchange, lacking, options, printing, reasons, showing};
+use crate::{
+    at_replica, changing, command_line, exchange, lacking, options, printing, reasons, showing,
+    staying,
+};
 use byte_lines::FromRead;
 use fed_config::Config;
 use fedbundle::{
-    Call, CommandError, CommandName, OptionName, WordsError, read_words, run_canon, run_report,
+    Call, CommandError, CommandName, Exit, OptionName, OutputForm, WordsError, given, manner_of,
+    read_output_form, read_words, run_canon, run_report, wanted,
 };
 use spiffe_name::TrustDomain;
 
@@ -36,7 +39,10 @@ fn carry_out(rt: &HostRuntime, call: &Call<'_>) -> Result<u8, Exit> {
     if let Some(option) = empty_path(call) {
         return Err(Exit::EmptyPath(option));
     }
-    options::manner_of(call)?;
+    manner_of(call)?;
+    if let Some(path) = given(call, OptionName::At) {
+        return at_replica::ask(rt, call, path);
+    }
     match call.name {
         CommandName::Canon => canon(rt, call),
         CommandName::Serve => serve(rt, call),
@@ -48,9 +54,10 @@ fn empty_path(call: &Call<'_>) -> Option<OptionName> {
     let paths = [
         OptionName::Config,
         OptionName::State,
-        OptionName::OptionalState,
         OptionName::To,
         OptionName::With,
+        OptionName::At,
+        OptionName::Socket,
     ];
     paths
         .iter()
@@ -79,8 +86,9 @@ fn carry_out_under(rt: &HostRuntime, config: &Config, call: &Call<'_>) -> Result
         CommandName::Observe => changing::observe(rt, config, call),
         CommandName::Merge => changing::merge(rt, config, call),
         CommandName::Pull => exchange::pull(rt, config, call),
+        CommandName::Replica => staying::stay(rt, config, call),
         CommandName::Report if given(call, OptionName::OptionalState).is_none() => {
-            report_lines(rt, config)
+            report_lines(rt, config, call)
         }
         CommandName::Distrust if given(call, OptionName::DryRun) != Some("true") => {
             changing::distrust(rt, config, call)
@@ -90,23 +98,34 @@ fn carry_out_under(rt: &HostRuntime, config: &Config, call: &Call<'_>) -> Result
 }
 
 fn canon(rt: &HostRuntime, call: &Call<'_>) -> Result<u8, Exit> {
+    let form = read_output_form(given(call, OptionName::FileFormat))?;
     let domain = options::domain(rt.alloc(), wanted(call, OptionName::Domain)?)?;
     let bytes = changing::read_bundle(rt)?;
-    let done = canon_of(rt, &domain, bytes.as_slice());
+    let done = canon_of(rt, &domain, form, bytes.as_slice());
     Ok(reasons::status_of_bundle(rt, call, done, bytes.as_slice()))
 }
 
-fn canon_of(rt: &HostRuntime, domain: &TrustDomain, bytes: &[u8]) -> Result<u8, Exit> {
+fn canon_of(
+    rt: &HostRuntime,
+    domain: &TrustDomain,
+    form: OutputForm,
+    bytes: &[u8],
+) -> Result<u8, Exit> {
     run_canon(
         rt.alloc(),
         domain,
+        form,
         &mut FromRead::new(bytes),
         &mut output(rt),
     )?;
     Ok(0)
 }
 
-fn report_lines(rt: &HostRuntime, config: &Config) -> Result<u8, Exit> {
+// The report of lines is text alone.
+fn report_lines(rt: &HostRuntime, config: &Config, call: &Call<'_>) -> Result<u8, Exit> {
+    if read_output_form(given(call, OptionName::FileFormat))? == OutputForm::Json {
+        return Err(Exit::Usage);
+    }
     let mut errors = complaints(rt);
     match run_report(
         rt.alloc(),

@@ -1,6 +1,5 @@
 // Connections with other replicas, and how long they may keep this one.
-use crate::exit::{Exit, Step, SystemFault};
-use fedbundle::CommandError;
+use fedbundle::{CommandError, Exit, Step, SystemFault};
 use replica_core::SyncError;
 use std::io::{ErrorKind, Read, Write};
 use std::net::{SocketAddr, TcpListener, TcpStream};

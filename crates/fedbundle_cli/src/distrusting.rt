@@ -1,8 +1,7 @@
 // `distrust`: a record of distrust, made or only shown.
-use crate::exit::Exit;
-use crate::options::{domain, key, manner_of, wanted};
+use crate::options::domain;
 use crate::streams::{complaints, output};
-use fedbundle::{Call, OptionName, run_distrust, show_distrust};
+use fedbundle::{Call, Exit, OptionName, manner_of, read_key, run_distrust, show_distrust, wanted};
 use receipt_core::Distrust;
 use trust_closure::IndexedClosure;
 
@@ -35,6 +34,6 @@ pub(crate) fn make(
 fn record_of(rt: &HostRuntime, call: &Call<'_>) -> Result<Distrust, Exit> {
     Ok(Distrust {
         domain: domain(rt.alloc(), wanted(call, OptionName::Domain)?)?,
-        key: key(wanted(call, OptionName::Key)?)?,
+        key: read_key(wanted(call, OptionName::Key)?)?,
     })
 }

@@ -2,7 +2,7 @@
 // reads the address, and opens the socket before a session begins; `pull` saves the state at the
 // end.
 use crate::connection::{Connection, accept, connect, listen};
-use crate::exit::{Exit, Step, print_exit};
+use crate::exit::print_exit;
 use crate::keeping::{Keeping, keeping_of, load, lock, look, room_left, save};
 use crate::limited::Limited;
 use crate::streams::{error_lines, output_line};
@@ -10,8 +10,8 @@ use crate::{options, reasons};
 use byte_lines::{FromRead, FromWrite};
 use fed_config::Config;
 use fedbundle::{
-    Call, CommandError, OptionName, SeenState, journal_path, run_pull, run_serve, see_state,
-    write_served,
+    Call, CommandError, Exit, OptionName, SeenState, Step, journal_path, run_pull, run_serve,
+    see_state, wanted, write_served,
 };
 use std::io::{Read, Write};
 use std::net::{SocketAddr, TcpListener};
@@ -39,12 +39,7 @@ pub(crate) fn serve(
         sessions,
         is_verbose: state.manner.is_verbose,
     };
-    serve_at(
-        rt,
-        &closure,
-        options::wanted(call, OptionName::Listen)?,
-        service,
-    )
+    serve_at(rt, &closure, wanted(call, OptionName::Listen)?, service)
 }
 
 fn serve_at(
@@ -139,7 +134,7 @@ struct Begun {
 pub(crate) fn pull(rt: &HostRuntime, config: &Config, call: &Call<'_>) -> Result<u8, Exit> {
     let state = keeping_of(call)?;
     let mut begun = begin(rt, config, state)?;
-    let peer = options::wanted(call, OptionName::Peer)?;
+    let peer = wanted(call, OptionName::Peer)?;
     let pulled = pull_from(rt, &mut begun.closure, peer, room_left(rt, state))?;
     let saved = end_saving(rt, config, state, &begun);
     Ok(end_pull(rt, call, pulled, saved))

@@ -1,13 +1,11 @@
 // The state file as the commands use it: its lock, which is waited for within a limit, what it
 // holds, and how much may come to that.
-use crate::exit::{Exit, Step};
-use crate::options;
-use crate::options::Manner;
 use crate::speaking::speaks_unasked;
 use crate::streams::error_lines;
 use fed_config::Config;
 use fedbundle::{
-    Call, CommandError, OptionName, StateLock, load_state, save_state, state_bytes, try_lock_state,
+    Call, CommandError, Exit, Manner, OptionName, StateLock, Step, is_marked, load_state,
+    manner_of, save_state, state_bytes, try_lock_state, wanted,
 };
 use std::io::Write;
 use std::thread;
@@ -29,16 +27,9 @@ pub(crate) struct Keeping<'a> {
 
 pub(crate) fn keeping_of<'a>(call: &Call<'a>) -> Result<Keeping<'a>, Exit> {
     Ok(Keeping {
-        path: path_of(call)?,
-        manner: options::manner_of(call)?,
+        path: wanted(call, OptionName::State)?,
+        manner: manner_of(call)?,
     })
-}
-
-fn path_of<'a>(call: &Call<'a>) -> Result<&'a str, Exit> {
-    match options::given(call, OptionName::State) {
-        Some(path) => Ok(path),
-        None => options::wanted(call, OptionName::OptionalState),
-    }
 }
 
 /// Takes the lock of the state file, where another command has it as soon as that is done.
@@ -68,8 +59,23 @@ fn wait_for_lock(rt: &HostRuntime, state: Keeping<'_>) -> Result<StateLock, Exit
         if let Some(lock) = try_lock(rt, state.path)? {
             return Ok(lock);
         }
+        if is_of_replica(rt, state.path)? {
+            break;
+        }
     }
-    Err(Exit::Locked)
+    if is_of_replica(rt, state.path)? {
+        Err(Exit::ReplicaRuns)
+    } else {
+        Err(Exit::Locked)
+    }
+}
+
+// A replica does not give the lock back, so nobody waits for that.
+fn is_of_replica(rt: &HostRuntime, path: &str) -> Result<bool, Exit> {
+    match is_marked(rt, rt.alloc(), path) {
+        Ok(is_marked) => Ok(is_marked),
+        Err(fault) => Err(Exit::of_file(Step::Lock, fault)),
+    }
 }
 
 fn try_lock(rt: &HostRuntime, path: &str) -> Result<Option<StateLock>, Exit> {

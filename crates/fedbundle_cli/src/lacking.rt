@@ -1,7 +1,7 @@
 // Words that clap takes and that are no call: what is missing.
-use crate::exit::{Exit, print_exit};
+use crate::exit::print_exit;
 use crate::speaking::{say, speaks_unasked};
-use fedbundle::{OptionName, command_of};
+use fedbundle::{Exit, OptionName, command_of};
 use std::alloc::AllocError;
 
 /// Reports that the words are no call, and what is missing, and returns the exit status.

@@ -4,6 +4,7 @@
 #![tactic(auto)]
 
 mod anew;
+mod at_replica;
 mod changing;
 mod command_line;
 mod commands;
@@ -20,11 +21,12 @@ mod reasons;
 mod second_look;
 mod showing;
 mod speaking;
+mod staying;
 mod streams;
 mod viewing;
 
-use exit::{Exit, print_exit};
-use fedbundle::CommandError;
+use exit::print_exit;
+use fedbundle::{CommandError, Exit};
 use std::process::ExitCode;
 use streams::ClosedStreams;
 

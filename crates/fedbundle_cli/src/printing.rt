@@ -1,24 +1,31 @@
 // What a configuration says, and the report of what a state file holds, printed.
-use crate::exit::Exit;
 use crate::options;
-use crate::options::given;
 use crate::streams::output;
+use bundle_json::write_report_json;
 use bundle_view::write_report;
-use config_view::{write_config, write_config_difference};
+use config_view::{write_config, write_config_difference, write_config_json};
 use fed_config::Config;
-use fedbundle::{Call, CommandError, OptionName, RunError};
+use fedbundle::{
+    Call, CommandError, Exit, OptionName, OutputForm, RunError, given, read_output_form,
+};
 use trust_closure::IndexedClosure;
 
-/// Prints what the configuration says, or where it differs from another one.
+/// Prints what the configuration says, or where it differs from another one, which is text alone.
 pub(crate) fn config(rt: &HostRuntime, config: &Config, call: &Call<'_>) -> Result<u8, Exit> {
-    match given(call, OptionName::With) {
-        Some(with) => compare(rt, config, with),
-        None => print(rt, config),
+    let form = read_output_form(given(call, OptionName::FileFormat))?;
+    match (given(call, OptionName::With), form) {
+        (Some(with), OutputForm::Text) => compare(rt, config, with),
+        (Some(_), OutputForm::Json) => Err(Exit::Usage),
+        (None, form) => print(rt, config, form),
     }
 }
 
-fn print(rt: &HostRuntime, config: &Config) -> Result<u8, Exit> {
-    write_config(rt.alloc(), config, &mut output(rt)).map_err(CommandError::from)?;
+fn print(rt: &HostRuntime, config: &Config, form: OutputForm) -> Result<u8, Exit> {
+    let printed = match form {
+        OutputForm::Text => write_config(rt.alloc(), config, &mut output(rt)),
+        OutputForm::Json => write_config_json(rt.alloc(), config, &mut output(rt)),
+    };
+    printed.map_err(CommandError::from)?;
     Ok(0)
 }
 
@@ -31,7 +38,23 @@ fn compare(rt: &HostRuntime, config: &Config, with: &str) -> Result<u8, Exit> {
 }
 
 /// Prints the report of what is held.
-pub(crate) fn report_state(rt: &HostRuntime, closure: &IndexedClosure) -> Result<u8, Exit> {
+pub(crate) fn report_state(
+    rt: &HostRuntime,
+    closure: &IndexedClosure,
+    call: &Call<'_>,
+) -> Result<u8, Exit> {
+    match read_output_form(given(call, OptionName::FileFormat))? {
+        OutputForm::Text => report_text(rt, closure),
+        OutputForm::Json => report_json(rt, closure),
+    }
+}
+
+fn report_json(rt: &HostRuntime, closure: &IndexedClosure) -> Result<u8, Exit> {
+    write_report_json(rt.alloc(), closure, &mut output(rt)).map_err(CommandError::from)?;
+    Ok(0)
+}
+
+fn report_text(rt: &HostRuntime, closure: &IndexedClosure) -> Result<u8, Exit> {
     match write_report(rt.alloc(), closure, &mut output(rt)) {
         Ok(()) => Ok(0),
         Err(error) => Err(Exit::Refused(CommandError::from(RunError::from(error)))),

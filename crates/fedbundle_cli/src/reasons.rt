@@ -1,12 +1,13 @@
 // Why the program ends, as further lines after the one that reports it: the file, the option or
 // the part of it that is at fault. A fault keeps no more than numbers, so this looks a second time
 // at what the command was given, and only where these lines are wanted.
-use crate::exit::{Exit, Step, SystemFault, print_exit};
-use crate::options::given;
+use crate::exit::print_exit;
 use crate::second_look::{say_bundle, say_config, say_state, say_stream};
 use crate::speaking::{quoted, say, shown, speaks, words_of};
 use fed_config::Config;
-use fedbundle::{Call, CommandError, CommandName, OptionName, status};
+use fedbundle::{
+    Call, CommandError, CommandName, Exit, OptionName, Step, SystemFault, given, status,
+};
 use spiffe_name::{NameError, SpiffeId, TrustDomain};
 use std::alloc::AllocError;
 use std::io;
@@ -48,12 +49,32 @@ pub(crate) fn status_of_bundle(
 fn say_why(rt: &HostRuntime, call: &Call<'_>, exit: &Exit) -> Result<(), AllocError> {
     match exit {
         Exit::EmptyPath(option) => say_option(rt, call, *option, "names no file"),
+        Exit::BadNumber(OptionName::Peers) => say_option(
+            rt,
+            call,
+            OptionName::Peers,
+            "has more than 16 addresses",
+        ),
         Exit::BadNumber(option) => say_option(rt, call, *option, "is no number of its range"),
         Exit::BadKey => say_option(rt, call, OptionName::Key, "is not 64 digits of 0-9a-f"),
         Exit::BadMoment => say_option(rt, call, OptionName::Now, "is no moment in Unix seconds"),
         Exit::BadAddress => say_address(rt, call),
         Exit::NoBundle | Exit::NotAccepted => say_domain(rt, call),
-        Exit::Locked => say_lock(rt, call),
+        Exit::Locked => say_lock(rt, call, "another command has it"),
+        Exit::ReplicaRuns => say_lock(rt, call, "a replica has it: --at asks that"),
+        Exit::SocketTaken => say_option(
+            rt,
+            call,
+            OptionName::Socket,
+            "is no socket, or one on which another process listens",
+        ),
+        Exit::NoState => say_option(
+            rt,
+            call,
+            OptionName::State,
+            "is not there: --new begins one",
+        ),
+        Exit::NoReplica => say_option(rt, call, OptionName::At, "has no replica that answers"),
         Exit::TooManyBytes => say_option(rt, call, OptionName::MostBytes, "would be passed"),
         Exit::System(fault) => say_system(rt, call, fault),
         Exit::Refused(error) => say_refusal(rt, call, error),
@@ -84,25 +105,33 @@ fn say_address(rt: &HostRuntime, call: &Call<'_>) -> Result<(), AllocError> {
     let why = "is no IP address with a port, as 127.0.0.1:8471 or [::1]:8471";
     match call.name {
         CommandName::Serve => say_option(rt, call, OptionName::Listen, why),
+        CommandName::Replica => say_addresses(rt, call, why),
         _ => say_option(rt, call, OptionName::Peer, why),
     }
 }
 
-fn say_lock(rt: &HostRuntime, call: &Call<'_>) -> Result<(), AllocError> {
+// The options of a replica that have addresses. One that is none is among them.
+fn say_addresses(rt: &HostRuntime, call: &Call<'_>, why: &str) -> Result<(), AllocError> {
+    match given(call, OptionName::Listen) {
+        Some(text) if crate::options::address(text).is_err() => {
+            say_option(rt, call, OptionName::Listen, why)
+        }
+        _ => say_option(rt, call, OptionName::Peers, why),
+    }
+}
+
+fn say_lock(rt: &HostRuntime, call: &Call<'_>, why: &str) -> Result<(), AllocError> {
     let path = shown(rt.alloc(), state_path(call))?;
     say(
         rt,
-        format!(in rt.alloc(); "lock {path}.lock: another command has it")?.as_str(),
+        format!(in rt.alloc(); "lock {path}.lock: {why}")?.as_str(),
     );
     Ok(())
 }
 
 /// The path of the state file.
 pub(crate) fn state_path<'a>(call: &Call<'a>) -> &'a str {
-    match given(call, OptionName::State) {
-        Some(path) => path,
-        None => given(call, OptionName::OptionalState).unwrap_or(""),
-    }
+    given(call, OptionName::State).unwrap_or("")
 }
 
 fn say_system(rt: &HostRuntime, call: &Call<'_>, fault: &SystemFault) -> Result<(), AllocError> {
@@ -113,10 +142,13 @@ fn say_system(rt: &HostRuntime, call: &Call<'_>, fault: &SystemFault) -> Result<
     let state = shown(rt.alloc(), state_path(call))?;
     let listen = shown(rt.alloc(), given(call, OptionName::Listen).unwrap_or(""))?;
     let peer = shown(rt.alloc(), given(call, OptionName::Peer).unwrap_or(""))?;
+    let socket = shown(rt.alloc(), given(call, OptionName::Socket).unwrap_or(""))?;
     let line = match fault.step {
         Step::Lock => format!(in rt.alloc(); "lock {state}.lock: {words}")?,
         Step::See => format!(in rt.alloc(); "state {state}: {words}")?,
         Step::Save => format!(in rt.alloc(); "write {state}.new, and rename it: {words}")?,
+        Step::Journal => format!(in rt.alloc(); "write {state}.journal: {words}")?,
+        Step::Socket => format!(in rt.alloc(); "socket {socket}: {words}")?,
         Step::Listen => format!(in rt.alloc(); "listen {listen}: {words}")?,
         Step::Accept => format!(in rt.alloc(); "accept at {listen}: {words}")?,
         Step::Connect => format!(in rt.alloc(); "connect {peer}: {words}")?,
@@ -167,11 +199,7 @@ fn say_configs(rt: &HostRuntime, call: &Call<'_>) -> Result<bool, AllocError> {
 
 // The option whose text is refused with this cause.
 fn say_name(rt: &HostRuntime, call: &Call<'_>, why: NameError) -> Result<(), AllocError> {
-    let domains = [
-        OptionName::Domain,
-        OptionName::OptionalDomain,
-        OptionName::Allow,
-    ];
+    let domains = [OptionName::Domain, OptionName::Allow];
     'options: for option in domains {
         if let Some(text) = given(call, option)
             && TrustDomain::read(rt.alloc(), text).err() == Some(why)

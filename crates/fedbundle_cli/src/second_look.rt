@@ -1,13 +1,12 @@
 // A second look at files and input that were refused: where they are at fault, in words.
 use crate::options;
-use crate::options::given;
 use crate::reasons::state_path;
 use crate::speaking::{quoted, say, shown, words_of};
 use bundle_doc::{Document, MAX_DOCUMENT_BYTES};
 use byte_lines::{FromRead, read_up_to};
 use fault_view::{Flaw, Found, Place, UrlFlaw, find_flaw, is_ignored, json_fault};
 use fed_config::{Config, ConfigError};
-use fedbundle::{Call, CommandError, OptionName, journal_path, load_state};
+use fedbundle::{Call, CommandError, OptionName, given, journal_path, load_state};
 use replica_core::SyncError;
 use serde_json::Value;
 use std::alloc::{AllocError, Global};

@@ -1,16 +1,16 @@
 // The subcommands that show what a state file holds, and write no file: they take no lock. The
 // replica is made and given back in one place, and each command only borrows it.
-use crate::exit::Exit;
 use crate::keeping::{keeping_of, look};
-use crate::options::{given, wanted};
 use crate::streams::{complaints, input, output};
 use crate::{anew, distrusting, options, printing, viewing};
 use fed_config::Config;
 use fedbundle::{
-    Call, CommandName, ExplanationForm, OptionName, run_bundle, run_bundle_pem, run_explain,
-    run_migrate, run_polls,
+    BundleFormat, Call, CommandName, Exit, ExplanationForm, OptionName, OutputForm, given,
+    read_bundle_format, read_explanation_form, read_moment, read_output_form, run_bundle,
+    run_bundle_pem, run_explain, run_migrate, run_polls_in, wanted,
 };
 use migration::Choice;
+use poll_view::PollsForm;
 use spiffe_name::TrustDomain;
 use trust_closure::IndexedClosure;
 
@@ -27,15 +27,16 @@ fn show_of(
     call: &Call<'_>,
 ) -> Result<u8, Exit> {
     match call.name {
-        CommandName::Report => printing::report_state(rt, closure),
+        CommandName::Report => printing::report_state(rt, closure, call),
         CommandName::List => viewing::list(rt, closure, call),
         CommandName::Diff => viewing::diff(rt, config, closure, call),
+        CommandName::Graph => viewing::graph(rt, closure, call),
         CommandName::Status => viewing::status(rt, closure, call),
         CommandName::Bundle => bundle(rt, closure, call),
         CommandName::Explain => explain(rt, closure, call),
         CommandName::Migrate => migrate(rt, closure, call),
         CommandName::Reseed => anew::reseed(rt, closure, call),
-        CommandName::Polls => polls(rt, closure, wanted(call, OptionName::Now)?),
+        CommandName::Polls => polls(rt, closure, call),
         CommandName::Distrust => distrusting::show(rt, closure, call),
         _ => Err(Exit::Usage),
     }
@@ -43,10 +44,9 @@ fn show_of(
 
 fn bundle(rt: &HostRuntime, closure: &IndexedClosure, call: &Call<'_>) -> Result<u8, Exit> {
     let domain = options::domain(rt.alloc(), wanted(call, OptionName::Domain)?)?;
-    let is_printed = match given(call, OptionName::Format) {
-        None | Some("json") => run_bundle(closure, &domain, &mut output(rt))?,
-        Some("pem") => run_bundle_pem(rt.alloc(), closure, &domain, &mut output(rt))?,
-        Some(_) => return Err(Exit::Usage),
+    let is_printed = match read_bundle_format(given(call, OptionName::Format))? {
+        BundleFormat::Json => run_bundle(closure, &domain, &mut output(rt))?,
+        BundleFormat::Pem => run_bundle_pem(rt.alloc(), closure, &domain, &mut output(rt))?,
     };
     if is_printed {
         Ok(0)
@@ -57,11 +57,10 @@ fn bundle(rt: &HostRuntime, closure: &IndexedClosure, call: &Call<'_>) -> Result
 
 fn explain(rt: &HostRuntime, closure: &IndexedClosure, call: &Call<'_>) -> Result<u8, Exit> {
     let domain = options::domain(rt.alloc(), wanted(call, OptionName::Domain)?)?;
-    let form = if given(call, OptionName::Short) == Some("true") {
-        ExplanationForm::Steps
-    } else {
-        ExplanationForm::Receipts
-    };
+    let form = read_explanation_form(
+        given(call, OptionName::Short),
+        given(call, OptionName::FileFormat),
+    )?;
     explain_in(rt, closure, &domain, form)
 }
 
@@ -116,8 +115,19 @@ fn migrate_to(
     }
 }
 
-fn polls(rt: &HostRuntime, closure: &IndexedClosure, now: &str) -> Result<u8, Exit> {
-    let now = options::moment(now)?;
-    run_polls(rt.alloc(), closure, now, &mut input(rt), &mut output(rt))?;
+fn polls(rt: &HostRuntime, closure: &IndexedClosure, call: &Call<'_>) -> Result<u8, Exit> {
+    let form = match read_output_form(given(call, OptionName::FileFormat))? {
+        OutputForm::Text => PollsForm::Lines,
+        OutputForm::Json => PollsForm::Json,
+    };
+    let now = read_moment(wanted(call, OptionName::Now)?)?;
+    run_polls_in(
+        rt.alloc(),
+        closure,
+        form,
+        now,
+        &mut input(rt),
+        &mut output(rt),
+    )?;
     Ok(0)
 }

@@ -1,10 +1,9 @@
 // Lines on standard error beside those that report faults: whether they are wanted, and how they
 // are written. What a stranger chose stands in them between quotation marks, and no byte of it
 // that does not print.
-use crate::options::given;
 use crate::streams::error_lines;
 use fault_view::{push_quoted, push_shown};
-use fedbundle::{Call, OptionName};
+use fedbundle::{Call, OptionName, given};
 use std::alloc::{AllocError, Global};
 use std::io;
 use std::io::{IsTerminal, Write};

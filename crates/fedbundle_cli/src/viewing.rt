@@ -1,14 +1,15 @@
 // What a state file holds, or only one of two, and how the replica stands, printed.
-use crate::exit::Exit;
 use crate::keeping::load;
 use crate::options;
-use crate::options::{given, wanted};
 use crate::streams::output;
 use fed_config::Config;
-use fedbundle::{Call, CommandError, OptionName};
-use replica_view::{write_held, write_held_difference};
+use fedbundle::{
+    Call, CommandError, Exit, OptionName, OutputForm, given, read_output_form, read_status_format,
+    wanted,
+};
+use replica_view::{write_graph, write_held, write_held_difference, write_held_json};
 use spiffe_name::TrustDomain;
-use status_view::{StatusFormat, write_status};
+use status_view::write_status;
 use trust_closure::IndexedClosure;
 
 /// Prints each receipt and each record of distrust, or those of a domain.
@@ -17,23 +18,60 @@ pub(crate) fn list(
     closure: &IndexedClosure,
     call: &Call<'_>,
 ) -> Result<u8, Exit> {
+    let form = read_output_form(given(call, OptionName::FileFormat))?;
     match given(call, OptionName::OptionalDomain) {
-        Some(domain) => list_of(rt, closure, domain),
-        None => list_on(rt, closure, None),
+        Some(domain) => list_of(rt, closure, form, domain),
+        None => list_on(rt, closure, form, None),
     }
 }
 
-fn list_of(rt: &HostRuntime, closure: &IndexedClosure, domain: &str) -> Result<u8, Exit> {
+fn list_of(
+    rt: &HostRuntime,
+    closure: &IndexedClosure,
+    form: OutputForm,
+    domain: &str,
+) -> Result<u8, Exit> {
     let domain = options::domain(rt.alloc(), domain)?;
-    list_on(rt, closure, Some(&domain))
+    list_on(rt, closure, form, Some(&domain))
 }
 
 fn list_on(
     rt: &HostRuntime,
     closure: &IndexedClosure,
+    form: OutputForm,
     domain: Option<&TrustDomain>,
 ) -> Result<u8, Exit> {
-    write_held(rt.alloc(), closure, domain, &mut output(rt)).map_err(CommandError::from)?;
+    let printed = match form {
+        OutputForm::Text => write_held(rt.alloc(), closure, domain, &mut output(rt)),
+        OutputForm::Json => write_held_json(rt.alloc(), closure, domain, &mut output(rt)),
+    };
+    printed.map_err(CommandError::from)?;
+    Ok(0)
+}
+
+/// Prints which document vouches for which, or what of it is of a domain.
+pub(crate) fn graph(
+    rt: &HostRuntime,
+    closure: &IndexedClosure,
+    call: &Call<'_>,
+) -> Result<u8, Exit> {
+    match given(call, OptionName::OptionalDomain) {
+        Some(domain) => graph_of(rt, closure, domain),
+        None => graph_on(rt, closure, None),
+    }
+}
+
+fn graph_of(rt: &HostRuntime, closure: &IndexedClosure, domain: &str) -> Result<u8, Exit> {
+    let domain = options::domain(rt.alloc(), domain)?;
+    graph_on(rt, closure, Some(&domain))
+}
+
+fn graph_on(
+    rt: &HostRuntime,
+    closure: &IndexedClosure,
+    domain: Option<&TrustDomain>,
+) -> Result<u8, Exit> {
+    write_graph(rt.alloc(), closure, domain, &mut output(rt)).map_err(CommandError::from)?;
     Ok(0)
 }
 
@@ -62,18 +100,9 @@ pub(crate) fn status(
     closure: &IndexedClosure,
     call: &Call<'_>,
 ) -> Result<u8, Exit> {
-    let format = status_format(given(call, OptionName::Format))?;
+    let format = read_status_format(given(call, OptionName::Format))?;
     match write_status(rt.alloc(), closure, format, &mut output(rt)) {
         Ok(is_warned) => Ok(u8::from(is_warned)),
         Err(error) => Err(Exit::Refused(CommandError::from(error))),
-    }
-}
-
-fn status_format(text: Option<&str>) -> Result<StatusFormat, Exit> {
-    match text {
-        None | Some("text") => Ok(StatusFormat::Text),
-        Some("json") => Ok(StatusFormat::Json),
-        Some("prometheus") => Ok(StatusFormat::Prometheus),
-        Some(_) => Err(Exit::Usage),
     }
 }

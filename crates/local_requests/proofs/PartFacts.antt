@@ -1,5 +1,5 @@
 -- Where the line of words ends as more bytes come, and which limits are passed.
-use Rattle.std.proofs.Common.{◌≡◌, ◌≢◌, ℕ, ◌+◌, ◌-◌, ◌<◌, ◌≤◌, List, [], ◌∷◌, ◌++◌, length, take, drop, Option, None, Some}
+use Rattle.std.proofs.Common.{◌≡◌, ◌≢◌, ℕ, ◌+◌, ◌≤◌, List, [], ◌∷◌, ◌++◌, length, take, drop, Option, None, Some}
 use Rattle.std.proofs.Common.{Result, Ok, Err, OnOk, OnErr, unwrap_or, sym, ap, ◌∙◌, subst, append_assoc, length-append, length-take, arith}
 use Rattle.std.proofs.Math.Seq.{take-append_seam, drop-append-add}
 use Rattle.std.proofs.lemmas.List.{append-nil}
@@ -7,8 +7,7 @@ use Rattle.std.proofs.lemmas.List.Elements.{All-append}
 use Rattle.byte_lines.specs.Lines.{HasNoFeed}
 use Rattle.byte_lines.specs.Inside.Ahead.{AtFeed, IsFeed}
 use Rattle.replica_requests.specs.RequestLines.{request_limit}
-use Rattle.replica_service.specs.Pieces.{IsOverlong}
-use Rattle.local_requests.specs.RequestLimits.{HasLongInput, IsBeyondLimit, IsRequest, IsWithin, IsWithinWith, PassesLimit, input_limit}
+use Rattle.local_requests.specs.RequestLimits.{IsBeyondLimit, IsRequest, IsWithin, IsWithinWith, PassesLimit}
 use Rattle.local_requests.specs.declared.request_fault.RequestFault.{RequestFault}
 use Rattle.local_requests.specs.declared.request_fault.RequestFault.TheVariants.{WordsTooLong, InputTooLong}
 

@@ -1,3 +1,9 @@
 pub mod RequestLimits
 pub mod RequestBytes
+pub mod RequestWords
 pub mod Replies
+pub mod Sending
+pub mod Journalling
+pub mod ChangeEvents
+pub mod RequestRun
+pub mod Inside

@@ -1,5 +1,5 @@
 -- When bytes are a request: the line of its words, and its input, each within its limit.
-use Rattle.std.specs.Prelude.{◌≡◌, ℕ, ◌+◌, ◌-◌, ◌<◌, ◌≤◌, ◌⊎◌, ◌++◌, ◌∷◌, ⊤, List, length, Option}
+use Rattle.std.specs.Prelude.{◌≡◌, ℕ, ◌-◌, ◌<◌, ◌≤◌, ◌++◌, ◌∷◌, ⊤, List, length, Option}
 use Rattle.std.specs.Prelude.{None, Some}
 use Rattle.byte_lines.specs.Lines.{HasNoFeed}
 use Rattle.replica_requests.specs.RequestLines.{request_limit}

@@ -1,6 +1,6 @@
 //! Why there is no reply of a command, and what is replied then.
 ghost use Rattle.std.specs.Prelude.{◌≡◌};
-ghost use Rattle.local_requests.specs.Replies.{fault_reply};
+ghost use Rattle.local_requests.specs.Replies.{words_fault, fault_reply};
 ghost use Rattle.local_requests.specs.declared.request_fault.RequestFault.TheVariants.{NoMemory};
 
 use replica_requests::RequestError;
@@ -60,6 +60,8 @@ impl From<AllocError> for RequestFault {
 }
 
 impl From<RequestError> for RequestFault {
+    ghost from_gives = { λ e fault. fault ≡ words_fault e };
+
     fn from(error: RequestError) -> RequestFault {
         match error {
             RequestError::TooLong => RequestFault::WordsTooLong,

@@ -67,6 +67,7 @@ pub(crate) fn form_of_parts(
     is_digest(&key.0);
 }
 
+// An array of bytes has a length of 32 and only bytes in it: the copy shows the prover both.
 fn is_digest(digest: &[u8; 32])
     ensures { IsDigest digest.now }
 {

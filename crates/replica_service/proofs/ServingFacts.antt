@@ -1,8 +1,8 @@
 -- Pieces of a session that serves.
-use Rattle.std.proofs.Common.{◌≡◌, ◌≢◌, ℕ, ◌+◌, ◌<◌, ◌≤◌, ◌==◌, ◌⊎◌, inl, inr, Bool, true, false, if◌then◌else◌, List, [], ◌∷◌, ◌++◌, length, map, take, drop}
+use Rattle.std.proofs.Common.{◌≡◌, ◌≢◌, ℕ, ◌+◌, ◌<◌, ◌≤◌, ◌==◌, inl, inr, Bool, true, false, if◌then◌else◌, List, [], ◌∷◌, ◌++◌, length, map, take, drop}
 use Rattle.std.proofs.Common.{Option, None, Some, refl, sym, ap, ◌∙◌, subst, append_assoc, append-nil, length-append, take-append-drop, arith}
 use Rattle.std.specs.List.{AllByRecursion, flat_map}
-use Rattle.std.proofs.lemmas.Bool.{ne_eqb, eqb-true, eq-eqb}
+use Rattle.std.proofs.lemmas.Bool.{eqb-true, eq-eqb}
 use Rattle.std.proofs.lemmas.Grind.{flat_map-append}
 use Rattle.std.proofs.lemmas.List.{map-append, take_all}
 use Rattle.std.proofs.lemmas.List.Elements.{All-append, All-from_recursion}
@@ -20,11 +20,10 @@ use Rattle.replica_core.proofs.RisingListFacts.{all_append}
 use Rattle.replica_sync.specs.FirstLines.{RefusesHaveLine}
 use Rattle.replica_sync.specs.Messages.{as_any_have, any_have_text, give_text}
 use Rattle.replica_sync.specs.Haves.{IsHaveOf, RefusesFurther}
-use Rattle.replica_sync.specs.SoleLines.{IsHaveLine}
 use Rattle.replica_service.specs.Pieces.{EndsLine, IsOverlong, PieceRun, piece_run}
-use Rattle.replica_service.specs.Serving.{AnswersAll, AnswersUpTo, HaveAndHeld, Came, CameLines, HeldLine, IsOwnHave, ServesPieces}
+use Rattle.replica_service.specs.Serving.{AnswersAll, HaveAndHeld, Came, CameLines, HeldLine, IsOwnHave, ServesPieces}
 use Rattle.replica_service.specs.Serving.{gives_in_turn, line_of_have, lines_came, lines_with, with_held}
-use Rattle.replica_service.specs.Inside.ServingSteps.{AnswersLine, EndsHave, GoesOnWithHave, RefusesPiece, TakesHave}
+use Rattle.replica_service.specs.Inside.ServingSteps.{AnswersLine, RefusesPiece, TakesHave}
 use Rattle.replica_service.proofs.CutFacts.{ended_split, lines_of-kept}
 
 -- ---- one piece more

@@ -21,6 +21,10 @@ pub record Came : Type 0 where
 abbrev pub bytes_of : List Came → List ℕ
 bytes_of came = flat_map (λ (c : Came). c.bytes) came
 
+-- While they came this was held.
+abbrev pub IsStill : Meaning → List Came → Type 0
+IsStill m came = AllByRecursion (λ (c : Came). c.held ≡ m) came
+
 -- a whole line, and what was held when its line feed came
 pub record HeldLine : Type 0 where
   pub text : List ℕ

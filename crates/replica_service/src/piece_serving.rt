@@ -1,7 +1,6 @@
 //! Haves that come in pieces, and the answers to them.
 ghost use Rattle.std.specs.Prelude.{◌≡◌, ◌+◌, ◌≤◌, ◌<◌, ◌++◌, ◌⊎◌, [], ◌∷◌, List, ℕ, IfOk, IfErr};
 ghost use Rattle.std.specs.Prelude.{OnOk, None, Some, length, take, drop, vec_len, MatchResult};
-ghost use Rattle.receipt_core.specs.Acceptance.{Meaning};
 ghost use Rattle.replica_core.specs.Session.{give_of};
 ghost use Rattle.replica_core.specs.declared.error.SyncError.TheVariants.{Truncated};
 ghost use Rattle.replica_sync.specs.FirstLines.{RefusesHaveLine};

@@ -18,7 +18,7 @@ mod IdListFacts
 mod FirstLineFacts
 mod FeedlessFacts
 mod OneHaveFacts
-mod ContentFacts
+pub mod ContentFacts
 mod GatherFacts
 pub mod GiveTakingFacts
 mod GiveFacts

@@ -31,7 +31,7 @@ use Rattle.replica_sync.proofs.WrittenPieceFacts.{begins-second}
 -- ---- one answer more
 
 -- One answer more, about the next bucket.
-gives_more : (config : Configuration) (start bucket : ℕ) (gives : List GiveMessage) (give : GiveMessage)
+pub gives_more : (config : Configuration) (start bucket : ℕ) (gives : List GiveMessage) (give : GiveMessage)
     → bucket ≡ start + length gives → AreGives config start gives → IsGiveAbout config bucket give
     → AreGives config start (gives ++ give ∷ [])
 gives_more config start bucket [] give e h one = let same : bucket ≡ start = omega (arith, e) in (subst (λ (b : ℕ). IsGiveAbout config b give) same one, tt)
@@ -42,7 +42,7 @@ gives_more config start bucket (first ∷ gives) give e h one = (
 )
 
 -- One have more, with the ids that are held then.
-haves_more : (config : Configuration) (start bucket : ℕ) (state : State) (gives : List GiveMessage) (give : GiveMessage) → bucket ≡ start + length gives
+pub haves_more : (config : Configuration) (start bucket : ℕ) (state : State) (gives : List GiveMessage) (give : GiveMessage) → bucket ≡ start + length gives
     → haves_of config start state (gives ++ give ∷ [])
     ≡ haves_of config start state gives ++ have_in config (after_gives state gives) bucket ∷ []
 haves_more config start bucket state [] give e = let same : start ≡ bucket = omega (arith, e) in ap (λ (b : ℕ). have_in config state b ∷ []) same
@@ -128,7 +128,7 @@ begins_all : (a b : Option (List ℕ)) (text : List ℕ) → Appends a b text �
 begins_all a b text p = (length text, subst (Appends a b) (sym (take_all (length text) text (omega arith))) p)
 
 -- What was written whole is written, whatever the fault.
-written_all : (e : SyncError) (a b : Option (List ℕ)) (text : List ℕ) → Appends a b text → IsWritten e a b text
+pub written_all : (e : SyncError) (a b : Option (List ℕ)) (text : List ℕ) → Appends a b text → IsWritten e a b text
 written_all BadHeader a b text p = p
 written_all ConfigDiffers a b text p = p
 written_all VersionDiffers a b text p = p

@@ -10,7 +10,7 @@ use Rattle.replica_core.specs.Session.{state_of}
 use Rattle.std.proofs.KnownBytes.{Consumes-nil}
 use Rattle.replica_core.proofs.RisingListFacts.{rising_nil}
 use Rattle.replica_sync.specs.Snapshots.{last_of, text_of_lines}
-use Rattle.replica_sync.specs.Entries.{IsWanted, RefusesEntryLine, entry_line, placed_line}
+use Rattle.replica_sync.specs.Entries.{IsNextEntry, IsWanted, RefusesEntryLine, entry_line, placed_line}
 use Rattle.replica_sync.specs.Inside.EntrySteps.{TakesEntryText}
 use Rattle.replica_core.specs.Absorbing.{with_entry}
 use Rattle.replica_core.specs.declared.entry.Entry.{Entry}
@@ -52,7 +52,7 @@ so_far_none old stream count distrusts first last none = record {
 }
 
 -- The line that comes next by the numbers is the one that is wanted.
-wants : (wanted : Wanted) (count distrusts : ℕ) (content : State) (receipts records receipts_then records_then : ℕ)
+pub wants : (wanted : Wanted) (count distrusts : ℕ) (content : State) (receipts records receipts_then records_then : ℕ)
     → IsNextOf receipts records wanted receipts_then records_then
     → length content.held + receipts ≡ count → length content.records + records ≡ distrusts → Wants count distrusts content wanted
 wants Records count distrusts content receipts records receipts_then records_then h p q = let one = h.0 in omega arith
@@ -187,6 +187,49 @@ so_far_more wanted old stream count distrusts first receipts records receipts_th
       receipts_due = c_held ∙ due;
       records_due = c_records ∙ records_due;
       read_is = omega (arith, c_more, before, is_then);
+    }
+
+-- Nothing is a beginning of every answer.
+pub begun_none : (count distrusts : ℕ) → IsBegun count distrusts no_state
+begun_none count distrusts = record {
+  valid = record { receipts = tt; records = tt };
+  records = omega arith;
+  receipts = omega arith;
+  order = λ h. refl;
+  rising = rising_nil text_cmp;
+}
+
+-- what one line more makes of a beginning of an answer
+pub record BegunMore (count distrusts : ℕ) (content : State) (receipts_then records_then : ℕ) (text : List ℕ) (entry : Entry) : Type 0 where
+  pub begun : IsBegun count distrusts (pushed entry content)
+  pub place : HasPlace entry content
+  pub lines : content_lines (pushed entry content) ≡ content_lines content ++ text ∷ []
+  pub last : text ≡ last_of (content_lines (pushed entry content))
+  pub receipts_due : length (pushed entry content).held + receipts_then ≡ count
+  pub records_due : length (pushed entry content).records + records_then ≡ distrusts
+  pub one_more : length (pushed entry content).records + length (pushed entry content).held ≡ length content.records + length content.held + 1
+
+-- The next line makes the beginning longer by what it says.
+pub begun_more : (wanted : Wanted) (count distrusts : ℕ) (content : State) (receipts records receipts_then records_then : ℕ) (text : List ℕ) (entry : Entry)
+    → IsBegun count distrusts content → length content.held + receipts ≡ count → length content.records + records ≡ distrusts
+    → IsNextOf receipts records wanted receipts_then records_then → IsNextEntry wanted (last_of (content_lines content)) text entry
+    → BegunMore count distrusts content receipts_then records_then text entry
+begun_more wanted count distrusts content receipts records receipts_then records_then text entry begun due records_due order next =
+    let w = wants wanted count distrusts content receipts records receipts_then records_then order due records_due in
+    let place = has_place wanted entry count distrusts content next.is.is begun w in
+    let lines : content_lines (pushed entry content) ≡ content_lines content ++ text ∷ [] =
+    lines_pushed entry content place ∙ ap (λ (l : List ℕ). content_lines content ++ l ∷ []) (sym next.is.spelt) in
+    let rising : IsStrictlySortedBy text_cmp (content_lines (pushed entry content)) =
+    subst (IsStrictlySortedBy text_cmp) (sym lines) (rising_pushed (content_lines content) text begun.rising next.above) in
+    let c = counted wanted entry content receipts records receipts_then records_then next.is.is order in
+    record {
+      begun = begun_pushed wanted entry count distrusts content next.is.is begun w rising;
+      place = place;
+      lines = lines;
+      last = sym (ap last_of lines ∙ last_pushed (content_lines content) text);
+      receipts_due = c.held ∙ due;
+      records_due = c.records_held ∙ records_due;
+      one_more = c.one_more;
     }
 
 -- ---- why it stops

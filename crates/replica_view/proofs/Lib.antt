@@ -1,2 +1,3 @@
 pub mod OfferFacts
 pub mod MadeLineFacts
+mod GraphFacts

@@ -4,9 +4,12 @@
 //! - `words = LINE`: the words of a request's first line, each on a line,
 //! - `line WORDS`: the first line of a request with these words,
 //! - `reply = LINE`: what a reply's first line says,
-//! - `head ERRORS OUTPUT STATUS`: the first line of a reply with these numbers.
+//! - `head ERRORS OUTPUT STATUS`: the first line of a reply with these numbers,
+//! - `parts SIZE = BYTES`: the words and the input of a request that comes in pieces of this size,
+//! - `fault NAME`: what is replied for a fault.
 #![tactic(auto)]
 
+mod parts;
 mod replies;
 mod requests;
 
@@ -37,6 +40,8 @@ impl Rows for Calls {
             "line" => requests::write(self.alloc, row.words, answer),
             "reply" => replies::read(self.alloc, text, answer),
             "head" => replies::write(self.alloc, row.words, answer),
+            "parts" => parts::take(self.alloc, row.words, text, answer),
+            "fault" => parts::reply(self.alloc, row.words, answer),
             _ => answer.push_str("unknown verb\n"),
         }
     }

@@ -2,7 +2,7 @@
 use Rattle.std.proofs.Common.{◌≡◌, ◌<◌, ◌≤◌, ◌+◌, ℕ, suc, Bool, true, List, [], ◌∷◌, ◌++◌, length, get_or, drop, flat_map, sym, ap, ◌∙◌}
 use Rattle.std.proofs.Common.{append_assoc, append-nil, add-one, drop-cons}
 use Rattle.std.proofs.lemmas.List.{drop_all}
-use Rattle.status_view.specs.StatusJson.{comma_where, parted_texts}
+use Rattle.json_text.specs.JsonText.{comma_where, parted_texts}
 
 -- two pieces, one after the other, are one
 pub two : (o x y first second : List ℕ) → first ≡ o ++ x → second ≡ first ++ y → second ≡ o ++ (x ++ y)

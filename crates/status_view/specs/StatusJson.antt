@@ -1,32 +1,13 @@
 -- A status as compact JSON. A domain's name and digits need no escape in it.
-use Rattle.std.specs.Prelude.{ℕ, List, [], ◌∷◌, ◌++◌, Bool, true, false}
-use Rattle.std.specs.Prelude.{codes, decimal, Option, Some, None}
+use Rattle.std.specs.Prelude.{ℕ, List, ◌++◌, false, codes, decimal, Option, Some, None}
 use Rattle.hex.specs.Hex.{encode_lower}
+use Rattle.json_text.specs.JsonText.{number_or_null, parted_texts, true_or_false}
 use Rattle.status_view.specs.declared.status.Status.{Status}
 use Rattle.status_view.specs.declared.status.DomainStatus.{DomainStatus}
 use Rattle.status_view.specs.declared.status.CurrentStatus.{CurrentStatus}
 use Rattle.status_view.specs.declared.status.KeyStatus.{KeyStatus}
 use Rattle.status_view.specs.declared.status.KeylessSeed.{KeylessSeed}
 use Rattle.status_view.specs.Status.{has_warning}
-
-abbrev pub comma_where : Bool → List ℕ
-comma_where true = codes ","
-comma_where false = []
-
--- the texts of the items, with a comma before each but the first; before that too where something
--- stands there
-abbrev pub parted_texts : {A : Type 0} → (A → List ℕ) → Bool → List A → List ℕ
-parted_texts text later [] = []
-parted_texts text later (x ∷ items) =
-    comma_where later ++ (text x ++ parted_texts text true items)
-
-abbrev pub number_or_null : Option ℕ → List ℕ
-number_or_null None = codes "null"
-number_or_null (Some n) = decimal n
-
-abbrev pub true_or_false : Bool → List ℕ
-true_or_false true = codes "true"
-true_or_false false = codes "false"
 
 abbrev pub key_json : KeyStatus → List ℕ
 key_json k = codes "{\"id\":\""

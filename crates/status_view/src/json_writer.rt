@@ -1,13 +1,14 @@
 //! A status as compact JSON.
 ghost use Rattle.std.specs.Prelude.{◌≡◌, ◌++◌, false, IfOk, OnOk};
-ghost use Rattle.status_view.specs.StatusJson.{bundle_json, comma_where, counts_json};
-ghost use Rattle.status_view.specs.StatusJson.{current_json, domain_json, key_json, keyless_json};
-ghost use Rattle.status_view.specs.StatusJson.{number_or_null, parted_texts, status_json};
-ghost use Rattle.status_view.specs.StatusJson.{status_members, true_or_false};
+ghost use Rattle.json_text.specs.JsonText.{parted_texts};
+ghost use Rattle.status_view.specs.StatusJson.{bundle_json, counts_json, current_json};
+ghost use Rattle.status_view.specs.StatusJson.{domain_json, key_json, keyless_json, status_json};
+ghost use Rattle.status_view.specs.StatusJson.{status_members};
 
 use crate::standing::has_warning;
 use crate::status::{CurrentStatus, DomainStatus, KeyStatus, KeylessSeed, Status};
 use byte_lines::{push_digits, push_number};
+use json_text::{push_bool, push_comma, push_number_or_null};
 use std::alloc::{AllocError, Global};
 
 /// The status as a compact JSON object, whose members are in this order, and a line feed:
@@ -161,32 +162,4 @@ fn push_keyless_seed(out: &mut Vec<u8>, seed: &KeylessSeed) -> Result<(), AllocE
     out.extend_from_slice(b"\",\"id\":\"")?;
     push_digits(out, &seed.id.0)?;
     out.extend_from_slice(b"\"}")
-}
-
-fn push_comma(out: &mut Vec<u8>, later: bool) -> Result<(), AllocError>
-    ensures { OnOk result (out.new.items ≡ out.old.items ++ comma_where later) }
-{
-    if later {
-        out.extend_from_slice(b",")?;
-    }
-    Ok(())
-}
-
-fn push_number_or_null(out: &mut Vec<u8>, number: Option<u64>) -> Result<(), AllocError>
-    ensures { OnOk result (out.new.items ≡ out.old.items ++ number_or_null number) }
-{
-    match number {
-        Some(number) => push_number(out, number),
-        None => out.extend_from_slice(b"null"),
-    }
-}
-
-fn push_bool(out: &mut Vec<u8>, value: bool) -> Result<(), AllocError>
-    ensures { OnOk result (out.new.items ≡ out.old.items ++ true_or_false value) }
-{
-    if value {
-        out.extend_from_slice(b"true")
-    } else {
-        out.extend_from_slice(b"false")
-    }
 }

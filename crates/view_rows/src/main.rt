@@ -11,9 +11,15 @@
 //!   and another that was given the text of this name.
 //! - `status CONFIG FORMAT = LINES`: what is printed of how that replica stands, in one of the
 //!   formats `text`, `json` and `prometheus`, and whether there is a warning.
+//! - `config-json = CONFIGURATION`, `canon-json DOMAIN = DOCUMENT`, `list-json CONFIG = LINES`,
+//!   `list-json CONFIG DOMAIN = LINES`, `report-json CONFIG = LINES`, `explain-json CONFIG DOMAIN
+//!   NAME = LINES` and `polls-json CONFIG SECONDS NAME = LINES`: what is printed as JSON, where the
+//!   text of NAME is a document, and the polls that were made.
+//! - `graph CONFIG = LINES`, `graph CONFIG DOMAIN = LINES`: which graph is printed of that replica.
 #![tactic(auto)]
 
 mod configurations;
+mod json_shown;
 mod states;
 
 use row_script::{Row, Rows, Script};
@@ -45,8 +51,27 @@ impl Rows for Calls {
             "list" => list(self.alloc, script, row.words, text, answer),
             "diff" => diff(self.alloc, script, row.words, text, answer),
             "status" => status(self.alloc, script, row.words, text, answer),
-            _ => answer.push_str("unknown verb\n"),
+            _ => json(self.alloc, script, row, answer),
         }
+    }
+}
+
+fn json(
+    alloc: Global,
+    script: &Script,
+    row: &Row<'_>,
+    answer: &mut String,
+) -> Result<(), AllocError> {
+    let (words, text) = (row.words, row.text.as_slice());
+    match row.verb {
+        "config-json" => json_shown::config(alloc, script, text, answer),
+        "canon-json" => json_shown::document(alloc, script, words, text, answer),
+        "list-json" => json_shown::held::<IndexedClosure>(alloc, script, words, text, answer),
+        "report-json" => json_shown::report::<IndexedClosure>(alloc, script, words, text, answer),
+        "explain-json" => json_shown::chain::<IndexedClosure>(alloc, script, words, text, answer),
+        "polls-json" => json_shown::polls::<IndexedClosure>(alloc, script, words, text, answer),
+        "graph" => json_shown::graph::<IndexedClosure>(alloc, script, words, text, answer),
+        _ => answer.push_str("unknown verb\n"),
     }
 }
 

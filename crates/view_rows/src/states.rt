@@ -118,8 +118,8 @@ fn show_status<C: Closure>(
     script.show_lines(sink.as_bytes(), answer)
 }
 
-// A replica of the configuration of this name that was given the lines, unless one is refused.
-fn replica_of<C: Closure>(
+/// A replica of the configuration of this name that was given the lines, unless one is refused.
+pub(crate) fn replica_of<C: Closure>(
     alloc: Global,
     script: &Script,
     config: &str,

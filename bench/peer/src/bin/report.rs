@@ -1,6 +1,8 @@
 //! `fedbundle report --config CONFIG` in plain Rust, to measure against: it reads receipts on standard input, follows
 //! from the configured documents what each accepted one vouches for, with hash maps and a work list, and prints the
-//! report. Only the configuration is given as a word. Of its URLs nothing is asked.
+//! report. The configuration is given as a word. Of its URLs nothing is asked. With a second word, which is a number, it
+//! makes that many reports of what it took of a file that is the third, prints the last one, and on standard error the
+//! nanoseconds of processors for all takes and for all reports.
 use peer::document::{read_document, Document, Id};
 use serde_json::Value;
 use sha2::{Digest, Sha256};
@@ -58,6 +60,9 @@ fn main() -> Result<(), Box<dyn Error>> {
     let value: Value = serde_json::from_slice(&std::fs::read(path)?)?;
     let mut store = Store::default();
     let config = read_config(value, &mut store)?;
+    if let (Some(reports), Some(path)) = (std::env::args().nth(2), std::env::args().nth(3)) {
+        return time_calls(&config, &mut store, &std::fs::read(path)?, reports.parse()?);
+    }
     let mut refused = 0;
     let mut line = Vec::new();
     let mut input = std::io::stdin().lock();
@@ -80,6 +85,30 @@ fn main() -> Result<(), Box<dyn Error>> {
     let report = report(&config, &store);
     std::io::stdout().lock().write_all(report.as_bytes())?;
     std::process::exit(if refused == 0 { 0 } else { 1 })
+}
+
+extern "C" {
+    // Of the C library, which counts microseconds.
+    fn clock() -> i64;
+}
+
+/// The nanoseconds of processors that this process has used.
+fn used() -> i64 {
+    unsafe { clock() * 1_000 }
+}
+
+fn time_calls(config: &Config, store: &mut Store, text: &[u8], reports: u32) -> Result<(), Box<dyn Error>> {
+    let begun = used();
+    for line in text.split(|byte| *byte == b'\n').filter(|line| !line.is_empty()) {
+        take(config, store, line)?;
+    }
+    let taken = used();
+    let mut last = String::new();
+    for _ in 0..reports {
+        last = report(config, store);
+    }
+    eprintln!("{} {}", taken - begun, used() - taken);
+    Ok(std::io::stdout().lock().write_all(last.as_bytes())?)
 }
 
 fn text_of<'a>(value: &'a Value, name: &str) -> Result<&'a str, &'static str> {

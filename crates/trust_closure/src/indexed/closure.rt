@@ -71,6 +71,7 @@ impl IndexedClosure {
         IndexedClosure::begin(alloc, config, Some(Order::new(alloc)))
     }
 
+    /// Holds the configured documents alone. The order of buckets is this, if it is to be kept.
     fn begin(alloc: Global, config: &Config, buckets: Option<Order>) -> Result<Self, NoMemory>
         requires { IfSome buckets (λ order. order.items ≡ []) }
         ensures empty { IfOk result (λ c. c.state.meaning ≡ empty_of config.now) }

@@ -36,7 +36,7 @@ pub(crate) enum Lookup {
 
 /// The configuration, the receipts in order of arrival, beside their order by lines, and the
 /// records of distrust in their order. Where receipts are exchanged, also the order of the receipts
-/// by the first byte of their ids, which they keep then: no other closure computes an id.
+/// by the first byte of their ids, which they keep then.
 #[derive(Drop)]
 pub(crate) struct Held {
     config: Config,

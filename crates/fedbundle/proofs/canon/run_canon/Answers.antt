@@ -12,7 +12,7 @@ returns-in_err-bytes-clause-sound g c =
 pub returns-in_err-bytes-clause-runs : goal.returns-in_err-bytes-clause-runs
 returns-in_err-bytes-clause-runs g c =
     let exit = err_from_is_err_and c.from_residual.result c.from_residual.ensures.1 in
-    rw (exit.1, exit.2) (canon_unread _ _ c.in_err-bytes.field-0.0 (λ io. c.in_err-bytes.ensures.io (ap Err io)) refl)
+    rw (exit.1, exit.2) (canon_unread _ _ _ c.in_err-bytes.field-0.0 (λ io. c.in_err-bytes.ensures.io (ap Err io)) refl)
 
 pub returns-in_err-document-clause-runs : goal.returns-in_err-document-clause-runs
 returns-in_err-document-clause-runs g c =

@@ -15,5 +15,5 @@ returns c =
       entered = ap (λ a. subcommand_of a words) (sym c.in_ok-command.ensures) ∙ sym parse.1
           ∙ joined_parts _ _ _ c.in-Some.word.now rows c.in-Some.ensures.name c.in-Some.ensures.rows ∙ ap (λ w. Some (w, rows)) c.in-Some-name_of.ensures;
       given = ap (map (given rows)) (sym c.options-wanted.ensures) ∙ c.in_ok-texts.ensures;
-      settled = ap (list_all (is_settled_in rows)) (sym c.options-wanted.ensures) ∙ sym c.are_settled.ensures ∙ search rules;
+      settled = ap (list_all (is_settled_in c.args.place rows)) (sym c.options-wanted.ensures) ∙ sym c.are_settled.ensures ∙ search rules;
     }

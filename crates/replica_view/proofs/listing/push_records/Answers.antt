@@ -13,6 +13,6 @@ pub loop-domain-preserved : goal.loop-domain-preserved
 loop-domain-preserved g c =
     lines_more _ _ c.into_iter-domain-iterator.result c.loop-domain.domain-iterator c.next.new.self
     (record { domain = c.in-Some.domain.now; key = c.in-Some.key.now })
-    c.args.lines.now.items c.loop-domain.lines.items c.in-Some.ensures.steps c.loop-domain.invariant c.push_record.new.lines.items
+    c.args.lines.now.items c.loop-domain.lines.items c.in-Some.ensures.steps c.loop-domain.invariant c.push_shown_record.new.lines.items
     (not_passed_record (option_copied c.args.chosen) c.is_left_aside.result _ c.is_left_aside.ensures c.if-is_left_aside.false)
-    c.in_ok-push_record.ensures
+    c.in_ok-push_shown_record.ensures

@@ -1,6 +1,7 @@
 use Rattle.std.proofs.Common.{◌++◌, ◌∙◌, ap, codes, false}
 use Rattle.hex.specs.Hex.{encode_lower}
-use Rattle.status_view.specs.StatusJson.{key_json, number_or_null, parted_texts}
+use Rattle.json_text.specs.JsonText.{number_or_null, parted_texts}
+use Rattle.status_view.specs.StatusJson.{key_json}
 use Rattle.status_view.proofs.PieceFacts.{two}
 use Rattle.status_view.proofs.json_writer.push_bundle.Goals as goal
 

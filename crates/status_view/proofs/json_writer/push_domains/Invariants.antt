@@ -1,5 +1,6 @@
 use Rattle.std.proofs.Common.{◌≡◌, ◌++◌, drop, false}
-use Rattle.status_view.specs.StatusJson.{domain_json, parted_texts}
+use Rattle.json_text.specs.JsonText.{parted_texts}
+use Rattle.status_view.specs.StatusJson.{domain_json}
 use Rattle.status_view.proofs.json_writer.push_domains.Given as goal
 
 abbrev pub invariant-loop-domain : goal.invariant-loop-domain

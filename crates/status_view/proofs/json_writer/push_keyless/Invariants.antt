@@ -1,5 +1,6 @@
 use Rattle.std.proofs.Common.{◌≡◌, ◌++◌, drop, false}
-use Rattle.status_view.specs.StatusJson.{keyless_json, parted_texts}
+use Rattle.json_text.specs.JsonText.{parted_texts}
+use Rattle.status_view.specs.StatusJson.{keyless_json}
 use Rattle.status_view.proofs.json_writer.push_keyless.Given as goal
 
 abbrev pub invariant-loop-seed : goal.invariant-loop-seed

@@ -1,6 +1,7 @@
 use Rattle.std.proofs.Common.{◌++◌, ◌∙◌, ap, codes, false}
 use Rattle.status_view.specs.Status.{has_warning}
-use Rattle.status_view.specs.StatusJson.{counts_json, domain_json, keyless_json, parted_texts, true_or_false}
+use Rattle.json_text.specs.JsonText.{parted_texts, true_or_false}
+use Rattle.status_view.specs.StatusJson.{counts_json, domain_json, keyless_json}
 use Rattle.status_view.proofs.PieceFacts.{two}
 use Rattle.status_view.proofs.json_writer.push_status_members.Goals as goal
 

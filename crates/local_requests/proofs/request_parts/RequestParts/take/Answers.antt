@@ -1,4 +1,4 @@
-use Rattle.std.proofs.Common.{rules, ◌≡◌, ◌+◌, ◌++◌, length, arith}
+use Rattle.std.proofs.Common.{◌≡◌, ◌+◌, length, arith}
 use Rattle.std.proofs.lemmas.Result.{err_from_is_err_and}
 use Rattle.local_requests.proofs.PartFacts.{kept_right, passes_with}
 use Rattle.local_requests.proofs.request_parts.RequestParts.take.Goals as goal

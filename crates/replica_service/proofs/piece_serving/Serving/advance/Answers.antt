@@ -1,6 +1,5 @@
 use Rattle.std.proofs.Common.{◌++◌, subst}
 use Rattle.std.proofs.lemmas.Result.{err_from_is_err_and}
-use Rattle.replica_sync.specs.FirstLines.{RefusesHaveLine}
 use Rattle.replica_service.specs.Pieces.{EndsLine, IsOverlong, ended_line, kept_part, piece_run}
 use Rattle.replica_service.proofs.ServingFacts.{ended_refused, overlong_refused}
 use Rattle.replica_service.proofs.piece_serving.Serving.advance.Goals as goal

@@ -1,0 +1,166 @@
+"""Measures a replica that stays: how long its local requests take, how many bundles it acknowledges in a second, and what
+it holds.
+
+Each client speaks to the socket itself, one connection for each request, so that no start of a program is in a time. The
+disk is that of the temporary folder. The bundles that are observed list the key of the last one that is held, so any of
+them vouches for the next one.
+
+words: [COUNT [REQUESTS]]   how many usual receipts are held at first, 61440 if left out, and how often each request is
+                            made, 1000 if left out; a replica holds 65,536 at most
+"""
+import base64
+import hashlib
+import json
+import os
+import socket
+import statistics
+import subprocess
+import tempfile
+import threading
+import time
+from pathlib import Path
+
+from building import built_program, stop
+from receipts import DOMAIN, ENDPOINT, config_text, lines
+
+LEAST_EVERY = 1
+
+
+def ask(path, words, text=b""):
+    """The reply's status and output, and how long it took."""
+    begun = time.perf_counter()
+    with socket.socket(socket.AF_UNIX) as stream:
+        stream.connect(str(path))
+        stream.sendall(json.dumps(words).encode() + b"\n" + text)
+        stream.shutdown(socket.SHUT_WR)
+        reply = b"".join(iter(lambda: stream.recv(1 << 20), b""))
+    took = time.perf_counter() - begun
+    head, _, rest = reply.partition(b"\n")
+    head = json.loads(head)
+    if head["status"] != 0:
+        stop(f"{words}: {reply[:200]}")
+    return rest[: head["output"]], took
+
+
+class Held:
+    """The state of a replica, and the bundles that it may observe."""
+
+    def __init__(self, folder, count):
+        self.folder = folder
+        (folder / "config").write_text(config_text())
+        digest = hashlib.sha256(config_text().encode()).hexdigest()
+        chain = list(lines("usual", count))
+        with (folder / "state").open("w") as file:
+            file.write(f'{{"config":"{digest}","format":2}}\n')
+            file.writelines(sorted(chain))
+            file.write(f'{{"count":{count},"distrusts":0}}\n')
+        self.last = json.loads(chain[-1])["doc"]
+        first = next(key for key in self.last["keys"] if "x5c" in key)
+        self.key = hashlib.sha256(base64.b64decode(first["x5c"][0])).hexdigest()
+        self.sequence = self.last["spiffe_sequence"]
+
+    def next_bundle(self):
+        self.sequence += 1
+        return json.dumps({**self.last, "spiffe_sequence": self.sequence}).encode()
+
+    def words(self):
+        return ["observe", "--domain", DOMAIN, "--endpoint", ENDPOINT, "--key", self.key]
+
+
+def free_address():
+    with socket.socket() as probe:
+        probe.bind(("127.0.0.1", 0))
+        return f"127.0.0.1:{probe.getsockname()[1]}"
+
+
+def start(program, folder, name, *words):
+    begun = time.perf_counter()
+    process = subprocess.Popen(
+        [program, "replica", "--config", folder / "config", "--state", folder / name, "--socket", folder / f"{name}.socket",
+         "--new", *words], stdout=subprocess.PIPE, stderr=subprocess.PIPE)
+    if not process.stdout.readline().startswith(b"ready "):
+        stop("the replica does not begin: " + process.stderr.read().decode())
+    return process, time.perf_counter() - begun
+
+
+def memory(process, what):
+    for line in Path(f"/proc/{process.pid}/status").read_text().splitlines():
+        if line.startswith(what):
+            return int(line.split()[1]) * 1024
+    return 0
+
+
+def percentiles(times):
+    ordered = sorted(times)
+    return statistics.median(ordered), ordered[int(len(ordered) * 0.99)]
+
+
+def print_times(name, times):
+    median, most = percentiles(times)
+    print(f"{name:<28} {1000 * median:>9.3f} {1000 * most:>9.3f}", flush=True)
+
+
+def sync_times(folder, count):
+    """How long the disk takes for an append of a receipt's size and its sync, without a replica."""
+    times = []
+    with open(folder / "probe", "wb", buffering=0) as file:
+        for _ in range(count):
+            begun = time.perf_counter()
+            file.write(bytes(4_000))
+            os.fdatasync(file.fileno())
+            times.append(time.perf_counter() - begun)
+    return times
+
+
+def observed_a_second(held, path, clients, each):
+    """How many bundles so many clients have acknowledged in a second."""
+    bundles = [[held.next_bundle() for _ in range(each)] for _ in range(clients)]
+
+    def run(own):
+        for text in own:
+            ask(path, held.words(), text)
+
+    threads = [threading.Thread(target=run, args=(own,)) for own in bundles]
+    begun = time.perf_counter()
+    for thread in threads:
+        thread.start()
+    for thread in threads:
+        thread.join()
+    return clients * each / (time.perf_counter() - begun)
+
+
+def next_pull(replica):
+    """The line that reports the next session."""
+    for line in replica.stderr:
+        if line.startswith(b"event=pull"):
+            return line.decode().strip()
+    stop("no session is reported")
+
+
+def main(words):
+    count = int(words[0]) if words else 61_440
+    requests = int(words[1]) if len(words) > 1 else 1_000
+    program = built_program()
+    with tempfile.TemporaryDirectory(prefix="fedbundle-") as folder:
+        folder = Path(folder)
+        held = Held(folder, count)
+        address = free_address()
+        replica, began = start(program, folder, "state", "--listen", address, "--every", "86400")
+        path = folder / "state.socket"
+        print(f"{count} usual receipts are held; {(folder / 'state').stat().st_size} bytes of state")
+        print(f"from the start to ready: {began:.2f} s; held then: {memory(replica, 'VmRSS') / 2**20:.0f} MiB")
+        print(f"{'ms':<28} {'median':>9} {'99 %':>9}")
+        print_times("append and sync of 4,000 B", sync_times(folder, requests))
+        print_times("bundle", [ask(path, ["bundle", "--domain", DOMAIN])[1] for _ in range(requests)])
+        print_times("observe", [ask(path, held.words(), held.next_bundle())[1] for _ in range(requests)])
+        for clients in (1, 16):
+            rate = observed_a_second(held, path, clients, requests // clients)
+            print(f"acknowledged a second, {clients:>2} clients: {rate:.0f}", flush=True)
+        other, _ = start(program, folder, "other", "--peers", address, "--every", str(LEAST_EVERY))
+        first, idle = (next_pull(other) for _ in range(2))
+        print(f"a pull of all: {first}\na pull between equal replicas: {idle}")
+        other.kill()
+        print(f"most held: {memory(replica, 'VmHWM') / 2**20:.0f} MiB")
+        replica.kill()
+        replica.wait()
+        other.wait()

@@ -1,0 +1,3 @@
+module fedbundle.example/fedbundle
+
+go 1.19

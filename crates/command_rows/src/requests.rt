@@ -1,0 +1,160 @@
+//! The same words as a request to a running replica, which has the configuration and the state
+//! itself. What is held afterwards is read back from the state and the lines of the journal.
+use crate::commands::Case;
+use crate::devices::{AMPLE_ROOM, Devices};
+use crate::words::split_words;
+use byte_lines::{FromRead, MemSink, write_all};
+use closure_core::Closure;
+use fed_config::Config;
+use fedbundle::{Call, CommandError, CommandName, OptionName, given, read_words};
+use local_requests::{Reply, answer_request, request_words};
+use replica_requests::write_request_words;
+use replica_service::{begin_journal, read_journal};
+use replica_sync::{read_snapshot, write_snapshot};
+use std::alloc::{AllocError, Global};
+
+/// A running replica: its configuration, and the text of its state file, if there is one.
+#[derive(Clone, Copy)]
+struct Running<'a> {
+    alloc: Global,
+    config: &'a Config,
+    file: Option<&'a [u8]>,
+}
+
+/// Asks a running replica where it can be asked so, and returns whether it was. What it replied is
+/// in the devices then.
+pub(crate) fn ask<C: Closure>(
+    case: &Case<'_>,
+    devices: &mut Devices,
+) -> Result<bool, CommandError> {
+    let words = split_words(case.alloc, case.words)?;
+    match read_words(case.alloc, words.as_slice()) {
+        Ok(call) => ask_call::<C>(case, &call, devices),
+        Err(_) => Ok(false),
+    }
+}
+
+fn ask_call<C: Closure>(
+    case: &Case<'_>,
+    call: &Call<'_>,
+    devices: &mut Devices,
+) -> Result<bool, CommandError> {
+    let config = given(call, OptionName::Config).and_then(|name| case.script.text(name));
+    match (config, given(call, OptionName::State)) {
+        (Some(config), Some(state)) if is_for_replicas(call) => {
+            ask_under::<C>(case, call, config, case.script.text(state), devices)
+        }
+        _ => Ok(false),
+    }
+}
+
+// Of three commands a replica prints lines alone, and refuses words that say a format.
+fn is_for_replicas(call: &Call<'_>) -> bool {
+    match call.name {
+        CommandName::Report | CommandName::Explain | CommandName::Polls => {
+            given(call, OptionName::FileFormat).is_none()
+        }
+        CommandName::Status
+        | CommandName::Bundle
+        | CommandName::Observe
+        | CommandName::Merge
+        | CommandName::Distrust => true,
+        _ => false,
+    }
+}
+
+fn ask_under<C: Closure>(
+    case: &Case<'_>,
+    call: &Call<'_>,
+    config: &[u8],
+    file: Option<&[u8]>,
+    devices: &mut Devices,
+) -> Result<bool, CommandError> {
+    // A replica does not start where either is refused.
+    let Ok(config) = Config::read(case.alloc, config) else {
+        return Ok(false);
+    };
+    let running = Running {
+        alloc: case.alloc,
+        config: &config,
+        file,
+    };
+    let Ok(mut closure) = load::<C>(running) else {
+        return Ok(false);
+    };
+    ask_replica(running, &mut closure, call, case.input, devices)?;
+    Ok(true)
+}
+
+fn load<C: Closure>(running: Running<'_>) -> Result<C, CommandError> {
+    match running.file {
+        Some(text) => Ok(read_snapshot(running.alloc, running.config, &mut FromRead::new(text))?),
+        None => Ok(C::new(running.alloc, running.config)?),
+    }
+}
+
+fn ask_replica<C: Closure>(
+    running: Running<'_>,
+    closure: &mut C,
+    call: &Call<'_>,
+    input: &[u8],
+    devices: &mut Devices,
+) -> Result<(), CommandError> {
+    let before = snapshot(running.alloc, closure)?;
+    let line = line_of(running.alloc, call)?;
+    let bytes = running.file.map_or(0, |text| text.len()) as u64;
+    let Ok(reply) = answer_request(running.alloc, closure, bytes, line.as_bytes(), input) else {
+        return Err(CommandError::NoMemory);
+    };
+    show_reply(&reply, devices)?;
+    let read_back: C = with_journal(running, &reply)?;
+    write_snapshot(running.alloc, &read_back, &mut devices.state)?;
+    let is_kept = reply.status == 0 && changes(call);
+    let known = if is_kept {
+        running.file
+    } else {
+        Some(before.as_bytes())
+    };
+    devices.is_state_new = known != Some(devices.state.as_bytes());
+    let after = snapshot(running.alloc, closure)?;
+    if after.as_bytes() != devices.state.as_bytes() {
+        write_all(&mut devices.errors, b"the journal says something else\n")?;
+    }
+    Ok(())
+}
+
+fn changes(call: &Call<'_>) -> bool {
+    match call.name {
+        CommandName::Observe | CommandName::Merge => true,
+        CommandName::Distrust => given(call, OptionName::DryRun) != Some("true"),
+        _ => false,
+    }
+}
+
+fn line_of(alloc: Global, call: &Call<'_>) -> Result<String, AllocError> {
+    let words = request_words(alloc, call)?;
+    let texts: Vec<&str> = words.iter().map(|word| word.as_str()).collect(alloc)?;
+    write_request_words(alloc, texts.as_slice())
+}
+
+fn show_reply(reply: &Reply, devices: &mut Devices) -> Result<(), CommandError> {
+    write_all(&mut devices.output, reply.output.as_slice())?;
+    write_all(&mut devices.errors, reply.errors.as_slice())?;
+    devices.status = reply.status;
+    Ok(())
+}
+
+// What the state and the journal say together.
+fn with_journal<C: Closure>(running: Running<'_>, reply: &Reply) -> Result<C, CommandError> {
+    let held: C = load(running)?;
+    let mut journal = Vec::new(running.alloc);
+    begin_journal(running.alloc, running.config, &mut journal)?;
+    journal.extend_from_slice(reply.journal.as_slice())?;
+    Ok(read_journal(running.alloc, held, &mut FromRead::new(journal.as_slice()))?)
+}
+
+fn snapshot<C: Closure>(alloc: Global, closure: &C) -> Result<MemSink, CommandError> {
+    let mut text = MemSink::new(alloc, AMPLE_ROOM)?;
+    write_snapshot(alloc, closure, &mut text)?;
+    Ok(text)
+}

@@ -1,0 +1,3 @@
+pub mod ExportFacts
+pub mod HandleValues
+pub mod Values

@@ -1,0 +1,22 @@
+//! Replicas for C: each export calls one function of `replica_bytes` or `command_bytes`, which has
+//! its contract.
+//!
+//! A handle is where a caller keeps a replica: a pointer that is null, or a box of a replica.
+//! `handle` and `loose` make the one of the other; they alone have raw pointers, and are proved by
+//! hand. Each export takes the box out of the handle, makes its call, and puts it back. So what a
+//! handle holds is known before and after each call, and a call on a closed one is refused.
+//!
+//! `include/fedbundle.h` declares the exports, and says what a caller in C has to keep.
+#![tactic(auto)]
+
+pub mod changing_c;
+mod handle;
+mod held_replica;
+mod loose;
+pub mod messaging_c;
+pub mod opening_c;
+pub mod showing_c;
+pub mod stateless_c;
+
+pub use handle::Handle;
+pub use held_replica::Replica;

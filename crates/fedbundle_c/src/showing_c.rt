@@ -1,0 +1,120 @@
+//! Exports: what a replica holds and accepts, as texts. They change nothing.
+ghost use Rattle.std.specs.Prelude.{◌≤◌};
+ghost use Rattle.fedbundle_c.specs.Exports.{CurrentByHandle, ExplainsByHandle, ReportsByHandle};
+ghost use Rattle.fedbundle_c.specs.Exports.{SnapshotsByHandle};
+
+use crate::handle::Handle;
+use replica_bytes::{
+    CallError, CallOutcome, current_bytes, explain_bytes, report_bytes, snapshot_bytes,
+};
+use std::alloc::Global;
+
+/// Writes the report of what is accepted.
+#[unsafe(no_mangle)]
+pub extern "C" fn fedbundle_raw_replica_report(
+    alloc: Global,
+    handle: &mut Handle,
+    out: &mut [u8],
+    outcome: &mut CallOutcome,
+) -> i64
+    ensures does { ReportsByHandle (record { before = out.old; after = out.new })
+        (record {
+          old = handle.old.value;
+          new = handle.new.value;
+          said = outcome.new.length;
+          returned = result;
+        }) }
+    ensures fault { outcome.new.fault_length ≤ 240 }
+{
+    outcome.clear();
+    let Some(replica) = handle.take_out(alloc) else {
+        return outcome.refuse(&CallError::Usage);
+    };
+    let made = report_bytes(alloc, &replica.closure);
+    handle.put(replica);
+    outcome.put_result(made, out)
+}
+
+/// Writes the snapshot of what is held.
+#[unsafe(no_mangle)]
+pub extern "C" fn fedbundle_raw_snapshot(
+    alloc: Global,
+    handle: &mut Handle,
+    out: &mut [u8],
+    outcome: &mut CallOutcome,
+) -> i64
+    ensures does { SnapshotsByHandle (record { before = out.old; after = out.new })
+        (record {
+          old = handle.old.value;
+          new = handle.new.value;
+          said = outcome.new.length;
+          returned = result;
+        }) }
+    ensures fault { outcome.new.fault_length ≤ 240 }
+{
+    outcome.clear();
+    let Some(replica) = handle.take_out(alloc) else {
+        return outcome.refuse(&CallError::Usage);
+    };
+    let made = snapshot_bytes(alloc, &replica.closure);
+    handle.put(replica);
+    outcome.put_result(made, out)
+}
+
+/// Writes the current bundle of a domain in its canonical form, with a line feed, or returns
+/// [`NONE`](replica_bytes::NONE) where there is none.
+#[unsafe(no_mangle)]
+pub extern "C" fn fedbundle_raw_current(
+    alloc: Global,
+    handle: &mut Handle,
+    domain: &[u8],
+    out: &mut [u8],
+    outcome: &mut CallOutcome,
+) -> i64
+    ensures does { CurrentByHandle domain.now (record { before = out.old; after = out.new })
+        (record {
+          old = handle.old.value;
+          new = handle.new.value;
+          said = outcome.new.length;
+          returned = result;
+        }) }
+    ensures fault { outcome.new.fault_length ≤ 240 }
+{
+    outcome.clear();
+    let Some(replica) = handle.take_out(alloc) else {
+        return outcome.refuse(&CallError::Usage);
+    };
+    let made = current_bytes(alloc, &replica.closure, domain);
+    handle.put(replica);
+    outcome.put_option(made, out)
+}
+
+/// Writes the lines of a shortest chain of receipts to a document of a domain, or returns
+/// [`NONE`](replica_bytes::NONE) where the document is not accepted.
+#[unsafe(no_mangle)]
+pub extern "C" fn fedbundle_raw_explain(
+    alloc: Global,
+    handle: &mut Handle,
+    domain: &[u8],
+    document: &[u8],
+    out: &mut [u8],
+    outcome: &mut CallOutcome,
+) -> i64
+    ensures does { ExplainsByHandle domain.now document.now
+        (record { before = out.old; after = out.new })
+        (record {
+          old = handle.old.value;
+          new = handle.new.value;
+          said = outcome.new.length;
+          returned = result;
+        }) }
+    ensures fault { outcome.new.fault_length ≤ 240 }
+{
+    outcome.clear();
+    let Some(replica) = handle.take_out(alloc) else {
+        return outcome.refuse(&CallError::Usage);
+    };
+    let made = explain_bytes(alloc, &replica.closure, domain, document);
+    handle.put(replica);
+    outcome.put_option(made, out)
+}

@@ -1,0 +1,42 @@
+// The commands with `--at`: a running replica carries them out.
+use crate::streams::input;
+use byte_lines::read_up_to;
+use fedbundle::{Call, CommandError, CommandName, Exit};
+use local_requests::{MOST_INPUT, request_words};
+use replica_loop::{AskFault, ask_replica};
+
+/// Hands the words and, where the command reads it, standard input to the replica that listens at
+/// the path, and writes what it replies.
+pub(crate) fn ask(rt: &HostRuntime, call: &Call<'_>, path: &str) -> Result<u8, Exit> {
+    let words = request_words(rt.alloc(), call)?;
+    let texts: Vec<&str> = words.iter().map(|word| word.as_str()).collect(rt.alloc())?;
+    let text = input_of(rt, call.name)?;
+    let asked = ask_replica(
+        rt,
+        rt.alloc(),
+        path,
+        texts.as_slice(),
+        text.as_slice(),
+        &mut rt.stdout(),
+        &mut rt.stderr(),
+    );
+    match asked {
+        Ok(status) => Ok(status),
+        Err(AskFault::NoReplica) => Err(Exit::NoReplica),
+        Err(AskFault::Io) => Err(Exit::Refused(CommandError::Io)),
+        Err(AskFault::NoMemory) => Err(Exit::Refused(CommandError::NoMemory)),
+    }
+}
+
+// One byte more than a request may have, so that the replica can tell what is too long.
+fn input_of(rt: &HostRuntime, name: CommandName) -> Result<Vec<u8>, CommandError> {
+    let most = if reads_input(name) { MOST_INPUT + 1 } else { 0 };
+    Ok(read_up_to(rt.alloc(), &mut input(rt), most)?)
+}
+
+fn reads_input(name: CommandName) -> bool {
+    matches!(
+        name,
+        CommandName::Observe | CommandName::Merge | CommandName::Explain | CommandName::Polls
+    )
+}

@@ -1,0 +1,2 @@
+mod StandardFacts
+pub mod PartFacts

@@ -1,0 +1,133 @@
+//! The commands that change what is held, by what the words say.
+ghost use Rattle.std.specs.Prelude.{◌≡◌, ◌<◌, ◌≤◌, IfErr, IfOk, OnErr, OnOk, length, map};
+ghost use Rattle.std.specs.Prelude.{option_map};
+ghost use Rattle.spiffe_name.specs.SpiffeId.{IsId, RefusesId};
+ghost use Rattle.spiffe_name.specs.declared.error.NameError.{NameError};
+ghost use Rattle.fedbundle.specs.CommandRun.{state_run};
+ghost use Rattle.fedbundle.specs.declared.command_name.CommandName.TheVariants as command;
+ghost use Rattle.fedbundle.specs.declared.error.CommandError.TheVariants.{Name};
+ghost use Rattle.fedbundle.specs.declared.exits.Exit.TheVariants.{Refused, TooManyBytes};
+ghost use Rattle.local_requests.specs.Journalling.{JournalsChange};
+ghost use Rattle.local_requests.specs.RequestRun.{Answers, Ends, SaysNoRecord, SaysNoVerdict};
+ghost use Rattle.local_requests.specs.RequestRun.{SaysRecord, SaysVerdict, call_run, change_run};
+
+use crate::changing_replies;
+use crate::reply::Reply;
+use crate::shown_replies::{distrust_shown, domain_of};
+use bundle_view::Verdict;
+use closure_core::Closure;
+use fedbundle::{Call, CommandError, Exit, OptionName, given, is_flag_given, read_key, wanted};
+use receipt_core::Distrust;
+use spiffe_name::SpiffeId;
+use std::alloc::Global;
+
+pub(crate) fn observe<C: Closure>(
+    alloc: Global,
+    closure: &mut C,
+    call: &Call<'_>,
+    input: &[u8],
+) -> Result<Reply, Exit>
+    ensures answers { IfOk result (Answers command.Observe (call_run call.now.name
+        (map (option_map (λ t. t.now)) call.now.texts.items)
+        (change_run (state_run (C.state closure.old) (C.state closure.new)) input.now))) }
+    ensures ends { IfErr result (Ends command.Observe (call_run call.now.name
+        (map (option_map (λ t. t.now)) call.now.texts.items)
+        (change_run (state_run (C.state closure.old) (C.state closure.new)) input.now))) }
+    ensures journals { IfOk result (λ reply. JournalsChange reply.journal.items
+        (state_run (C.state closure.old) (C.state closure.new))) }
+    ensures unchanged { OnErr result
+        ((C.state closure.new).meaning ≡ (C.state closure.old).meaning) }
+{
+    let domain = domain_of(alloc, wanted(call, OptionName::Domain)?)?;
+    let verdict = verdict_of(alloc, call)?;
+    changing_replies::observe(alloc, closure, &domain, &verdict, input)
+}
+
+fn verdict_of(alloc: Global, call: &Call<'_>) -> Result<Verdict, Exit>
+    ensures says { IfOk result (SaysVerdict call.now.name
+        (map (option_map (λ t. t.now)) call.now.texts.items)) }
+    ensures ends { IfErr result (SaysNoVerdict call.now.name
+        (map (option_map (λ t. t.now)) call.now.texts.items)) }
+{
+    let endpoint = endpoint_of(alloc, wanted(call, OptionName::Endpoint)?)?;
+    let key = read_key(wanted(call, OptionName::Key)?)?;
+    Ok(Verdict { endpoint, key })
+}
+
+fn endpoint_of(alloc: Global, text: &str) -> Result<SpiffeId, Exit>
+    ensures ok { IfOk result (λ endpoint. (endpoint.text ≡ text.now) × IsId endpoint) }
+    ensures refused { IfErr result
+        (λ exit. ((e : NameError) × (exit ≡ Refused (Name e)) × RefusesId text.now e)) }
+{
+    match SpiffeId::read(alloc, text) {
+        Ok(endpoint) => Ok(endpoint),
+        Err(error) => Err(Exit::Refused(CommandError::Name(error))),
+    }
+}
+
+// `room` is how many bytes the input may have.
+pub(crate) fn merge<C: Closure>(
+    alloc: Global,
+    closure: &mut C,
+    room: u64,
+    call: &Call<'_>,
+    input: &[u8],
+) -> Result<Reply, Exit>
+    ensures answers { IfOk result (Answers command.Merge (call_run call.now.name
+        (map (option_map (λ t. t.now)) call.now.texts.items)
+        (change_run (state_run (C.state closure.old) (C.state closure.new)) input.now))) }
+    ensures ends { IfErr result (Ends command.Merge (call_run call.now.name
+        (map (option_map (λ t. t.now)) call.now.texts.items)
+        (change_run (state_run (C.state closure.old) (C.state closure.new)) input.now))) }
+    ensures journals { IfOk result (λ reply. JournalsChange reply.journal.items
+        (state_run (C.state closure.old) (C.state closure.new))) }
+    ensures unchanged { OnErr result
+        ((C.state closure.new).meaning ≡ (C.state closure.old).meaning) }
+    ensures within { OnOk result (length input.now ≤ room) }
+    ensures over { IfErr result (λ exit. exit ≡ TooManyBytes → room < length input.now) }
+{
+    let _asked = call;
+    if input.len() as u64 > room {
+        return Err(Exit::TooManyBytes);
+    }
+    changing_replies::merge(alloc, closure, input)
+}
+
+pub(crate) fn distrust<C: Closure>(
+    alloc: Global,
+    closure: &mut C,
+    call: &Call<'_>,
+    input: &[u8],
+) -> Result<Reply, Exit>
+    ensures answers { IfOk result (Answers command.Distrust (call_run call.now.name
+        (map (option_map (λ t. t.now)) call.now.texts.items)
+        (change_run (state_run (C.state closure.old) (C.state closure.new)) input.now))) }
+    ensures ends { IfErr result (Ends command.Distrust (call_run call.now.name
+        (map (option_map (λ t. t.now)) call.now.texts.items)
+        (change_run (state_run (C.state closure.old) (C.state closure.new)) input.now))) }
+    ensures journals { IfOk result (λ reply. JournalsChange reply.journal.items
+        (state_run (C.state closure.old) (C.state closure.new))) }
+    ensures unchanged { OnErr result
+        ((C.state closure.new).meaning ≡ (C.state closure.old).meaning) }
+{
+    let _asked = input;
+    let record = record_of(alloc, call)?;
+    if is_flag_given(given(call, OptionName::DryRun)) {
+        let text = distrust_shown(alloc, closure, &record)?;
+        Ok(Reply::done(alloc, text)?)
+    } else {
+        let is_verbose = is_flag_given(given(call, OptionName::Verbose));
+        changing_replies::distrust(alloc, closure, &record, is_verbose)
+    }
+}
+
+fn record_of(alloc: Global, call: &Call<'_>) -> Result<Distrust, Exit>
+    ensures says { IfOk result (SaysRecord call.now.name
+        (map (option_map (λ t. t.now)) call.now.texts.items)) }
+    ensures ends { IfErr result (SaysNoRecord call.now.name
+        (map (option_map (λ t. t.now)) call.now.texts.items)) }
+{
+    let domain = domain_of(alloc, wanted(call, OptionName::Domain)?)?;
+    let key = read_key(wanted(call, OptionName::Key)?)?;
+    Ok(Distrust { domain, key })
+}

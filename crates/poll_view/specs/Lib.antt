@@ -1,0 +1,2 @@
+pub mod NextPolls
+pub mod PollTexts

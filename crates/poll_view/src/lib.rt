@@ -1,0 +1,9 @@
+//! When each domain is polled next, for operators: values, and two texts of them. It knows closures
+//! by their trait alone.
+#![tactic(auto)]
+
+mod domain_polls;
+mod polls_writer;
+
+pub use domain_polls::{DomainPoll, NextPoll, next_polls};
+pub use polls_writer::{PollsForm, polls_text};

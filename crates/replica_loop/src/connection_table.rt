@@ -1,0 +1,191 @@
+//! The connections that there are, and how many there may be.
+use crate::fresh_lines::Held;
+use crate::journal::Journal;
+use crate::live_connection::{BYTES_A_TURN, Connection};
+use crate::local_talk::Surroundings;
+use crate::socket::Socket;
+use crate::talk::Talk;
+use closure_core::Closure;
+use fedbundle::FileFault;
+use mio::Poll;
+use std::alloc::{AllocError, Global};
+use std::net::SocketAddr;
+use std::time::{Duration, Instant};
+
+/// The most connections at once, and the most of them that are of this machine.
+const MOST_CONNECTIONS: usize = 128;
+
+const MOST_LOCAL: usize = 64;
+
+/// The most on which other replicas ask: however many come, there is room for this machine, for a
+/// reply that there are too many of that, and for a pull.
+const MOST_SERVED: usize = 48;
+
+/// The number of the first connection; those below it are of the gates.
+const FIRST_SERIAL: usize = 2;
+
+/// The connections, and the buffer into which each reads.
+#[derive(Drop)]
+pub(crate) struct ConnectionTable {
+    connections: Vec<Connection>,
+    serial: usize,
+    buffer: Vec<u8>,
+}
+
+impl ConnectionTable {
+    pub(crate) fn new(alloc: Global) -> Result<ConnectionTable, AllocError> {
+        Ok(ConnectionTable {
+            connections: Vec::with_capacity(alloc, MOST_CONNECTIONS)?,
+            serial: FIRST_SERIAL,
+            buffer: Vec::from_elem(alloc, 0, BYTES_A_TURN)?,
+        })
+    }
+
+    /// Whether one more connection may come.
+    pub(crate) fn has_room(&self) -> bool {
+        self.connections.len() < MOST_CONNECTIONS
+    }
+
+    /// Whether one more connection may come on which this is said.
+    pub(crate) fn has_room_for(&self, talk: &Talk) -> bool {
+        match talk {
+            Talk::Served(_) => self.has_room() && self.served_count() < MOST_SERVED,
+            Talk::Local(_) | Talk::Pull(_) => self.has_room(),
+        }
+    }
+
+    fn served_count(&self) -> usize {
+        let served = self
+            .connections
+            .iter()
+            .filter(|conn| matches!(conn.talk, Talk::Served(_)));
+        served.count()
+    }
+
+    /// Whether one more connection of this machine may come.
+    pub(crate) fn has_local_room(&self) -> bool {
+        let local = self
+            .connections
+            .iter()
+            .filter(|conn| matches!(conn.talk, Talk::Local(_)));
+        local.count() < MOST_LOCAL
+    }
+
+    /// Takes the connection in. One that the poll cannot watch is closed.
+    pub(crate) fn add(
+        &mut self,
+        poll: &Poll,
+        mut socket: Socket,
+        talk: Talk,
+        peer: Option<SocketAddr>,
+        now: Instant,
+    ) -> bool {
+        let serial = self.serial;
+        if socket.register(poll, serial).is_err() {
+            return false;
+        }
+        self.serial = serial.checked_add(1).unwrap_or(FIRST_SERIAL);
+        let conn = Connection::new(socket, talk, peer, serial, now);
+        self.connections.push(conn).is_ok()
+    }
+
+    /// The poll reports the connection of the number.
+    pub(crate) fn mark(&mut self, serial: usize, can_read: bool, can_write: bool) {
+        for conn in &mut self.connections {
+            if conn.serial == serial {
+                conn.mark(can_read, can_write);
+            }
+        }
+    }
+
+    /// How long until there is something to do, where nothing comes.
+    pub(crate) fn time_left(&self, now: Instant) -> Option<Duration> {
+        self.connections.iter().map(|conn| time_of(conn, now)).min()
+    }
+
+    /// Takes what came on each connection.
+    pub(crate) fn read<C: Closure>(
+        &mut self,
+        alloc: Global,
+        held: &mut Held<C>,
+        around: &Surroundings<'_>,
+    ) {
+        for conn in &mut self.connections {
+            conn.read(alloc, held, around, &mut self.buffer);
+        }
+    }
+
+    /// Appends to the journal what requests have changed.
+    pub(crate) fn append_to(&self, journal: &mut Journal) -> Result<(), FileFault> {
+        for conn in &self.connections {
+            if let Talk::Local(talk) = &conn.talk {
+                journal.append(talk.journal())?;
+            }
+        }
+        Ok(())
+    }
+
+    /// What requests have changed is on the disk.
+    pub(crate) fn settle(&mut self) {
+        for conn in &mut self.connections {
+            if let Talk::Local(talk) = &mut conn.talk {
+                talk.settle();
+            }
+        }
+    }
+
+    /// It could not be put there: requests are told so, and nobody else is told anything.
+    pub(crate) fn fail(&mut self) {
+        for conn in &mut self.connections {
+            conn.fail();
+        }
+    }
+
+    /// Whether a request asks the replica to end.
+    pub(crate) fn is_stopped(&self) -> bool {
+        self.connections.iter().any(is_stop)
+    }
+
+    /// Whether replies are still to be sent.
+    pub(crate) fn has_replies(&self) -> bool {
+        self.connections.iter().any(has_reply)
+    }
+
+    /// Takes away the connections that have ended, after each was reported.
+    pub(crate) fn remove_ended(&mut self) {
+        self.connections.retain(|conn| conn.ending.is_none());
+    }
+
+    pub(crate) fn all(&self) -> &[Connection] {
+        self.connections.as_slice()
+    }
+
+    /// Writes what is to be written on each connection.
+    pub(crate) fn write(&mut self, now: Instant) {
+        for conn in &mut self.connections {
+            conn.write(now);
+        }
+    }
+}
+
+fn time_of(conn: &Connection, now: Instant) -> Duration {
+    if conn.is_busy() {
+        Duration::ZERO
+    } else {
+        conn.time_left(now)
+    }
+}
+
+fn is_stop(conn: &Connection) -> bool {
+    match &conn.talk {
+        Talk::Local(talk) => talk.is_stop(),
+        _ => false,
+    }
+}
+
+fn has_reply(conn: &Connection) -> bool {
+    match &conn.talk {
+        Talk::Local(talk) => conn.ending.is_none() && !talk.output().is_empty(),
+        _ => false,
+    }
+}

@@ -1,0 +1,39 @@
+//! A replica that stays: one thread over readiness holds the closure in memory, answers requests of
+//! its own machine, gives other replicas what it holds, and takes what they hold.
+//!
+//! What is decided stands in the crates below, without a socket, a file or a clock: this one moves
+//! bytes. Of the system's sockets and files no clause says anything, so proved here are safety and
+//! that each turn returns where the system's calls do; the rest is shown by runs of the program.
+//!
+//! `replica` begins and ends a replica, and `turn` is one round of the loop: what came is read, the
+//! changes go to the journal (`journal`), and only then anything is written; a long journal goes
+//! into the snapshot (`fold_files`). Connections come in at the `gates`. `connection_table` has
+//! them, `live_connection` is one of them, and what is said on it is a `talk`. `own_status` is what
+//! `status` shows beside what is held. `client` is the other side of a local request.
+#![tactic(auto)]
+
+mod client;
+mod connection_table;
+mod ending;
+mod fold_files;
+mod fresh_lines;
+mod gates;
+mod journal;
+mod live_connection;
+mod local_talk;
+mod own_status;
+mod peers;
+mod pull_talk;
+mod replica;
+mod rest;
+mod saying;
+mod served_talk;
+mod settings;
+mod socket;
+mod step_fault;
+mod talk;
+mod turn;
+
+pub use client::{AskFault, ask_replica};
+pub use replica::run_replica;
+pub use settings::Settings;

@@ -1,0 +1,208 @@
+//! One connection: its socket, what is said on it, and how long it has been quiet.
+use crate::ending::Ending;
+use crate::fresh_lines::Held;
+use crate::local_talk::Surroundings;
+use crate::socket::{Progress, Socket};
+use crate::talk::Talk;
+use closure_core::Closure;
+use replica_sync::SyncError;
+use std::alloc::Global;
+use std::net::SocketAddr;
+use std::time::{Duration, Instant};
+
+/// How many bytes of a connection are read or written in one turn.
+pub(crate) const BYTES_A_TURN: usize = 65_536;
+
+/// How often a connection is read in one turn: what came is mostly followed by the end.
+const READS_A_TURN: usize = 2;
+
+/// For how many seconds nothing may move on a connection, and how old it may be.
+const MAX_IDLE_SECONDS: u64 = 30;
+
+const MAX_AGE_SECONDS: u64 = 600;
+
+/// A connection of any kind.
+#[derive(Drop)]
+pub(crate) struct Connection {
+    pub(crate) talk: Talk,
+    socket: Socket,
+    /// The address of the other side, where it has one.
+    pub(crate) peer: Option<SocketAddr>,
+    /// Under which number the poll reports it.
+    pub(crate) serial: usize,
+    /// When it came.
+    pub(crate) begun: Instant,
+    moved: Instant,
+    is_connected: bool,
+    can_read: bool,
+    can_write: bool,
+    /// How it ended, once it has.
+    pub(crate) ending: Option<Ending>,
+}
+
+impl Connection {
+    /// A connection that came, or one that is being made. What came is looked at at once.
+    pub(crate) fn new(
+        socket: Socket,
+        talk: Talk,
+        peer: Option<SocketAddr>,
+        serial: usize,
+        now: Instant,
+    ) -> Connection {
+        let is_connected = !matches!(talk, Talk::Pull(_));
+        Connection {
+            is_connected,
+            talk,
+            socket,
+            peer,
+            serial,
+            begun: now,
+            moved: now,
+            can_read: is_connected,
+            can_write: is_connected,
+            ending: None,
+        }
+    }
+
+    /// The poll reports that it can be read or written.
+    pub(crate) fn mark(&mut self, can_read: bool, can_write: bool) {
+        self.can_read |= can_read;
+        self.can_write |= can_write;
+    }
+
+    /// Whether there is something to do at once.
+    pub(crate) fn is_busy(&self) -> bool {
+        self.ending.is_some()
+            || self.talk.has_work()
+            || (self.can_read && self.talk.wants_bytes())
+            || (self.can_write && (!self.is_connected || !self.talk.output().is_empty()))
+    }
+
+    /// How long it may still be quiet, or live.
+    pub(crate) fn time_left(&self, now: Instant) -> Duration {
+        let idle = Duration::from_secs(MAX_IDLE_SECONDS);
+        let age = Duration::from_secs(MAX_AGE_SECONDS);
+        let idle = idle.saturating_sub(now.duration_since(self.moved));
+        let age = age.saturating_sub(now.duration_since(self.begun));
+        idle.min(age)
+    }
+
+    /// Takes what came, at most what one turn allows.
+    pub(crate) fn read<C: Closure>(
+        &mut self,
+        alloc: Global,
+        held: &mut Held<C>,
+        around: &Surroundings<'_>,
+        buffer: &mut [u8],
+    ) {
+        if self.ending.is_some() || !self.is_connected {
+            return;
+        }
+        let taken = if self.talk.has_work() {
+            self.talk.go_on(alloc, held)
+        } else {
+            self.take_pieces(alloc, held, around, buffer)
+        };
+        if let Err(ending) = taken {
+            self.ending = Some(ending);
+        }
+    }
+
+    fn take_pieces<C: Closure>(
+        &mut self,
+        alloc: Global,
+        held: &mut Held<C>,
+        around: &Surroundings<'_>,
+        buffer: &mut [u8],
+    ) -> Result<(), Ending> {
+        let mut left = buffer.len();
+        for _ in 0..READS_A_TURN {
+            if left == 0 || !self.can_read || !self.talk.wants_bytes() {
+                break;
+            }
+            let room = left.min(buffer.len());
+            let count = self.take_piece(alloc, held, around, &mut buffer[..room])?;
+            left = left.saturating_sub(count);
+        }
+        Ok(())
+    }
+
+    // Returns how many bytes came.
+    fn take_piece<C: Closure>(
+        &mut self,
+        alloc: Global,
+        held: &mut Held<C>,
+        around: &Surroundings<'_>,
+        buffer: &mut [u8],
+    ) -> Result<usize, Ending> {
+        match self.socket.read(buffer) {
+            Progress::Bytes(0) => {
+                self.talk.end_input(alloc, held, around)?;
+                Ok(0)
+            }
+            Progress::Bytes(count) => {
+                self.moved = around.now;
+                let count = count.min(buffer.len());
+                self.talk.take(alloc, held, &buffer[..count])?;
+                Ok(count)
+            }
+            Progress::Blocked => {
+                self.can_read = false;
+                Ok(0)
+            }
+            Progress::Interrupted => Ok(0),
+            Progress::Failed => Err(Ending::Fault(SyncError::Io)),
+        }
+    }
+
+    /// A change could not be put on the disk: a request is told so, and another replica nothing.
+    pub(crate) fn fail(&mut self) {
+        match &mut self.talk {
+            Talk::Local(talk) => talk.fail(),
+            Talk::Served(_) | Talk::Pull(_) => self.ending = Some(Ending::Fault(SyncError::Io)),
+        }
+    }
+
+    /// Writes what is to be written, at most what one turn allows, and looks whether the
+    /// connection has ended or has taken too long.
+    pub(crate) fn write(&mut self, now: Instant) {
+        if self.ending.is_none() && self.can_write {
+            self.find_connected();
+            self.write_piece(now);
+        }
+        if self.ending.is_none() {
+            self.ending = self.talk.ending();
+        }
+        if self.ending.is_none() && self.time_left(now).is_zero() {
+            self.ending = Some(Ending::Fault(SyncError::Io));
+        }
+    }
+
+    fn find_connected(&mut self) {
+        if self.is_connected {
+            return;
+        }
+        match self.socket.is_connected() {
+            Some(true) => self.is_connected = true,
+            Some(false) => self.ending = Some(Ending::Fault(SyncError::Io)),
+            None => self.can_write = false,
+        }
+    }
+
+    fn write_piece(&mut self, now: Instant) {
+        let output = self.talk.output();
+        let count = output.len().min(BYTES_A_TURN);
+        if count == 0 || !self.is_connected {
+            return;
+        }
+        match self.socket.write(&output[..count]) {
+            Progress::Bytes(count) => {
+                self.moved = now;
+                self.talk.wrote(count);
+            }
+            Progress::Blocked => self.can_write = false,
+            Progress::Interrupted => {}
+            Progress::Failed => self.ending = Some(Ending::Fault(SyncError::Io)),
+        }
+    }
+}

@@ -1,0 +1,169 @@
+//! A connection of this machine, on which one request comes and one reply goes.
+use crate::ending::Ending;
+use crate::fresh_lines::Held;
+use crate::own_status::{OwnStatus, add_own_status, format_of};
+use closure_core::Closure;
+use local_requests::{Reply, RequestFault, RequestParts, Sending, answer_request};
+use std::alloc::Global;
+use std::time::Instant;
+
+/// What a request may ask for beside what is held.
+#[derive(Clone, Copy)]
+pub(crate) struct Surroundings<'a> {
+    pub(crate) now: Instant,
+    pub(crate) own: OwnStatus<'a>,
+}
+
+/// The reply where a change could not be put on the disk. It takes no memory.
+static DISK_FAILED: &[u8] = b"{\"errors\":17,\"output\":0,\"status\":3}\nfedbundle: S9 Io\n";
+
+/// One request and its reply.
+#[derive(Drop)]
+pub(crate) struct LocalTalk {
+    parts: RequestParts,
+    answer: Answer,
+}
+
+// What is being sent.
+#[derive(Drop)]
+enum Answer {
+    // Nothing, as long as the request comes.
+    Awaited,
+    // What is left of a reply that says why there is none of a command.
+    Fault(&'static [u8]),
+    Whole(Sending),
+}
+
+impl LocalTalk {
+    pub(crate) fn new(alloc: Global) -> LocalTalk {
+        LocalTalk {
+            parts: RequestParts::new(alloc),
+            answer: Answer::Awaited,
+        }
+    }
+
+    /// One more than there may be: it is told so, and nothing is read.
+    pub(crate) fn refused(alloc: Global) -> LocalTalk {
+        LocalTalk {
+            parts: RequestParts::new(alloc),
+            answer: Answer::Fault(RequestFault::TooManyRequests.reply()),
+        }
+    }
+
+    pub(crate) fn wants_bytes(&self) -> bool {
+        matches!(self.answer, Answer::Awaited)
+    }
+
+    /// Takes bytes of the request. Where they are too many, that is replied at once.
+    pub(crate) fn take(&mut self, alloc: Global, piece: &[u8]) {
+        if let Err(fault) = self.parts.take(piece) {
+            self.refuse(alloc, fault);
+        }
+    }
+
+    /// The request is whole: it is carried out.
+    pub(crate) fn answer<C: Closure>(
+        &mut self,
+        alloc: Global,
+        held: &mut Held<C>,
+        around: &Surroundings<'_>,
+    ) {
+        match self.carry_out(alloc, held, around) {
+            Ok(reply) => self.reply_with(alloc, Answer::Whole(Sending::new(reply))),
+            Err(fault) => self.refuse(alloc, fault),
+        }
+    }
+
+    fn carry_out<C: Closure>(
+        &self,
+        alloc: Global,
+        held: &mut Held<C>,
+        around: &Surroundings<'_>,
+    ) -> Result<Reply, RequestFault> {
+        let request = self.parts.whole()?;
+        let status = format_of(alloc, request.words)?;
+        let mut reply = answer_request(
+            alloc,
+            &mut held.closure,
+            around.own.state_bytes(),
+            request.words,
+            request.input,
+        )?;
+        // From here on a change may not be forgotten; the status changes nothing.
+        if let Some(format) = status {
+            add_own_status(alloc, &around.own, format, &mut reply)?;
+        }
+        Ok(reply)
+    }
+
+    fn refuse(&mut self, alloc: Global, fault: RequestFault) {
+        self.reply_with(alloc, Answer::Fault(fault.reply()));
+    }
+
+    // Nothing more is read, so what was read is let go.
+    fn reply_with(&mut self, alloc: Global, answer: Answer) {
+        self.parts = RequestParts::new(alloc);
+        self.answer = answer;
+    }
+
+    /// The lines that are to be on the disk before anything is sent.
+    pub(crate) fn journal(&self) -> &[u8] {
+        match &self.answer {
+            Answer::Whole(sending) => sending.journal(),
+            _ => b"".as_slice(),
+        }
+    }
+
+    /// The lines are on the disk.
+    pub(crate) fn settle(&mut self) {
+        if let Answer::Whole(sending) = &mut self.answer {
+            sending.settle();
+        }
+    }
+
+    /// The lines of this turn could not be put on the disk: a reply of which nothing is sent says
+    /// that in the place of what it said, which may show what is not on the disk.
+    pub(crate) fn fail(&mut self) {
+        if let Answer::Whole(sending) = &self.answer {
+            if !sending.has_begun() {
+                self.answer = Answer::Fault(DISK_FAILED);
+            }
+        }
+    }
+
+    /// Whether it asks the replica to end.
+    pub(crate) fn is_stop(&self) -> bool {
+        match &self.answer {
+            Answer::Whole(sending) => sending.ends(),
+            _ => false,
+        }
+    }
+
+    pub(crate) fn output(&self) -> &[u8] {
+        match &self.answer {
+            Answer::Awaited => b"".as_slice(),
+            Answer::Fault(text) => text,
+            Answer::Whole(sending) => sending.output(),
+        }
+    }
+
+    /// So many bytes of the output were sent, or all where there are no more.
+    pub(crate) fn wrote(&mut self, count: usize) {
+        match &mut self.answer {
+            Answer::Awaited => {}
+            Answer::Fault(text) => *text = &text[count.min(text.len())..],
+            Answer::Whole(sending) => {
+                let count = count.min(sending.output().len());
+                sending.wrote(count);
+            }
+        }
+    }
+
+    pub(crate) fn ending(&self) -> Option<Ending> {
+        let waits = self.wants_bytes() || !self.journal().is_empty();
+        if waits || !self.output().is_empty() {
+            return None;
+        }
+        Some(Ending::Well)
+    }
+}

@@ -1,0 +1,120 @@
+//! A connection on which this replica asks another one.
+use crate::ending::Ending;
+use crate::fresh_lines::Held;
+use crate::rest::Rest;
+use closure_core::Closure;
+use replica_service::Pulling;
+use replica_sync::SyncError;
+use std::alloc::Global;
+
+/// How many lines are taken at most in one turn: no more can come in one read.
+const MOST_LINES: usize = 65_536;
+
+/// A connection on which this replica asks, and takes what is answered.
+#[derive(Drop)]
+pub(crate) struct PullTalk {
+    pulling: Pulling,
+    rest: Rest,
+    // How many more bytes may come.
+    bytes_left: u64,
+}
+
+impl PullTalk {
+    pub(crate) fn new<C: Closure>(
+        alloc: Global,
+        closure: &C,
+        most_bytes: u64,
+    ) -> Result<PullTalk, SyncError> {
+        Ok(PullTalk {
+            pulling: Pulling::new(alloc, closure)?,
+            rest: Rest::new(alloc),
+            bytes_left: most_bytes,
+        })
+    }
+
+    pub(crate) fn wants_bytes(&self) -> bool {
+        self.rest.is_empty() && self.can_take()
+    }
+
+    /// Whether bytes that came can be taken.
+    pub(crate) fn has_work(&self) -> bool {
+        !self.rest.is_empty() && self.can_take()
+    }
+
+    fn can_take(&self) -> bool {
+        !self.pulling.is_over() && self.pulling.output().is_empty()
+    }
+
+    /// Takes bytes that came, as many as may come.
+    pub(crate) fn take<C: Closure>(
+        &mut self,
+        alloc: Global,
+        held: &mut Held<C>,
+        piece: &[u8],
+    ) -> Result<(), Ending> {
+        let left = usize::try_from(self.bytes_left).unwrap_or(usize::MAX);
+        let room = left.min(piece.len());
+        self.bytes_left = self.bytes_left.saturating_sub(room as u64);
+        self.rest.keep(&piece[..room])?;
+        self.go_on(alloc, held)?;
+        if room < piece.len() {
+            return Err(Ending::TooManyBytes);
+        }
+        Ok(())
+    }
+
+    /// Takes what is left of the bytes that came, up to the end of an answer.
+    pub(crate) fn go_on<C: Closure>(
+        &mut self,
+        alloc: Global,
+        held: &mut Held<C>,
+    ) -> Result<(), Ending> {
+        for _ in 0..MOST_LINES {
+            if !self.has_work() {
+                break;
+            }
+            self.take_line(alloc, held)?;
+        }
+        Ok(())
+    }
+
+    fn take_line<C: Closure>(
+        &mut self,
+        alloc: Global,
+        held: &mut Held<C>,
+    ) -> Result<(), SyncError> {
+        let piece = self.rest.left();
+        let used = self
+            .pulling
+            .read(alloc, &mut held.closure, piece, &mut held.fresh)?;
+        self.rest.took(used);
+        Ok(())
+    }
+
+    pub(crate) fn end_input(&self) -> Result<(), Ending> {
+        self.pulling.end()?;
+        Ok(())
+    }
+
+    pub(crate) fn output(&self) -> &[u8] {
+        self.pulling.output()
+    }
+
+    pub(crate) fn wrote(&mut self, count: usize) {
+        let count = count.min(self.pulling.output().len());
+        self.pulling.wrote(count);
+    }
+
+    pub(crate) fn ending(&self) -> Option<Ending> {
+        if self.pulling.is_over() {
+            Some(Ending::Well)
+        } else {
+            None
+        }
+    }
+
+    /// How many receipts came that were not held.
+    pub(crate) fn taken(&self) -> u64 {
+        self.pulling.taken()
+    }
+}

@@ -1,0 +1,113 @@
+//! Events on standard error: a line for each, pairs of a word and a value in a fixed order. No byte
+//! that another side chose stands in one.
+use crate::ending::Ending;
+use replica_sync::SyncError;
+use std::alloc::Global;
+use std::fmt;
+use std::fmt::{Display, Formatter};
+use std::io::Eprint;
+use std::net::SocketAddr;
+use std::time::Duration;
+
+/// What is reported.
+#[derive(Clone, Copy, Debug)]
+pub(crate) enum Event {
+    /// A session in which this replica asked has ended.
+    Pull(SocketAddr, u64, Duration, Ending),
+    /// A connection on which another replica asked has ended.
+    Serve(Option<SocketAddr>, Duration, Ending),
+    /// A connection of this machine has ended.
+    Local(Duration, Ending),
+    /// There was no room for a connection.
+    Refuse,
+    /// A connection that came could not be taken.
+    Accept,
+    /// The system did not say what is ready.
+    Poll,
+    /// The snapshot was written anew.
+    Fold(u64),
+    /// The snapshot could not be written.
+    FoldFault(SyncError),
+    /// The journal could not be written.
+    Journal(SyncError),
+}
+
+/// Writes the event's line at once. That it cannot be written changes nothing.
+pub(crate) fn say<R: Eprint>(rt: &R, alloc: Global, event: Event) {
+    if let Ok(line) = format!(in alloc; "{event}\n") {
+        let _ = rt.eprint(line);
+    }
+}
+
+impl Display for Event {
+    fn fmt<W: fmt::Write>(&self, f: &mut Formatter<W>) -> fmt::Result {
+        match self {
+            Event::Pull(peer, new, time, ending) => {
+                write!(
+                    f,
+                    "event=pull peer={peer} new={new} seconds={}",
+                    Seconds(*time)
+                )?;
+                Outcome(*ending).fmt(f)
+            }
+            Event::Serve(Some(peer), time, ending) => {
+                write!(f, "event=serve peer={peer} seconds={}", Seconds(*time))?;
+                Outcome(*ending).fmt(f)
+            }
+            Event::Serve(None, time, ending) => {
+                write!(f, "event=serve seconds={}", Seconds(*time))?;
+                Outcome(*ending).fmt(f)
+            }
+            Event::Local(time, ending) => {
+                write!(f, "event=local seconds={}", Seconds(*time))?;
+                Outcome(*ending).fmt(f)
+            }
+            Event::Refuse => f.write_str("event=refuse"),
+            Event::Accept => f.write_str("event=accept fault=S9"),
+            Event::Poll => f.write_str("event=poll fault=S9"),
+            Event::Fold(bytes) => write!(f, "event=fold bytes={bytes}"),
+            Event::FoldFault(why) => write!(f, "event=fold fault={}", code_of(*why)),
+            Event::Journal(why) => write!(f, "event=journal fault={}", code_of(*why)),
+        }
+    }
+}
+
+/// Seconds with three decimals.
+#[derive(Clone, Copy)]
+struct Seconds(Duration);
+
+impl Display for Seconds {
+    fn fmt<W: fmt::Write>(&self, f: &mut Formatter<W>) -> fmt::Result {
+        write!(f, "{}.{:03}", self.0.as_secs(), self.0.subsec_millis())
+    }
+}
+
+/// A fault as a last pair, or nothing where all went well.
+#[derive(Clone, Copy)]
+struct Outcome(Ending);
+
+impl Display for Outcome {
+    fn fmt<W: fmt::Write>(&self, f: &mut Formatter<W>) -> fmt::Result {
+        match self.0 {
+            Ending::Well => Ok(()),
+            Ending::Fault(why) => write!(f, " fault={}", code_of(why)),
+            Ending::TooManyBytes => f.write_str(" fault=bytes"),
+        }
+    }
+}
+
+/// The fault's short name.
+pub(crate) fn code_of<'a>(why: SyncError) -> &'a str {
+    match why {
+        SyncError::BadHeader => "S1",
+        SyncError::ConfigDiffers => "S2",
+        SyncError::VersionDiffers => "S3",
+        SyncError::NotCanonical(_) => "S4",
+        SyncError::NotRising(_) => "S5",
+        SyncError::BadCount => "S6",
+        SyncError::Truncated => "S7",
+        SyncError::Refused(..) => "S8",
+        SyncError::Io => "S9",
+        SyncError::NoMemory => "S10",
+    }
+}

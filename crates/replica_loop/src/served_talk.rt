@@ -1,0 +1,78 @@
+//! A connection on which another replica asks.
+use crate::ending::Ending;
+use crate::rest::Rest;
+use closure_core::Closure;
+use replica_service::Serving;
+use std::alloc::Global;
+
+/// A connection on which another replica asks, and is answered.
+#[derive(Drop)]
+pub(crate) struct ServedTalk {
+    serving: Serving,
+    rest: Rest,
+    // Whether the other side has sent all that it will.
+    has_ended: bool,
+}
+
+impl ServedTalk {
+    pub(crate) fn new(alloc: Global) -> ServedTalk {
+        ServedTalk {
+            serving: Serving::new(alloc),
+            rest: Rest::new(alloc),
+            has_ended: false,
+        }
+    }
+
+    /// Whether there is room for bytes that come: an answer is written before the next have is
+    /// looked at.
+    pub(crate) fn wants_bytes(&self) -> bool {
+        !self.has_ended && self.rest.is_empty() && self.output().is_empty()
+    }
+
+    /// Whether bytes that came can be taken.
+    pub(crate) fn has_work(&self) -> bool {
+        !self.rest.is_empty() && self.output().is_empty()
+    }
+
+    pub(crate) fn take<C: Closure>(
+        &mut self,
+        alloc: Global,
+        closure: &C,
+        piece: &[u8],
+    ) -> Result<(), Ending> {
+        let used = self.serving.read(alloc, closure, piece)?;
+        self.rest.keep(&piece[used..])?;
+        Ok(())
+    }
+
+    /// Takes what is left of the bytes that came, up to the end of a have.
+    pub(crate) fn go_on<C: Closure>(&mut self, alloc: Global, closure: &C) -> Result<(), Ending> {
+        let used = self.serving.read(alloc, closure, self.rest.left())?;
+        self.rest.took(used);
+        Ok(())
+    }
+
+    pub(crate) fn end_input(&mut self) {
+        self.has_ended = true;
+    }
+
+    pub(crate) fn output(&self) -> &[u8] {
+        self.serving.output()
+    }
+
+    pub(crate) fn wrote(&mut self, count: usize) {
+        let count = count.min(self.serving.output().len());
+        self.serving.wrote(count);
+    }
+
+    /// How it ended, once nothing more is to be read or written.
+    pub(crate) fn ending(&self) -> Option<Ending> {
+        if !self.has_ended || !self.rest.is_empty() || !self.output().is_empty() {
+            return None;
+        }
+        match self.serving.end() {
+            Ok(()) => Some(Ending::Well),
+            Err(why) => Some(Ending::Fault(why)),
+        }
+    }
+}

@@ -1,0 +1,24 @@
+//! What the words say of a replica.
+use std::net::SocketAddr;
+use std::time::Duration;
+
+/// What the words say of a replica.
+#[derive(Clone, Copy, Debug)]
+pub struct Settings<'a, 'p> {
+    /// The path of the state file.
+    pub state: &'a str,
+    /// The path of the socket for local requests.
+    pub socket: &'a str,
+    /// Where other replicas pull from this one.
+    pub listen: Option<SocketAddr>,
+    /// From which replicas this one pulls.
+    pub peers: &'p [SocketAddr],
+    /// How long after a round of pulls began the next one begins.
+    pub every: Duration,
+    /// How many bytes the state's files and what a session brings may have together.
+    pub most_bytes: u64,
+    /// Whether it may begin without a state file.
+    pub is_new: bool,
+    /// Whether each connection is reported that has ended, and not only those at fault.
+    pub is_verbose: bool,
+}

@@ -1,0 +1,118 @@
+//! What is said on a connection: a local request, an answer to another replica, or a question to
+//! one.
+use crate::ending::Ending;
+use crate::fresh_lines::Held;
+use crate::local_talk::{LocalTalk, Surroundings};
+use crate::pull_talk::PullTalk;
+use crate::served_talk::ServedTalk;
+use closure_core::Closure;
+use std::alloc::Global;
+
+/// What is said on a connection. Bytes that come are given to it, and what is to be written is
+/// taken from it.
+#[derive(Drop)]
+pub(crate) enum Talk {
+    /// A request of this machine.
+    Local(LocalTalk),
+    /// Another replica asks.
+    Served(ServedTalk),
+    /// This replica asks.
+    Pull(PullTalk),
+}
+
+impl Talk {
+    /// Whether bytes are to be read.
+    pub(crate) fn wants_bytes(&self) -> bool {
+        match self {
+            Talk::Local(talk) => talk.wants_bytes(),
+            Talk::Served(talk) => talk.wants_bytes(),
+            Talk::Pull(talk) => talk.wants_bytes(),
+        }
+    }
+
+    /// Whether bytes that were read before can be taken now.
+    pub(crate) fn has_work(&self) -> bool {
+        match self {
+            Talk::Local(_) => false,
+            Talk::Served(talk) => talk.has_work(),
+            Talk::Pull(talk) => talk.has_work(),
+        }
+    }
+
+    /// Takes bytes that came.
+    pub(crate) fn take<C: Closure>(
+        &mut self,
+        alloc: Global,
+        held: &mut Held<C>,
+        piece: &[u8],
+    ) -> Result<(), Ending> {
+        match self {
+            Talk::Local(talk) => {
+                talk.take(alloc, piece);
+                Ok(())
+            }
+            Talk::Served(talk) => talk.take(alloc, &held.closure, piece),
+            Talk::Pull(talk) => talk.take(alloc, held, piece),
+        }
+    }
+
+    /// Takes bytes that were read before.
+    pub(crate) fn go_on<C: Closure>(
+        &mut self,
+        alloc: Global,
+        held: &mut Held<C>,
+    ) -> Result<(), Ending> {
+        match self {
+            Talk::Local(_) => Ok(()),
+            Talk::Served(talk) => talk.go_on(alloc, &held.closure),
+            Talk::Pull(talk) => talk.go_on(alloc, held),
+        }
+    }
+
+    /// The other side sends nothing more.
+    pub(crate) fn end_input<C: Closure>(
+        &mut self,
+        alloc: Global,
+        held: &mut Held<C>,
+        around: &Surroundings<'_>,
+    ) -> Result<(), Ending> {
+        match self {
+            Talk::Local(talk) => {
+                talk.answer(alloc, held, around);
+                Ok(())
+            }
+            Talk::Served(talk) => {
+                talk.end_input();
+                Ok(())
+            }
+            Talk::Pull(talk) => talk.end_input(),
+        }
+    }
+
+    /// What is to be written next.
+    pub(crate) fn output(&self) -> &[u8] {
+        match self {
+            Talk::Local(talk) => talk.output(),
+            Talk::Served(talk) => talk.output(),
+            Talk::Pull(talk) => talk.output(),
+        }
+    }
+
+    /// So many bytes of the output were written.
+    pub(crate) fn wrote(&mut self, count: usize) {
+        match self {
+            Talk::Local(talk) => talk.wrote(count),
+            Talk::Served(talk) => talk.wrote(count),
+            Talk::Pull(talk) => talk.wrote(count),
+        }
+    }
+
+    /// How it ended, once nothing more is to be read or written.
+    pub(crate) fn ending(&self) -> Option<Ending> {
+        match self {
+            Talk::Local(talk) => talk.ending(),
+            Talk::Served(talk) => talk.ending(),
+            Talk::Pull(talk) => talk.ending(),
+        }
+    }
+}

@@ -1,0 +1,387 @@
+//! One turn of the loop: what is ready is read, what came is put on the disk, and only then
+//! anything is written. So nobody is shown a change that a kill could take back.
+use crate::connection_table::ConnectionTable;
+use crate::ending::Ending;
+use crate::fold_files::{FoldFault, fold_state};
+use crate::fresh_lines::Held;
+use crate::gates::{Arrival, Gates};
+use crate::journal::Journal;
+use crate::live_connection::Connection;
+use crate::local_talk::{LocalTalk, Surroundings};
+use crate::own_status::OwnStatus;
+use crate::peers::Peers;
+use crate::pull_talk::PullTalk;
+use crate::saying::{Event, say};
+use crate::served_talk::ServedTalk;
+use crate::settings::Settings;
+use crate::socket::Socket;
+use crate::step_fault::{at_step, file_at_step};
+use crate::talk::Talk;
+use closure_core::Closure;
+use fed_config::Config;
+use fedbundle::{Exit, FileFault, Step};
+use mio::Events;
+use mio::net::TcpStream;
+use replica_sync::SyncError;
+use std::alloc::Global;
+use std::fs::{File, Files};
+use std::io::{Eprint, ErrorKind};
+use std::net::{Net, SocketAddr};
+use std::thread;
+use std::time::{Clock, Duration, Instant};
+
+/// How long a turn waits at most where nothing comes.
+const MAX_WAIT_SECONDS: u64 = 60;
+
+/// How long it waits where the system does not say what is ready.
+const PAUSE_MILLIS: u64 = 100;
+
+/// How many connections are accepted at each gate in one turn.
+const ARRIVALS_A_TURN: usize = 32;
+
+/// How long replies may still be sent after the replica was asked to end.
+const LAST_SECONDS: u64 = 1;
+
+/// What a replica works with, beside what it holds.
+#[derive(Drop)]
+pub(crate) struct Works {
+    gates: Gates,
+    table: ConnectionTable,
+    peers: Peers,
+    journal: Journal,
+    now: Instant,
+    // When it ends, once it was asked to.
+    ends_at: Option<Instant>,
+    // Whether it was reported that a connection had no room, or was not accepted, and none came
+    // since.
+    has_reported: bool,
+}
+
+impl Works {
+    /// Begins the journal, and listens.
+    pub(crate) fn begin<R: Files<File = File> + Net + Clock>(
+        rt: &R,
+        alloc: Global,
+        config: &Config,
+        settings: &Settings<'_, '_>,
+    ) -> Result<Works, Exit> {
+        let now = at_step(Step::Socket, Instant::now(rt))?;
+        let gates = Gates::open(rt, settings)?;
+        let journal = Journal::begin(rt, alloc, config, settings.state);
+        Ok(Works {
+            gates,
+            table: ConnectionTable::new(alloc)?,
+            peers: Peers::new(alloc, settings.peers, settings.every, now)?,
+            journal: file_at_step(Step::Journal, journal)?,
+            now,
+            ends_at: None,
+            has_reported: false,
+        })
+    }
+
+    /// Waits until something is ready or due.
+    pub(crate) fn wait<R: Clock + Eprint>(&mut self, rt: &R, alloc: Global, events: &mut Events) {
+        let wait = self.time_left();
+        if let Err(error) = self.gates.poll.poll(events, Some(wait)) {
+            // A signal came, as where the process was stopped and goes on.
+            if error.kind() != ErrorKind::Interrupted {
+                say(rt, alloc, Event::Poll);
+                thread::sleep(rt, Duration::from_millis(PAUSE_MILLIS));
+            }
+        }
+        // Where the clock fails no time has passed.
+        if let Ok(now) = Instant::now(rt) {
+            self.now = now;
+        }
+        for event in &*events {
+            let serial = event.token().0;
+            let can_read = event.is_readable() || event.is_error();
+            let can_write = event.is_writable() || event.is_error();
+            self.gates.mark(serial);
+            self.table.mark(serial, can_read, can_write);
+        }
+    }
+
+    fn time_left(&self) -> Duration {
+        let most = Duration::from_secs(MAX_WAIT_SECONDS);
+        let table = self.table.time_left(self.now).unwrap_or(most);
+        let gates = self.gates.time_left(self.now).unwrap_or(most);
+        let peers = match self.peers.time_left(self.now) {
+            Some(left) if self.may_pull() => left,
+            _ => most,
+        };
+        let end = match self.ends_at {
+            Some(moment) => moment.duration_since(self.now),
+            None => most,
+        };
+        most.min(table).min(gates).min(peers).min(end)
+    }
+
+    fn may_pull(&self) -> bool {
+        self.ends_at.is_none() && self.table.has_room()
+    }
+
+    /// Takes in the connections that came.
+    pub(crate) fn accept<R: Eprint>(&mut self, rt: &R, alloc: Global) {
+        for _ in 0..ARRIVALS_A_TURN {
+            let arrival = self.gates.accept_local(self.now);
+            if !self.take_in(rt, alloc, arrival) {
+                break;
+            }
+        }
+        for _ in 0..ARRIVALS_A_TURN {
+            let arrival = self.gates.accept_gossip(self.now);
+            if !self.take_in(rt, alloc, arrival) {
+                break;
+            }
+        }
+    }
+
+    // Returns whether there may be more.
+    fn take_in<R: Eprint>(&mut self, rt: &R, alloc: Global, arrival: Arrival) -> bool {
+        match arrival {
+            Arrival::Nobody => false,
+            Arrival::Left => true,
+            Arrival::Failed => {
+                self.report_once(rt, alloc, Event::Accept);
+                false
+            }
+            Arrival::Came(socket, peer) => {
+                let talk = self.talk_of(alloc, &socket);
+                self.add(rt, alloc, socket, talk, peer);
+                true
+            }
+        }
+    }
+
+    fn talk_of(&self, alloc: Global, socket: &Socket) -> Talk {
+        match socket {
+            Socket::Tcp(_) => Talk::Served(ServedTalk::new(alloc)),
+            Socket::Unix(_) => {
+                if self.table.has_local_room() {
+                    Talk::Local(LocalTalk::new(alloc))
+                } else {
+                    Talk::Local(LocalTalk::refused(alloc))
+                }
+            }
+        }
+    }
+
+    fn add<R: Eprint>(
+        &mut self,
+        rt: &R,
+        alloc: Global,
+        socket: Socket,
+        talk: Talk,
+        peer: Option<SocketAddr>,
+    ) {
+        if !self.table.has_room_for(&talk) {
+            self.report_once(rt, alloc, Event::Refuse);
+            return;
+        }
+        if self
+            .table
+            .add(&self.gates.poll, socket, talk, peer, self.now)
+        {
+            self.has_reported = false;
+        } else {
+            self.report_once(rt, alloc, Event::Accept);
+        }
+    }
+
+    fn report_once<R: Eprint>(&mut self, rt: &R, alloc: Global, event: Event) {
+        if !self.has_reported {
+            say(rt, alloc, event);
+            self.has_reported = true;
+        }
+    }
+
+    /// Begins the session with the next peer, where it is due and there is room.
+    pub(crate) fn begin_pull<C: Closure, R: Net + Eprint>(
+        &mut self,
+        rt: &R,
+        alloc: Global,
+        closure: &C,
+        most_bytes: u64,
+    ) {
+        if !self.may_pull() {
+            return;
+        }
+        let Some(peer) = self.peers.begin(self.now) else {
+            return;
+        };
+        let left = most_bytes.saturating_sub(OwnStatus::of(
+            &self.journal,
+            &self.peers,
+        ).state_bytes());
+        if let Err(ending) = self.connect(rt, alloc, closure, peer, left) {
+            self.peers.end(ending, 0, None);
+            say(rt, alloc, Event::Pull(peer, 0, Duration::ZERO, ending));
+        }
+    }
+
+    fn connect<C: Closure, R: Net>(
+        &mut self,
+        rt: &R,
+        alloc: Global,
+        closure: &C,
+        peer: SocketAddr,
+        most_bytes: u64,
+    ) -> Result<(), Ending> {
+        let talk = PullTalk::new(alloc, closure, most_bytes)?;
+        let stream = match TcpStream::connect(rt, peer) {
+            Ok(stream) => stream,
+            Err(_) => return Err(Ending::Fault(SyncError::Io)),
+        };
+        // Without it a question may wait for a moment.
+        let _ = stream.set_nodelay(true);
+        let socket = Socket::Tcp(stream);
+        let talk = Talk::Pull(talk);
+        if self
+            .table
+            .add(&self.gates.poll, socket, talk, Some(peer), self.now)
+        {
+            Ok(())
+        } else {
+            Err(Ending::Fault(SyncError::Io))
+        }
+    }
+
+    /// Takes what came on each connection.
+    pub(crate) fn read<C: Closure>(&mut self, alloc: Global, held: &mut Held<C>) {
+        let around = Surroundings {
+            now: self.now,
+            own: OwnStatus::of(&self.journal, &self.peers),
+        };
+        self.table.read(alloc, held, &around);
+        if self.ends_at.is_none() && self.table.is_stopped() {
+            let last = Duration::from_secs(LAST_SECONDS);
+            self.ends_at = Some(self.now.checked_add(last).unwrap_or(self.now));
+        }
+    }
+
+    /// Puts on the disk what came in this turn. Where that fails, the replies say so.
+    pub(crate) fn commit<C: Closure>(&mut self, held: &mut Held<C>) -> Result<(), FileFault> {
+        match self.put_on_disk(held.fresh.as_slice()) {
+            Ok(()) => {
+                held.fresh.clear();
+                self.table.settle();
+                Ok(())
+            }
+            Err(fault) => {
+                self.table.fail();
+                self.table.write(self.now);
+                Err(fault)
+            }
+        }
+    }
+
+    fn put_on_disk(&mut self, pulled: &[u8]) -> Result<(), FileFault> {
+        self.journal.append(pulled)?;
+        self.table.append_to(&mut self.journal)?;
+        self.journal.sync()
+    }
+
+    /// Writes what is to be written on each connection.
+    pub(crate) fn write(&mut self) {
+        self.table.write(self.now);
+    }
+
+    /// Reports the connections that have ended, and takes them away.
+    pub(crate) fn end_connections<R: Eprint + Clock>(
+        &mut self,
+        rt: &R,
+        alloc: Global,
+        is_verbose: bool,
+    ) {
+        for conn in self.table.all() {
+            if let Some(ending) = conn.ending {
+                let time = self.now.duration_since(conn.begun);
+                note_pull(rt, &mut self.peers, conn, ending);
+                if let Some(event) = event_of(conn, ending, time, is_verbose) {
+                    say(rt, alloc, event);
+                }
+            }
+        }
+        self.table.remove_ended();
+    }
+
+    /// Writes the snapshot anew where the journal is long. Where that fails, the journal goes on.
+    pub(crate) fn fold<C: Closure, R: Files<File = File> + Eprint>(
+        &mut self,
+        rt: &R,
+        alloc: Global,
+        closure: &C,
+        path: &str,
+    ) -> Result<(), FileFault> {
+        if !self.journal.is_long() {
+            return Ok(());
+        }
+        match fold_state(rt, alloc, closure, path) {
+            Ok(Some(file)) => {
+                self.journal = Journal::of_file(rt, file, path)?;
+                say(rt, alloc, Event::Fold(self.journal.snapshot_bytes()));
+            }
+            Ok(None) => self.journal.put_off(),
+            Err(FoldFault::Kept(fault)) => {
+                self.journal.put_off();
+                say(rt, alloc, Event::FoldFault(fault.why));
+            }
+            Err(FoldFault::Emptying(fault)) => return Err(fault),
+        }
+        Ok(())
+    }
+
+    /// Whether it was asked to end, and the replies are sent or had their time.
+    pub(crate) fn has_ended(&self) -> bool {
+        match self.ends_at {
+            Some(moment) => self.now >= moment || !self.table.has_replies(),
+            None => false,
+        }
+    }
+}
+
+// Counts what a session brought.
+fn note_pull<R: Clock>(rt: &R, peers: &mut Peers, conn: &Connection, ending: Ending) {
+    if let Talk::Pull(talk) = &conn.talk {
+        peers.end(ending, talk.taken(), unix_seconds(rt));
+    }
+}
+
+fn unix_seconds<R: Clock>(rt: &R) -> Option<u64> {
+    match rt.since_1970() {
+        Ok(time) => Some(time.as_secs()),
+        Err(_) => None,
+    }
+}
+
+// What is reported of a connection that has ended.
+fn event_of(conn: &Connection, ending: Ending, time: Duration, is_verbose: bool) -> Option<Event> {
+    let is_said = is_verbose || ending != Ending::Well;
+    match &conn.talk {
+        Talk::Pull(talk) => Some(Event::Pull(conn.peer?, talk.taken(), time, ending)),
+        Talk::Served(_) if is_said => Some(Event::Serve(conn.peer, time, ending)),
+        Talk::Local(_) if is_said => Some(Event::Local(time, ending)),
+        _ => None,
+    }
+}
+
+/// One turn. Returns whether the replica has ended.
+pub(crate) fn turn<C: Closure, R: Files<File = File> + Net + Clock + Eprint>(
+    rt: &R,
+    alloc: Global,
+    held: &mut Held<C>,
+    works: &mut Works,
+    events: &mut Events,
+    settings: &Settings<'_, '_>,
+) -> Result<bool, FileFault> {
+    works.wait(rt, alloc, events);
+    works.accept(rt, alloc);
+    works.begin_pull(rt, alloc, &held.closure, settings.most_bytes);
+    works.read(alloc, held);
+    works.commit(held)?;
+    works.write();
+    works.end_connections(rt, alloc, settings.is_verbose);
+    works.fold(rt, alloc, &held.closure, settings.state)?;
+    Ok(works.has_ended())
+}

@@ -1,0 +1,21 @@
+-- A graph, as far as it is made
+use Rattle.std.specs.Prelude.{◌≡◌, ℕ, List, [], ◌∷◌, ◌++◌, codes, Option}
+use Rattle.receipt_core.specs.Receipt.{Receipt}
+use Rattle.receipt_core.specs.Acceptance.{Meaning}
+use Rattle.replica_view.specs.TrustGraph.{AreGraphLines, ShowsBrought, ShowsEdge, ShowsVoucher}
+use Rattle.replica_view.specs.TrustGraph.{graph_head}
+use Rattle.replica_view.specs.declared.trust_graph.GraphPart.{GraphPart}
+use Rattle.replica_view.specs.declared.trust_graph.GraphPart.TheVariants.{Voucher, Brought, Edge}
+
+-- what is shown of a receipt
+abbrev pub ShowsPart : GraphPart → Meaning → Receipt → List ℕ → Type 0
+ShowsPart Voucher m = ShowsVoucher
+ShowsPart Brought m = ShowsBrought
+ShowsPart Edge m = ShowsEdge m
+
+-- all lines
+pub record IsWholeGraph (m : Meaning) (chosen : Option (List ℕ))
+    (whole : List (List ℕ)) : Type 0 where
+  pub lines : List (List ℕ)
+  pub are : AreGraphLines m chosen lines
+  pub is : whole ≡ graph_head ++ (lines ++ codes "}" ∷ [])
