@@ -1,7 +1,7 @@
 use Rattle.std.proofs.Common.{◌++◌, ◌∙◌, ap, sym, map, append-nil}
 use Rattle.receipt_core.specs.Receipt.{Pair, offer_of, key_ids}
 use Rattle.receipt_core.proofs.KeyIdFacts.{offers_more}
-use Rattle.receipt_core.proofs.offers.offers_of.Goals as goal
+use Rattle.receipt_core.proofs.offers.offers_with.Goals as goal
 
 pub loop-key-init : goal.loop-key-init
 loop-key-init c =
