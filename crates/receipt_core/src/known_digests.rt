@@ -13,10 +13,11 @@ const PLACES: usize = 256;
 const MOST_BYTES: usize = 4_096;
 
 /// Digests of certificates that came before, for those who read many lines: a certificate that
-/// comes again is compared, and not hashed. At most 256 are kept, of certificates of at most 4,096
-/// bytes, and each in a place that the certificate's last bytes name, where it takes that of an
-/// older one. They are copies, and take at most 1 MiB with their places. No result depends on what
-/// is kept, and where memory runs out nothing more is.
+/// comes again is compared, byte by byte, and not hashed. At most 256 are kept, each with a copy of
+/// its certificate, and of none that is longer than 4,096 bytes: the copies take at most 1 MiB, and
+/// their places at most 32 KiB more. The last bytes of a certificate tell its place, and what was
+/// there before is forgotten. No result depends on what is kept. Where memory runs out, nothing
+/// more is kept.
 #[derive(Drop)]
 pub struct KnownDigests {
     places: Vec<KnownDigest>,
