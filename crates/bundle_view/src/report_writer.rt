@@ -107,7 +107,7 @@ fn push_current(
     listed: Option<&Listed>,
 ) -> Result<(), AllocError>
     ensures { OnOk result (out.new.items
-        ≡ out.old.items ++ current_line domain.now (option_copied listed)) }
+        ≡ out.old.items ++ current_line domain.now (option_copied listed.entry)) }
 {
     match listed {
         Some(listed) => {
@@ -148,11 +148,7 @@ fn push_accepted_line(
     Ok(())
 }
 
-fn push_document(
-    out: &mut Vec<u8>,
-    domain: &TrustDomain,
-    listed: &Listed,
-) -> Result<(), AllocError>
+fn push_document(out: &mut Vec<u8>, domain: &TrustDomain, listed: &Listed) -> Result<(), AllocError>
     ensures { OnOk result (out.new.items ≡ out.old.items ++ document_text domain.now listed.now) }
 {
     push_digits(out, &listed.id(domain).0)?;

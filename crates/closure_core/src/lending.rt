@@ -130,12 +130,7 @@ impl<'a> Accepted<'a> {
     {
         while let Some(number) = self.numbers.next() {
             if self.counts[number as usize] != 0 {
-                return Some(document_with_id(
-                    self.seeds,
-                    self.receipts,
-                    number as usize,
-                    domain,
-                ));
+                return Some(document_with_id(self.seeds, self.receipts, number as usize, domain));
             }
         }
         None
