@@ -1,15 +1,14 @@
 -- Labels in order are found, and one that is missing has a place
 use Rattle.std.proofs.Common.{◌≡◌, ℕ, ◌+◌, ◌-◌, ◌<◌, ◌≤◌, inl, inr, List, [], ◌∷◌, length, get_or, Option}
 use Rattle.std.proofs.Common.{Some, None, arith, refl, sym, ap, ◌∙◌, subst}
-use Rattle.std.proofs.Common.{Bool, true, false, nat_eq, ◌==◌, ◌&&◌}
 use Rattle.std.specs.Prelude.{Contains, slice_get}
 use Rattle.std.specs.declared.cmp.Ordering.{Ordering}
 use Rattle.std.specs.declared.cmp.Ordering.TheVariants.{Less, Equal, Greater}
 use Rattle.std.specs.Cmp.{IsTotalOrder}
-use Rattle.std.specs.Cmp.Lexicographic.{slice_cmp, pointwise, same_text}
+use Rattle.std.specs.Cmp.Lexicographic.{slice_cmp}
 use Rattle.std.specs.Ordering.{nat_cmp, ordering_then, ordering_index, ordering_reverse}
 use Rattle.std.specs.List.{insert, cons_option}
-use Rattle.std.proofs.lemmas.Bool.{cases_lt, cases_order, eqb-true}
+use Rattle.std.proofs.lemmas.Bool.{cases_lt, cases_order}
 use Rattle.std.proofs.lemmas.Cmp.{nat_cmp_total, nat_list_cmp_total, on_total, then_total, tied_itself}
 use Rattle.std.proofs.lemmas.List.Edits.{length-insert, get_or-insert_below, get_or-insert_at, get_or-insert_above}
 use Rattle.std.proofs.lemmas.Map.Lookups.{exact_bytes, exact_unsigned}
@@ -43,26 +42,6 @@ label-exact a b e =
     let domain : a.domain ≡ b.domain = exact_unsigned a.domain b.domain first.0 in
     let document : a.document.0 ≡ b.document.0 = exact_bytes a.document.0 b.document.0 second.1 in
     let key : a.key.0 ≡ b.key.0 = exact_bytes a.key.0 b.key.0 second.0 in
-    ap (λ (n : ℕ). let l : Label = record { domain = n; document = a.document; key = a.key } in l) domain
-    ∙ ap (λ (bytes : List ℕ). let l : Label = record { domain = b.domain; document = record { 0 = bytes }; key = a.key } in l) document
-    ∙ ap (λ (bytes : List ℕ). let l : Label = record { domain = b.domain; document = b.document; key = record { 0 = bytes } } in l) key
-
-both : (x y : Bool) → true ≡ (x && y) → (true ≡ x) × (true ≡ y)
-both true y e = (refl, e)
-both false y e = absurd (cc)
-
--- Labels of which each part is found equal are equal.
-pub label-same : (a b : Label)
-    → true ≡ ((a.domain == b.domain) && (pointwise nat_eq a.document.0 b.document.0 && pointwise nat_eq a.key.0 b.key.0))
-    → a ≡ b
-label-same a b e =
-    let documents : Bool = pointwise nat_eq a.document.0 b.document.0 in
-    let keys : Bool = pointwise nat_eq a.key.0 b.key.0 in
-    let first = both (a.domain == b.domain) (documents && keys) e in
-    let second = both documents keys first.1 in
-    let domain : a.domain ≡ b.domain = eqb-true a.domain b.domain (sym first.0) in
-    let document : a.document.0 ≡ b.document.0 = same_text a.document.0 b.document.0 second.0 in
-    let key : a.key.0 ≡ b.key.0 = same_text a.key.0 b.key.0 second.1 in
     ap (λ (n : ℕ). let l : Label = record { domain = n; document = a.document; key = a.key } in l) domain
     ∙ ap (λ (bytes : List ℕ). let l : Label = record { domain = b.domain; document = record { 0 = bytes }; key = a.key } in l) document
     ∙ ap (λ (bytes : List ℕ). let l : Label = record { domain = b.domain; document = b.document; key = record { 0 = bytes } } in l) key

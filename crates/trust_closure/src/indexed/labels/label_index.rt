@@ -8,8 +8,9 @@ ghost use Rattle.trust_closure.specs.Inside.Labels.{IsInOrder, HasNumber, AreNum
 use crate::indexed::labels::label::{Label, LabelTest, SoughtKey, SoughtLabel};
 use crate::indexed::labels::label_guesses::LabelGuesses;
 use jwk_set::KeyId;
-use sorted_order::{Arena, Numbers};
+use sorted_order::{Arena, ItemProbe, Numbers};
 use std::alloc::{AllocError, Global};
+use std::cmp::Ordering;
 use std::marker::Model;
 use wait_index::{LabelNo, NodeNo, Reach};
 
@@ -202,7 +203,7 @@ fn guessed_or_found(
     ensures labels { reach.old.room.labels - (length labels.new.items - length labels.old.items)
         ≡ reach.new.room.labels }
 {
-    match guessed(labels.items(), guesses, &label) {
+    match guessed(labels.items(), guesses, &SoughtLabel { label }) {
         Some(number) => LabelNo::new(number as usize),
         None => {
             let number = number_of(labels, reach, label, closed);
@@ -213,13 +214,14 @@ fn guessed_or_found(
 }
 
 /// The number of the label, if the guess holds.
-fn guessed(labels: &[Label], guesses: &LabelGuesses, label: &Label) -> Option<u32>
-    ensures { IfSome result (λ number. slice_get labels.now number ≡ Some label.now) }
+fn guessed(labels: &[Label], guesses: &LabelGuesses, sought: &SoughtLabel) -> Option<u32>
+    ensures { IfSome result (λ number. slice_get labels.now number ≡ Some sought.now.label) }
 {
-    let number = guesses.number_of(label)?;
-    match labels.get(number as usize) {
-        Some(found) => if *found == *label { Some(number) } else { None },
-        None => None,
+    let number = guesses.number_of(&sought.label)?;
+    let found = labels.get(number as usize)?;
+    match sought.compare(found) {
+        Ordering::Equal => Some(number),
+        _ => None,
     }
 }
 

@@ -1,5 +1,5 @@
 -- A label that is guessed is there.
-use Rattle.std.proofs.Common.{inl, refl, sym, ap, subst, ◌≡◌, ◌∙◌, List, Some}
+use Rattle.std.proofs.Common.{inl, refl, ap, subst, ◌≡◌, ◌∙◌, List, Some}
 use Rattle.std.specs.Prelude.{slice_get}
 use Rattle.trust_closure.specs.declared.indexed.labels.label.Label.{Label}
 use Rattle.trust_closure.proofs.indexed.labels.label_index.guessed_or_found.Goals as goal
