@@ -64,8 +64,8 @@ pub fn guess_text(one: &[u8], other: &[u8], agreed: Agreed) -> (Ordering, usize)
 /// How many bytes are compared at once.
 const STRIDE: usize = 64;
 
-/// From sample to sample, and how many bytes a sample has. Texts of different keys differ in more
-/// bytes than lie between samples.
+/// From sample to sample, and how many bytes a sample has. Texts of two RSA keys mostly differ in
+/// more bytes than lie in between.
 const SAMPLE_STEP: usize = 256;
 
 const SAMPLE: usize = 16;
