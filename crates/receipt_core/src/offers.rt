@@ -38,8 +38,9 @@ pub(crate) fn offers_with(
         ≡ offers_of (record { domain = domain.now; document = document.now })) }
 {
     let id = document.id(domain);
-    let mut offers = Vec::new(alloc);
-    for key in key_ids(alloc, document.authorities(), known)? {
+    let keys = key_ids(alloc, document.authorities(), known)?;
+    let mut offers = Vec::with_capacity(alloc, keys.len())?;
+    for key in keys {
         offers.push(Triple::new(alloc, domain, id, key)?)?;
     }
     Ok(offers)

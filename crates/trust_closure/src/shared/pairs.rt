@@ -36,7 +36,7 @@ pub(crate) struct Pairs {
 }
 
 /// What tells where a document stands, but for its text: the number of its domain, and its rank,
-/// where an absent one is 0 and every other one more.
+/// where an absent one is 0 and every other one more, but for the highest.
 #[derive(Clone, Copy, Debug)]
 pub(crate) struct PairKey {
     domain: u32,
