@@ -191,8 +191,8 @@ impl Order {
         }
     }
 
-    /// The same, where the place is guessed first. So few numbers are compared whole, where they are
-    /// sought by texts that agree on many bytes, or are guessed by less than what is compared.
+    /// The same, where the place is guessed first. So few numbers are compared whole, where they
+    /// are sought by texts that agree on many bytes, or are guessed by less than what is compared.
     pub fn find_by_guess<P: Probe + Guess>(&self, probe: &P) -> Result<usize, usize>
         requires known { All (P.knows probe.now) self.now.items }
         requires rising { IsRising (P.compared probe.now) self.now.items }
