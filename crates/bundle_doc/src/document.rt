@@ -111,9 +111,11 @@ impl Document {
             Ok(text) if text.len() <= MAX_DOCUMENT_BYTES => text,
             _ => return Ok(None),
         };
-        let Some(parts) = read_parts(alloc, text)? else {
+        let Some(mut parts) = read_parts(alloc, text)? else {
             return Ok(None);
         };
+        // Many documents are kept for long, and a list of two has room for four.
+        parts.authorities.shrink_to_fit();
         Ok(Some(Document {
             authorities: parts.authorities,
             rank: parts.rank,

@@ -1,6 +1,6 @@
 -- The last of the accepted documents is the current one, and the only one.
-use Rattle.std.proofs.Common.{◌≡◌, ℕ, inl, inr, List, [], ◌∷◌, Option, Some, None, Less, refl, sym, ap, subst}
-use Rattle.std.specs.List.{Contains, last_or}
+use Rattle.std.proofs.Common.{◌≡◌, ℕ, inl, inr, List, [], ◌∷◌, ◌-◌, length, Option, Some, None, Less, arith, refl, sym, ap, subst, ◌∙◌}
+use Rattle.std.specs.List.{Contains, last_or, slice_get}
 use Rattle.std.specs.List.Sorted.{IsStrictlySortedBy}
 use Rattle.bundle_doc.specs.Bundle.{Bundle}
 use Rattle.receipt_core.specs.Receipt.{Pair}
@@ -47,6 +47,16 @@ current_of_top m domain ds (Some d) list top = record { accepted = list.sound d 
 pub last_current : (m : Meaning) (domain : List ℕ) (ds : List Bundle) → IsAcceptedList m domain ds → IsCurrent m domain (last_or None ds)
 last_current m domain [] list = λ d is. contains_none d (list.complete d is)
 last_current m domain (x ∷ ds) list = current_of_top m domain (x ∷ ds) (last_or (Some x) ds) list (top_last x ds list.rising)
+
+-- the item behind all others is the last
+behind_others : {A : Type 0} (x : A) (xs : List A) → slice_get (x ∷ xs) (length xs) ≡ last_or (Some x) xs
+behind_others x [] = refl
+behind_others x (y ∷ ys) = behind_others y ys
+
+-- the item at the last place is the last
+pub at_last_place : {A : Type 0} (xs : List A) → slice_get xs (length xs - 1) ≡ last_or None xs
+at_last_place [] = refl
+at_last_place (x ∷ xs) = let place : length (x ∷ xs) - 1 ≡ length xs = omega arith in ap (slice_get (x ∷ xs)) place ∙ behind_others x xs
 
 -- a domain has one current document at most
 pub one_current : (m : Meaning) (domain : List ℕ) (ds : List Bundle) (a b : Option Bundle) → IsAcceptedList m domain ds

@@ -163,7 +163,7 @@ fn ids_of(alloc: Global, domain: &TrustDomain, group: &[Listed]) -> Result<Vec<D
 {
     let mut ids = Vec::with_capacity(alloc, group.len())?;
     for listed in group {
-        ids.push(listed.document().id(domain))?;
+        ids.push(listed.id(domain))?;
     }
     Ok(ids)
 }

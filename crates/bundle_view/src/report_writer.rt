@@ -10,10 +10,9 @@ ghost use Rattle.bundle_view.specs.Inside.Sections.{AddsSection, HasReportHead};
 ghost use Rattle.bundle_view.specs.declared.error.ReportError.TheVariants.{Io, NoMemory};
 
 use crate::conflict::{Conflict, ConflictKind, add_conflicts};
-use crate::current_document::current;
 use crate::error::ReportError;
 use crate::listed::{Listed, list_accepted};
-use bundle_doc::{DocId, Document};
+use bundle_doc::DocId;
 use byte_lines::{Sink, push_digits, push_number, write_all};
 use closure_core::Closure;
 use spiffe_name::TrustDomain;
@@ -86,7 +85,7 @@ fn push_section<C: Closure>(
     let mut conflicts = Vec::new(alloc);
     add_conflicts(alloc, domain, documents.as_slice(), &mut conflicts)?;
     push_domain(out, domain)?;
-    push_current(out, domain, current(closure, domain))?;
+    push_current(out, domain, documents.as_slice().last())?;
     push_accepted(out, domain, documents.as_slice())?;
     push_conflicts(out, conflicts.as_slice())?;
     push_distrusts(out, closure, domain)?;
@@ -105,15 +104,15 @@ fn push_domain(out: &mut Vec<u8>, domain: &TrustDomain) -> Result<(), AllocError
 fn push_current(
     out: &mut Vec<u8>,
     domain: &TrustDomain,
-    document: Option<&Document>,
+    listed: Option<&Listed>,
 ) -> Result<(), AllocError>
     ensures { OnOk result (out.new.items
-        ≡ out.old.items ++ current_line domain.now (option_copied document.entry)) }
+        ≡ out.old.items ++ current_line domain.now (option_copied listed.entry)) }
 {
-    match document {
-        Some(document) => {
+    match listed {
+        Some(listed) => {
             out.extend_from_slice(b"  current ")?;
-            push_document(out, domain, document)?;
+            push_document(out, domain, listed)?;
             out.extend_from_slice(b"\n")
         }
         None => out.extend_from_slice(b"  current none\n"),
@@ -129,7 +128,7 @@ fn push_accepted(
         ≡ out.old.items ++ flat_map (accepted_line domain.now) documents.now) }
 {
     for listed in documents {
-        push_accepted_line(out, domain, listed.document())?;
+        push_accepted_line(out, domain, listed)?;
     }
     Ok(())
 }
@@ -137,28 +136,24 @@ fn push_accepted(
 fn push_accepted_line(
     out: &mut Vec<u8>,
     domain: &TrustDomain,
-    document: &Document,
+    listed: &Listed,
 ) -> Result<(), AllocError>
-    ensures { OnOk result (out.new.items ≡ out.old.items ++ accepted_line domain.now document.now) }
+    ensures { OnOk result (out.new.items ≡ out.old.items ++ accepted_line domain.now listed.now) }
 {
     out.extend_from_slice(b"  accepted ")?;
-    push_document(out, domain, document)?;
+    push_document(out, domain, listed)?;
     out.extend_from_slice(b" authorities ")?;
-    push_number(out, document.authorities().len() as u64)?;
+    push_number(out, listed.document().authorities().len() as u64)?;
     out.extend_from_slice(b"\n")?;
     Ok(())
 }
 
-fn push_document(
-    out: &mut Vec<u8>,
-    domain: &TrustDomain,
-    document: &Document,
-) -> Result<(), AllocError>
-    ensures { OnOk result (out.new.items ≡ out.old.items ++ document_text domain.now document.now) }
+fn push_document(out: &mut Vec<u8>, domain: &TrustDomain, listed: &Listed) -> Result<(), AllocError>
+    ensures { OnOk result (out.new.items ≡ out.old.items ++ document_text domain.now listed.now) }
 {
-    push_digits(out, &document.id(domain).0)?;
+    push_digits(out, &listed.id(domain).0)?;
     out.extend_from_slice(b" sequence ")?;
-    match document.rank() {
+    match listed.document().rank() {
         Some(sequence) => push_number(out, sequence)?,
         None => out.extend_from_slice(b"none")?,
     }

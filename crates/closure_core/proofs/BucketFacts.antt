@@ -1,5 +1,5 @@
 -- Receipts of one bucket, or of all
-use Rattle.std.proofs.Common.{◌≡◌, ◌∙◌, ℕ, List, ◌∷◌, Bool, true, false, cond, Option, Some, None, sym, ap, refl, []}
+use Rattle.std.proofs.Common.{◌≡◌, ◌∙◌, ℕ, List, ◌∷◌, true, false, cond, Option, Some, None, sym, ap, refl, []}
 use Rattle.std.proofs.lemmas.Bool.{both_ways}
 use Rattle.receipt_core.specs.Receipt.{Receipt}
 use Rattle.closure_core.specs.AcceptedList.{is_within, receipts_in, receipts_within}

@@ -1,15 +1,16 @@
 //! What a closure lends, in order and without memory: three iterators over slices. Their value in
 //! contracts is the list that is left. Those who implement `Closure` make them, by the numbers of
 //! `nodes` and the rows of `record`; `specs/Inside/` says what these and their flags mean.
-ghost use Rattle.std.specs.Prelude.{◌≡◌, length};
+ghost use Rattle.std.specs.Prelude.{◌≡◌, length, IfSome};
 ghost use Rattle.std.specs.Iterator.{YieldsFirstBy, YieldsFirstRef, item_count};
+ghost use Rattle.bundle_doc.specs.Bundle.{doc_id_of};
 ghost use Rattle.closure_core.specs.Inside.Nodes.{flags_of, pairs_of, raised_documents, AreNumbers};
 ghost use Rattle.closure_core.specs.Inside.Records.{distrusts_of, AreWithin};
 ghost use Rattle.closure_core.specs.AcceptedList.{is_within, receipts_in, receipts_within};
 
-use crate::nodes::document_at;
+use crate::nodes::{document_at, document_with_id};
 use crate::record::Record;
-use bundle_doc::Document;
+use bundle_doc::{DocId, Document};
 use fed_config::Seed;
 use jwk_set::KeyId;
 use receipt_core::Receipt;
@@ -118,6 +119,21 @@ impl<'a> Accepted<'a> {
             seeds,
             receipts,
         }
+    }
+
+    /// The next document, as [`Iterator::next`] lends it, and its id as one of this domain. Where
+    /// the documents are of the domain, the ids of most are at hand; any other is computed, which
+    /// takes time for each byte of its document.
+    pub fn next_with_id(&mut self, domain: &TrustDomain) -> Option<(&'a Document, DocId)>
+        ensures next { YieldsFirstBy (λ found. found.0.now) (λ rest. rest) self.old result self.new }
+        ensures id { IfSome result (λ found. found.1.0 ≡ doc_id_of domain.now found.0.now) }
+    {
+        while let Some(number) = self.numbers.next() {
+            if self.counts[number as usize] != 0 {
+                return Some(document_with_id(self.seeds, self.receipts, number as usize, domain));
+            }
+        }
+        None
     }
 }
 

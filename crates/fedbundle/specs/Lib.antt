@@ -1,5 +1,5 @@
 -- The promise of each command has a file of its own; what they share stands in the first four.
--- `Inside` has the steps of the two longest.
+-- `Inside` has the steps of the longest.
 pub mod CommandRun
 pub mod Limits
 pub mod Errors

@@ -51,11 +51,18 @@ abbrev pub SaysOutputForm : Option (List ℕ) → OutputForm → Type 0
 SaysOutputForm text output.Text = (text ≡ None) ⊎ (text ≡ Some (codes "text"))
 SaysOutputForm text output.Json = text ≡ Some (codes "json")
 
+abbrev pub SaysNoOutputForm : Option (List ℕ) → Type 0
+SaysNoOutputForm text = (form : OutputForm) → SaysOutputForm text form → ⊥
+
 -- by the flag for short lines, and by the form
 abbrev pub SaysExplanationIn : (short form : Option (List ℕ)) → ExplanationForm → Type 0
 SaysExplanationIn short form chosen =
     (SaysOutputForm form output.Text × SaysExplanationForm short chosen)
     ⊎ (SaysOutputForm form output.Json × SaysFlag short false × (chosen ≡ chain.Json))
+
+abbrev pub SaysNoExplanationIn : (short form : Option (List ℕ)) → Type 0
+SaysNoExplanationIn short form =
+    (chosen : ExplanationForm) → SaysExplanationIn short form chosen → ⊥
 
 -- Unix seconds as a moment, in nanoseconds
 pub record SaysMoment (text : List ℕ) (moment : ℤ) : Type 0 where

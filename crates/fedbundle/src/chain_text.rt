@@ -93,7 +93,7 @@ fn push_step(text: &mut Vec<u8>, receipt: &Receipt) -> Result<(), AllocError>
 fn push_brought(text: &mut Vec<u8>, receipt: &Receipt) -> Result<(), AllocError>
     ensures { OnOk result (text.new.items ≡ text.old.items ++ brought_part receipt.now) }
 {
-    push_digits(text, &receipt.document().id(receipt.domain()).0)?;
+    push_digits(text, &receipt.document_id().0)?;
     text.extend_from_slice(b" sequence ")?;
     push_number_or_none(text, receipt.document().rank())?;
     Ok(())

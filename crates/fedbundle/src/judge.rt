@@ -15,7 +15,7 @@ use crate::complaint::{LineFault, complain};
 use crate::run_error::RunError;
 use byte_lines::{Line, LineBuf, Sink, Source};
 use closure_core::{Closure, TakeError};
-use receipt_core::{LineError, Receipt};
+use receipt_core::{KnownDigests, LineError, Receipt};
 use std::alloc::Global;
 
 /// Takes every receipt that fits, and complains of each other line and of a rest that no line feed
@@ -43,13 +43,14 @@ pub(crate) fn take_lines<C: Closure, R: Source, E: Sink>(
         × (E.has_failed complaints.new ≡ E.has_failed complaints.old) }
 {
     let mut lines = LineBuf::new(alloc);
+    let mut known = KnownDigests::new(alloc);
     let mut number = 0u64;
     let mut count = 0u64;
     'lines: loop {
         match lines.next_line(source)? {
             Line::Text(text) => {
                 number += 1;
-                count += take_text(alloc, closure, complaints, number, text)?;
+                count += take_text(alloc, closure, &mut known, complaints, number, text)?;
             }
             Line::TooLong => {
                 number += 1;
@@ -69,6 +70,7 @@ pub(crate) fn take_lines<C: Closure, R: Source, E: Sink>(
 fn take_text<C: Closure, E: Sink>(
     alloc: Global,
     closure: &mut C,
+    known: &mut KnownDigests,
     complaints: &mut E,
     number: u64,
     text: &[u8],
@@ -79,7 +81,7 @@ fn take_text<C: Closure, E: Sink>(
     ensures sound { (IsErrOf result Io → ⊥)
         → E.has_failed complaints.new ≡ E.has_failed complaints.old }
 {
-    match judge(alloc, closure, text)? {
+    match judge(alloc, closure, known, text)? {
         Some(why) => {
             complain(complaints, number, why)?;
             Ok(1)
@@ -91,12 +93,13 @@ fn take_text<C: Closure, E: Sink>(
 fn judge<C: Closure>(
     alloc: Global,
     closure: &mut C,
+    known: &mut KnownDigests,
     text: &[u8],
 ) -> Result<Option<LineFault>, RunError>
     ensures { MatchResult result (JudgesText (C.state closure.old) text.now (C.state closure.new))
         (FailsText (C.state closure.old) text.now) }
 {
-    match Receipt::read_line(alloc, text) {
+    match Receipt::read_line_with(alloc, text, known) {
         Ok(receipt) => take_receipt(closure, receipt),
         Err(LineError::NotCanonical) => Ok(Some(LineFault::NotCanonical)),
         Err(LineError::TooLong) => Ok(Some(LineFault::TooLong)),

@@ -3,7 +3,8 @@ ghost use Rattle.std.specs.Prelude.{◌≡◌, ℕ, IfOk, IfErr, Ok, Some, None,
 ghost use Rattle.hex.specs.Hex.{decode_sized};
 ghost use Rattle.fedbundle.specs.OptionTexts.{SaysBundleFormat, SaysExplanationForm, SaysFlag};
 ghost use Rattle.fedbundle.specs.OptionTexts.{SaysMoment, SaysStatusFormat, option_said};
-ghost use Rattle.fedbundle.specs.OptionTexts.{SaysExplanationIn, SaysOutputForm, said_beside};
+ghost use Rattle.fedbundle.specs.OptionTexts.{SaysExplanationIn, SaysNoExplanationIn};
+ghost use Rattle.fedbundle.specs.OptionTexts.{SaysNoOutputForm, SaysOutputForm, said_beside};
 ghost use Rattle.fedbundle.specs.declared.exits.Exit.TheVariants.{BadKey, BadMoment};
 ghost use Rattle.fedbundle.specs.declared.exits.Exit.TheVariants.{BadNumber, Usage};
 
@@ -229,7 +230,8 @@ pub fn explanation_form(short: Option<&str>) -> ExplanationForm
 /// The text is something else.
 pub fn read_output_form(text: Option<&str>) -> Result<OutputForm, Exit>
     ensures ok { IfOk result (SaysOutputForm (option_map (λ t. t.now) text.entry)) }
-    ensures refused { IfErr result (λ exit. exit ≡ Usage) }
+    ensures refused { IfErr result (λ exit. (exit ≡ Usage)
+        × SaysNoOutputForm (option_map (λ t. t.now) text.entry)) }
 {
     match text {
         None => Ok(OutputForm::Text),
@@ -249,7 +251,9 @@ pub fn read_explanation_form(
 ) -> Result<ExplanationForm, Exit>
     ensures ok { IfOk result (SaysExplanationIn (option_map (λ t. t.now) short.entry)
         (option_map (λ t. t.now) form.entry)) }
-    ensures refused { IfErr result (λ exit. exit ≡ Usage) }
+    ensures refused { IfErr result (λ exit. (exit ≡ Usage)
+        × SaysNoExplanationIn (option_map (λ t. t.now) short.entry)
+        (option_map (λ t. t.now) form.entry)) }
 {
     match read_output_form(form)? {
         OutputForm::Text => Ok(explanation_form(short)),

@@ -9,6 +9,7 @@
 mod chain;
 mod distrust;
 mod given_records;
+mod known_digests;
 pub mod laws;
 mod line;
 mod line_error;
@@ -26,6 +27,7 @@ pub use byte_lines::{
 };
 pub use chain::check_chain;
 pub use distrust::Distrust;
+pub use known_digests::KnownDigests;
 pub use line_error::LineError;
 pub use line_reader::MAX_LINE_BYTES;
 pub use offers::offers_of;

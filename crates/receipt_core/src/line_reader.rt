@@ -8,6 +8,7 @@ ghost use Rattle.receipt_core.specs.Line.{IsLine, IsNoJson, IsNoLine, RefusesRec
 ghost use Rattle.receipt_core.specs.Line.{SaysReceipt, Unless};
 ghost use Rattle.receipt_core.specs.Parts.{pieces};
 
+use crate::known_digests::KnownDigests;
 use crate::line_error::LineError;
 use crate::members::{
     digest_of, domain_of, endpoint_of, read_digest, read_document, read_domain, read_endpoint,
@@ -26,8 +27,12 @@ pub const MAX_LINE_BYTES: usize = 8_388_608;
 // digests of 64 digits, and 56 between them.
 const MAX_RECEIPT_LINE_BYTES: usize = 1_051_063;
 
-// The receipt of a line.
-pub(crate) fn read_receipt(alloc: Global, bytes: &[u8]) -> Result<Receipt, LineError>
+// The receipt of a line, where digests are known.
+pub(crate) fn read_receipt(
+    alloc: Global,
+    bytes: &[u8],
+    known: &mut KnownDigests,
+) -> Result<Receipt, LineError>
     ensures { MatchResult result (IsLine bytes.now) (RefusesReceiptLine bytes.now) }
 {
     if bytes.len() > MAX_LINE_BYTES {
@@ -36,7 +41,7 @@ pub(crate) fn read_receipt(alloc: Global, bytes: &[u8]) -> Result<Receipt, LineE
     if bytes.len() > MAX_RECEIPT_LINE_BYTES {
         return Err(LineError::NotCanonical);
     }
-    match read_directly(alloc, bytes)? {
+    match read_directly(alloc, bytes, known)? {
         Some(receipt) => Ok(receipt),
         None => read_tree(alloc, bytes),
     }
@@ -53,14 +58,18 @@ struct Pieces<'a> {
     voucher: &'a str,
 }
 
-pub(crate) fn read_directly(alloc: Global, bytes: &[u8]) -> Result<Option<Receipt>, AllocError>
+pub(crate) fn read_directly(
+    alloc: Global,
+    bytes: &[u8],
+    known: &mut KnownDigests,
+) -> Result<Option<Receipt>, AllocError>
     ensures { IfOk result (λ o. IfSome o (IsLine bytes.now)) }
 {
     let Ok(text) = str::from_utf8(bytes) else {
         return Ok(None);
     };
     match split_line(text) {
-        Some(parts) => read_pieces(alloc, &parts),
+        Some(parts) => read_pieces(alloc, &parts, known),
         None => Ok(None),
     }
 }
@@ -103,7 +112,11 @@ fn split_last<'a>(text: &'a str, label: &str) -> Option<(&'a str, &'a str)>
     text.rsplit_once(label)
 }
 
-fn read_pieces(alloc: Global, parts: &Pieces<'_>) -> Result<Option<Receipt>, AllocError>
+fn read_pieces(
+    alloc: Global,
+    parts: &Pieces<'_>,
+    known: &mut KnownDigests,
+) -> Result<Option<Receipt>, AllocError>
     ensures { IfOk result (λ o. IfSome o
         (IsLine (pieces parts.now.document.now parts.now.domain.now parts.now.endpoint.now
         parts.now.key.now parts.now.voucher.now))) }
@@ -120,13 +133,14 @@ fn read_pieces(alloc: Global, parts: &Pieces<'_>) -> Result<Option<Receipt>, All
     let Some(document) = Document::read_canonical(alloc, parts.document.as_bytes())? else {
         return Ok(None);
     };
-    let receipt = Receipt::new(
+    let receipt = Receipt::new_with(
         alloc,
         domain,
         endpoint,
         document,
         DocId(voucher),
         KeyId(key),
+        known,
     )?;
     Ok(Some(receipt))
 }

@@ -3,6 +3,7 @@ ghost use Rattle.std.specs.Prelude.{◌≡◌, IfOk, OnOk};
 ghost use Rattle.jwk_set.specs.Element.{key_id_of};
 ghost use Rattle.receipt_core.specs.Receipt.{key_ids, offers_of, with_key_id};
 
+use crate::known_digests::KnownDigests;
 use crate::triple::Triple;
 use bundle_doc::Document;
 use jwk_set::{Authority, KeyId};
@@ -23,9 +24,23 @@ pub fn offers_of(
     ensures { IfOk result (λ offers. offers.items
         ≡ offers_of (record { domain = domain.now; document = document.now })) }
 {
+    offers_with(alloc, domain, document, &mut KnownDigests::none(alloc))
+}
+
+// The same, where digests of certificates are known.
+pub(crate) fn offers_with(
+    alloc: Global,
+    domain: &TrustDomain,
+    document: &Document,
+    known: &mut KnownDigests,
+) -> Result<Vec<Triple>, AllocError>
+    ensures { IfOk result (λ offers. offers.items
+        ≡ offers_of (record { domain = domain.now; document = document.now })) }
+{
     let id = document.id(domain);
-    let mut offers = Vec::new(alloc);
-    for key in key_ids(alloc, document.authorities())? {
+    let keys = key_ids(alloc, document.authorities(), known)?;
+    let mut offers = Vec::with_capacity(alloc, keys.len())?;
+    for key in keys {
         offers.push(Triple::new(alloc, domain, id, key)?)?;
     }
     Ok(offers)
@@ -43,21 +58,39 @@ pub(crate) fn copies_of(alloc: Global, offers: &[Triple]) -> Result<Vec<Triple>,
 }
 
 // The different key ids of the X.509 authorities.
-fn key_ids(alloc: Global, authorities: &[Authority]) -> Result<BTreeSet<KeyId>, AllocError>
+fn key_ids(
+    alloc: Global,
+    authorities: &[Authority],
+    known: &mut KnownDigests,
+) -> Result<BTreeSet<KeyId>, AllocError>
     ensures { IfOk result (λ keys. keys.keys ≡ key_ids authorities.now) }
 {
     let mut keys = BTreeSet::new(alloc);
     for authority in authorities {
-        add_key_id(&mut keys, authority)?;
+        add_key_id(&mut keys, authority, known)?;
     }
     Ok(keys)
 }
 
-fn add_key_id(keys: &mut BTreeSet<KeyId>, authority: &Authority) -> Result<(), AllocError>
+fn add_key_id(
+    keys: &mut BTreeSet<KeyId>,
+    authority: &Authority,
+    known: &mut KnownDigests,
+) -> Result<(), AllocError>
     ensures { OnOk result (keys.new.keys ≡ with_key_id (key_id_of authority.now) keys.old.keys) }
 {
-    if let Some(key) = authority.key_id() {
+    if let Some(key) = key_id_with(authority, known) {
         keys.insert(key)?;
     }
     Ok(())
+}
+
+// The id of the authority's key, if it has one.
+fn key_id_with(authority: &Authority, known: &mut KnownDigests) -> Option<KeyId>
+    ensures { result ≡ key_id_of authority.now }
+{
+    match authority {
+        Authority::X509 { der, .. } => Some(KeyId(known.digest(der.as_bytes()))),
+        Authority::Jwt { .. } => None,
+    }
 }

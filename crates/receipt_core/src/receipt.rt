@@ -1,16 +1,18 @@
 //! Receipts. A clone copies what was computed: the offers, and the id where it is kept.
 ghost use Rattle.std.specs.Prelude.{◌≡◌, ◌↔◌, IsTrue, IfOk, IfSome, MatchResult, Some, refl};
 ghost use Rattle.std.specs.Cmp.{partial_equiv_from_equiv};
+ghost use Rattle.bundle_doc.specs.Bundle.{doc_id_of};
 ghost use Rattle.receipt_core.specs.Receipt.{IsReceipt, line, receipt_cmp, receipt_id_of, need_of};
 ghost use Rattle.receipt_core.specs.Receipt.{offers_of, pair_of};
 ghost use Rattle.receipt_core.specs.Order.{same_receipt, receipt_total, receipt_equiv, receipt_po};
 ghost use Rattle.receipt_core.specs.Line.{IsLine, RefusesReceiptLine};
 ghost use Rattle.receipt_core.specs.Parts.{IsKeptReceipt, parts_cmp, rest_cmp};
 
+use crate::known_digests::KnownDigests;
 use crate::line::{form_of_parts, id_of, write_receipt};
 use crate::line_error::LineError;
 use crate::line_reader::{read_directly, read_receipt};
-use crate::offers::{copies_of, offers_of};
+use crate::offers::{copies_of, offers_with};
 use crate::receipt_id::ReceiptId;
 use crate::triple::Triple;
 use bundle_doc::{DocId, Document};
@@ -88,9 +90,32 @@ impl Receipt {
               key = key;
             }) }
     {
+        let mut known = KnownDigests::none(alloc);
+        Receipt::new_with(alloc, domain, endpoint, document, voucher, key, &mut known)
+    }
+
+    // The same, where digests are known.
+    pub(crate) fn new_with(
+        alloc: Global,
+        domain: TrustDomain,
+        endpoint: SpiffeId,
+        document: Document,
+        voucher: DocId,
+        key: KeyId,
+        known: &mut KnownDigests,
+    ) -> Result<Receipt, AllocError>
+        ensures { IfOk result (λ r. r
+            ≡ record {
+              domain = domain;
+              endpoint = endpoint;
+              document = document;
+              voucher = voucher;
+              key = key;
+            }) }
+    {
         form_of_parts(&domain, &endpoint, &document, voucher, key);
         let need = Triple::new(alloc, endpoint.domain(), voucher, key)?;
-        let offers = offers_of(alloc, &domain, &document)?;
+        let offers = offers_with(alloc, &domain, &document, known)?;
         Ok(Receipt {
             domain,
             endpoint,
@@ -119,7 +144,22 @@ impl Receipt {
     pub fn read_line(alloc: Global, bytes: &[u8]) -> Result<Receipt, LineError>
         ensures { MatchResult result (IsLine bytes.now) (RefusesReceiptLine bytes.now) }
     {
-        read_receipt(alloc, bytes)
+        read_receipt(alloc, bytes, &mut KnownDigests::none(alloc))
+    }
+
+    /// Reads a line as [`Receipt::read_line`] does, where digests of certificates are known: one
+    /// that came in a line before is not hashed again.
+    ///
+    /// # Errors
+    /// As those of [`Receipt::read_line`].
+    pub fn read_line_with(
+        alloc: Global,
+        bytes: &[u8],
+        known: &mut KnownDigests,
+    ) -> Result<Receipt, LineError>
+        ensures { MatchResult result (IsLine bytes.now) (RefusesReceiptLine bytes.now) }
+    {
+        read_receipt(alloc, bytes, known)
     }
 
     /// Reads a line by its parts, with no JSON tree between, as [`Receipt::read_line`] does first.
@@ -130,7 +170,7 @@ impl Receipt {
     pub fn read_directly(alloc: Global, bytes: &[u8]) -> Result<Option<Receipt>, AllocError>
         ensures { IfOk result (λ o. IfSome o (IsLine bytes.now)) }
     {
-        read_directly(alloc, bytes)
+        read_directly(alloc, bytes, &mut KnownDigests::none(alloc))
     }
 
     /// The line, without a line feed.
@@ -163,6 +203,17 @@ impl Receipt {
         ensures { result.now ≡ self.now.document }
     {
         &self.document
+    }
+
+    /// The id of the document as one of its domain. Where the document offers something the id is
+    /// at hand, and else it is computed, which takes time for each byte of the document.
+    pub fn document_id(&self) -> DocId
+        ensures { result.0 ≡ doc_id_of self.now.domain self.now.document }
+    {
+        match self.offers.as_slice() {
+            [first, ..] => first.document,
+            [] => self.document.id(&self.domain),
+        }
     }
 
     /// The id of the document of the endpoint's trust domain that vouches for this one.

@@ -9,7 +9,7 @@ ghost use Rattle.replica_sync.specs.Inside.EntrySteps.{TakesEntry, TakesEntryTex
 ghost use Rattle.replica_sync.specs.Inside.EntrySteps.{HasRefusedEntry, HasRefusedLine};
 
 use closure_core::{Closure, Distrusted, TakeError, Taken};
-use receipt_core::{Distrust, LineError, Receipt};
+use receipt_core::{Distrust, KnownDigests, LineError, Receipt};
 use replica_core::{Entry, SyncError};
 use std::alloc::Global;
 use std::cmp::Ordering;
@@ -26,10 +26,12 @@ pub enum Wanted {
 }
 
 /// Reads the line with this number, where `last` is the line before it, which is empty for the
-/// first, and takes what it says. Returns how many receipts are held now and were not.
+/// first, and digests are known, and takes what it says. Returns how many receipts are held now and
+/// were not.
 pub(crate) fn take_line<C: Closure>(
     alloc: Global,
     closure: &mut C,
+    known: &mut KnownDigests,
     wanted: Wanted,
     last: &[u8],
     number: u64,
@@ -41,7 +43,7 @@ pub(crate) fn take_line<C: Closure>(
         (HasRefusedLine wanted (C.state closure.old).meaning last.now number text.now
         (C.state closure.new).meaning) }
 {
-    let entry = next_entry(alloc, wanted, last, number, text)?;
+    let entry = next_entry_with(alloc, known, wanted, last, number, text)?;
     match take_entry(closure, entry) {
         Ok(count) => Ok(count),
         Err(TakeError::NoMemory) => Err(SyncError::NoMemory),
@@ -68,7 +70,29 @@ pub fn next_entry(
     ensures { MatchResult result (IsNextEntry wanted last.now text.now)
         (RefusesEntryText (placed_line wanted last.now number text.now)) }
 {
-    match read_entry(alloc, wanted, text) {
+    next_entry_with(
+        alloc,
+        &mut KnownDigests::none(alloc),
+        wanted,
+        last,
+        number,
+        text,
+    )
+}
+
+/// The same, where digests are known.
+pub(crate) fn next_entry_with(
+    alloc: Global,
+    known: &mut KnownDigests,
+    wanted: Wanted,
+    last: &[u8],
+    number: u64,
+    text: &[u8],
+) -> Result<Entry, SyncError>
+    ensures { MatchResult result (IsNextEntry wanted last.now text.now)
+        (RefusesEntryText (placed_line wanted last.now number text.now)) }
+{
+    match read_entry(alloc, known, wanted, text) {
         Ok(entry) => {
             if last.cmp(text) == Ordering::Less {
                 Ok(entry)
@@ -125,13 +149,18 @@ fn take_record<C: Closure>(closure: &mut C, distrust: &Distrust) -> Result<u64, 
     }
 }
 
-fn read_entry(alloc: Global, wanted: Wanted, text: &[u8]) -> Result<Entry, LineError>
+fn read_entry(
+    alloc: Global,
+    known: &mut KnownDigests,
+    wanted: Wanted,
+    text: &[u8],
+) -> Result<Entry, LineError>
     ensures { MatchResult result (IsEntry wanted text.now) (RefusesSpelling wanted text.now) }
 {
     match wanted {
         Wanted::Records => read_record(alloc, text),
-        Wanted::Receipts => read_receipt(alloc, text),
-        Wanted::Either => match read_receipt(alloc, text) {
+        Wanted::Receipts => read_receipt(alloc, known, text),
+        Wanted::Either => match read_receipt(alloc, known, text) {
             Err(LineError::NotCanonical) => read_record(alloc, text),
             read => read,
         },
@@ -144,8 +173,8 @@ fn read_record(alloc: Global, text: &[u8]) -> Result<Entry, LineError>
     Ok(Entry::Record(Distrust::read_line(alloc, text)?))
 }
 
-fn read_receipt(alloc: Global, text: &[u8]) -> Result<Entry, LineError>
+fn read_receipt(alloc: Global, known: &mut KnownDigests, text: &[u8]) -> Result<Entry, LineError>
     ensures { MatchResult result (IsEntry Wanted.Receipts text.now) (RefusesReceipt text.now) }
 {
-    Ok(Entry::Receipt(Receipt::read_line(alloc, text)?))
+    Ok(Entry::Receipt(Receipt::read_line_with(alloc, text, known)?))
 }

@@ -19,6 +19,7 @@ use crate::line_bytes::set_last;
 use byte_lines::{Line, LineBuf, Source};
 use closure_core::Closure;
 use fed_config::Config;
+use receipt_core::KnownDigests;
 use replica_core::SyncError;
 use std::alloc::{AllocError, Global};
 
@@ -80,8 +81,11 @@ fn read_held<C: Closure, R: Source>(
     ensures fault { R.has_failed source.new ≡ (is_io result || R.has_failed source.old) }
 {
     let mut last = Vec::new(alloc);
+    let mut known = KnownDigests::new(alloc);
     let mut number = 2;
-    'lines: while read_next(alloc, format, closure, &mut last, number, lines, source)? {
+    'lines: while read_next(
+        alloc, format, closure, &mut known, &mut last, number, lines, source,
+    )? {
         number += 1;
     }
     Ok(number + 1)
@@ -93,6 +97,7 @@ fn read_next<C: Closure, R: Source>(
     alloc: Global,
     format: Format,
     closure: &mut C,
+    known: &mut KnownDigests,
     last: &mut Vec<u8>,
     number: u64,
     lines: &mut LineBuf,
@@ -117,7 +122,7 @@ fn read_next<C: Closure, R: Source>(
 {
     let _config = closure.config();
     match lines.next_line(source)? {
-        Line::Text(text) => judge(alloc, format, closure, last, number, text),
+        Line::Text(text) => judge(alloc, format, closure, known, last, number, text),
         Line::TooLong => Err(SyncError::NotCanonical(number)),
         Line::Cut => Err(SyncError::Truncated),
         Line::End => Err(SyncError::Truncated),
@@ -130,6 +135,7 @@ fn judge<C: Closure>(
     alloc: Global,
     format: Format,
     closure: &mut C,
+    known: &mut KnownDigests,
     last: &mut Vec<u8>,
     number: u64,
     text: &[u8],
@@ -156,6 +162,7 @@ fn judge<C: Closure>(
     take_line(
         alloc,
         closure,
+        known,
         wanted(format),
         last.as_slice(),
         number,

@@ -14,6 +14,7 @@ use crate::have_reader::{own_have, versioned_have};
 use crate::header::{format_of, write_header};
 use closure_core::Closure;
 use fed_config::Config;
+use receipt_core::KnownDigests;
 use replica_core::{Have, SyncError};
 use std::alloc::{AllocError, Global};
 
@@ -38,7 +39,16 @@ pub fn take_sole_line<C: Closure>(
         (HasRefusedSoleLine (C.state closure.old).meaning
         (record { number = number; text = text.now }) (C.state closure.new).meaning) }
 {
-    take_line(alloc, closure, Wanted::Either, b"".as_slice(), number, text)
+    let mut none = KnownDigests::none(alloc);
+    take_line(
+        alloc,
+        closure,
+        &mut none,
+        Wanted::Either,
+        b"".as_slice(),
+        number,
+        text,
+    )
 }
 
 /// Reads the first line of a snapshot of this configuration, in the format that is written.

@@ -12,15 +12,18 @@ use crate::entry_line::{Wanted, take_line};
 use crate::give_header_reader::{Expected, Head, next_head};
 use byte_lines::{Line, LineBuf, Source};
 use closure_core::Closure;
+use receipt_core::KnownDigests;
 use replica_core::SyncError;
 use std::alloc::Global;
 
 /// How far the answers of a session were read: how many lines, and the last one of those after the
-/// first line of the answer, which is empty where there is none.
+/// first line of the answer, which is empty where there is none; and which digests are known from
+/// them.
 #[derive(Drop)]
 pub(crate) struct Place {
     pub(crate) read: u64,
     pub(crate) last: Vec<u8>,
+    pub(crate) known: KnownDigests,
 }
 
 /// Takes the answer about the bucket, which the stream is to have next.
@@ -162,6 +165,7 @@ fn take_text<C: Closure>(
     take_line(
         alloc,
         closure,
+        &mut place.known,
         wanted,
         place.last.as_slice(),
         place.read + 1,

@@ -105,7 +105,7 @@ pub(crate) fn edge_line(
     let mut line = Vec::new(alloc);
     push_node(&mut line, &receipt.voucher().0)?;
     line.extend_from_slice(b" -> ")?;
-    push_node(&mut line, &receipt.document().id(receipt.domain()).0)?;
+    push_node(&mut line, &receipt.document_id().0)?;
     push_edge_label(alloc, &mut line, receipt, status)?;
     Ok(TextLine::new(line))
 }

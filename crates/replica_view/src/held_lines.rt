@@ -84,7 +84,7 @@ fn push_brought(line: &mut Vec<u8>, receipt: &Receipt) -> Result<(), AllocError>
     line.extend_from_slice(b" sequence ")?;
     push_number_or_none(line, receipt.document().rank())?;
     line.extend_from_slice(b" document ")?;
-    push_digits(line, &receipt.document().id(receipt.domain()).0)
+    push_digits(line, &receipt.document_id().0)
 }
 
 fn push_fetched(line: &mut Vec<u8>, receipt: &Receipt) -> Result<(), AllocError>

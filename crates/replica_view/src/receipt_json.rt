@@ -94,11 +94,7 @@ fn push_brought_members(out: &mut Vec<u8>, receipt: &Receipt) -> Result<(), Allo
     ensures { OnOk result (out.new.items ≡ out.old.items ++ brought_members receipt.now) }
 {
     push_optional(out, b",\"sequence\":", receipt.document().rank())?;
-    push_digest(
-        out,
-        b",\"document\":",
-        &receipt.document().id(receipt.domain()).0,
-    )
+    push_digest(out, b",\"document\":", &receipt.document_id().0)
 }
 
 #[tactic(auto, unfolding(crate::specs::HeldJson::fetched_members))]

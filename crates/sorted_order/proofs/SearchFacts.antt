@@ -84,6 +84,27 @@ edge_of_end compared bs i w here end whole some less =
       after = λ p. absurd (omega (arith, whole, before_next bs i here, before_all bs (suc i) end, p));
     }
 
+-- A place is the edge where the number just before it, which is in its block, stands before what is
+-- sought, and the number there does not.
+pub edge_beside : (compared : ℕ → Ordering) (bs : List (List ℕ)) (i w : ℕ) → i < length bs → w ≤ length (block_at bs i)
+    → (0 < w → compared (slice_index (block_at bs i) (w - 1)) ≡ Less) → (w ≡ 0 → i ≡ 0)
+    → ((number : ℕ) → slice_get (concat bs) (length_before bs i + w) ≡ Some number → compared number ≢ Less)
+    → IsBoundary compared (concat bs) (length_before bs i + w)
+edge_beside compared bs i w here within before start after = record {
+  within = omega (arith, within, before_next bs i here, before_within bs (suc i));
+  before = λ p. elim (cases_lt 0 w) [
+    | inl some ↦
+        let last : length_before bs i + (w - 1) ≡ length_before bs i + w - 1 = omega (arith, some) in
+        rw (concat-at bs i (w - 1) (length_before bs i + w - 1) here (omega (arith, within, some)) last) (before some)
+    | inr none ↦
+        let first : w ≡ 0 = omega (arith, none) in
+        let none_before : length_before bs i ≡ length_before bs 0 = ap (length_before bs) (start first) in
+        let empty : length_before bs 0 ≡ 0 = refl in
+        absurd (omega (arith, first, none_before, empty, p))
+  ];
+  after = λ p. after (slice_index (concat bs) (length_before bs i + w)) (slice_get-get_or (concat bs) (length_before bs i + w) 0 p);
+}
+
 -- An index of 0 means `Less`: with `index_zero`, comparisons turn into numbers and back.
 index_of_less : (o : Ordering) → ordering_index o ≤ 0 → o ≡ Less
 index_of_less Less h = refl

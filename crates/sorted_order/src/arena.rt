@@ -6,6 +6,7 @@ ghost use Rattle.std.specs.List.{insert, filter};
 ghost use Rattle.sorted_order.specs.Sought.{IsRising, IsGap, is_equal};
 ghost use Rattle.sorted_order.specs.ArenaView.{in_order, Arranges, FindsNumber, compared_at};
 
+use crate::guess::ItemGuess;
 use crate::lent::Lent;
 use crate::numbers::Numbers;
 use crate::order::Order;
@@ -122,6 +123,16 @@ impl<T> Arena<T> {
     {
         self.order
             .find_number(&ByItem::new(self.items.as_slice(), probe))
+    }
+
+    /// The same, where the place is guessed first. So few items are compared whole, where they are
+    /// sought by texts that agree on many bytes.
+    pub fn find_by_guess<P: ItemProbe<T> + ItemGuess<T>>(&self, probe: &P) -> Result<u32, usize>
+        requires { IsRising (P.compared probe.now) (in_order self.now) }
+        ensures { FindsNumber (P.compared probe.now) self.now result }
+    {
+        self.order
+            .find_number_by_guess(&ByItem::new(self.items.as_slice(), probe))
     }
 
     /// How many items in the order stand before what is sought.

@@ -5,6 +5,7 @@
 mod arena;
 mod block;
 mod directory;
+mod guess;
 pub mod laws;
 mod lent;
 mod numbers;
@@ -14,6 +15,7 @@ mod search;
 mod sums;
 
 pub use arena::Arena;
+pub use guess::{Agreed, Guess, ItemGuess, guess_text};
 pub use lent::Lent;
 pub use numbers::Numbers;
 pub use order::Order;

@@ -13,6 +13,7 @@ ghost use Rattle.sorted_order.specs.Inside.Seeking.{FindsFirst};
 
 use crate::block::{Block, HALF};
 use crate::directory::{add_blocks, locate, put_number};
+use crate::guess::{Guess, edge_by_guess};
 use crate::numbers::Numbers;
 use crate::probe::{Past, Probe};
 use crate::search::{edge, equal_from, first_from};
@@ -190,6 +191,24 @@ impl Order {
         }
     }
 
+    /// The same, where the place is guessed first. So few numbers are compared whole, where they
+    /// are sought by texts that agree on many bytes, or are guessed by less than what is compared.
+    pub fn find_by_guess<P: Probe + Guess>(&self, probe: &P) -> Result<usize, usize>
+        requires known { All (P.knows probe.now) self.now.items }
+        requires rising { IsRising (P.compared probe.now) self.now.items }
+        ensures { Finds (P.compared probe.now) self.now.items result }
+    {
+        let (place, found) = self.seek_by_guess(probe);
+        match found {
+            Some(number) => if probe.compare(number).is_eq() {
+                Ok(place)
+            } else {
+                Err(place)
+            },
+            None => Err(place),
+        }
+    }
+
     /// The numbers in the place of what is sought, in order.
     pub fn matching<P: Probe>(&self, probe: &P) -> Numbers<'_>
         requires known { All (P.knows probe.now) self.now.items }
@@ -220,6 +239,23 @@ impl Order {
         }
     }
 
+    /// The same, where the place is guessed first. So few numbers are compared whole.
+    pub(crate) fn find_number_by_guess<P: Probe + Guess>(&self, probe: &P) -> Result<u32, usize>
+        requires known { All (P.knows probe.now) self.now.items }
+        requires rising { IsRising (P.compared probe.now) self.now.items }
+        ensures { FindsFirst (P.compared probe.now) self.now.items result }
+    {
+        if self.blocks.is_empty() {
+            return Err(0);
+        }
+        let blocks = self.blocks.as_slice();
+        let (block, place) = edge_by_guess(blocks, probe);
+        match equal_from(blocks, block, place, probe) {
+            Some(number) => Ok(number),
+            None => Err(length_before_block(blocks, self.sums.as_slice(), block) + place),
+        }
+    }
+
     /// How many numbers stand before what is sought, and the number that stands after those.
     pub(crate) fn seek<P: Probe>(&self, probe: &P) -> (usize, Option<u32>)
         requires known { All (P.knows probe.now) self.now.items }
@@ -232,6 +268,25 @@ impl Order {
         }
         let blocks = self.blocks.as_slice();
         let (block, place) = edge(blocks, probe);
+        let number = first_from(blocks, block, place);
+        (
+            length_before_block(blocks, self.sums.as_slice(), block) + place,
+            number,
+        )
+    }
+
+    /// The same, where the place is guessed first.
+    fn seek_by_guess<P: Probe + Guess>(&self, probe: &P) -> (usize, Option<u32>)
+        requires known { All (P.knows probe.now) self.now.items }
+        requires rising { IsRising (P.compared probe.now) self.now.items }
+        ensures gap { IsGap (P.compared probe.now) self.now.items result.0 }
+        ensures number { result.1 ≡ slice_get self.now.items result.0 }
+    {
+        if self.blocks.is_empty() {
+            return (0, None);
+        }
+        let blocks = self.blocks.as_slice();
+        let (block, place) = edge_by_guess(blocks, probe);
         let number = first_from(blocks, block, place);
         (
             length_before_block(blocks, self.sums.as_slice(), block) + place,

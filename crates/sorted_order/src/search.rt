@@ -28,7 +28,7 @@ pub(crate) fn edge<P: Probe>(blocks: &[Block], probe: &P) -> (usize, usize)
 }
 
 /// The end, if there are numbers and the last of them stands before what is sought.
-fn edge_at_end<P: Probe>(blocks: &[Block], probe: &P) -> Option<(usize, usize)>
+pub(crate) fn edge_at_end<P: Probe>(blocks: &[Block], probe: &P) -> Option<(usize, usize)>
     requires some { 0 < length blocks.now }
     requires known { All (P.knows probe.now) (concat blocks.now) }
     ensures { IfSome result (λ end.
@@ -46,7 +46,7 @@ fn edge_at_end<P: Probe>(blocks: &[Block], probe: &P) -> Option<(usize, usize)>
 }
 
 /// The same as [`edge`], by the first numbers of the blocks.
-fn edge_among<P: Probe>(blocks: &[Block], probe: &P) -> (usize, usize)
+pub(crate) fn edge_among<P: Probe>(blocks: &[Block], probe: &P) -> (usize, usize)
     requires some { 0 < length blocks.now }
     requires filled { AreFilled blocks.now }
     requires known { All (P.knows probe.now) (concat blocks.now) }

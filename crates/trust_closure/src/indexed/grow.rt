@@ -93,7 +93,14 @@ fn place_receipt(
         ≤ label_index.new.edges + (length (offers_of (pair_of receipt)) + 1) }
 {
     let seeds = held.config().seeds();
-    pairs.add(seeds, held.arrived(), receipt.domain(), receipt.document());
+    let hint = held.hint_of_receipt(&receipt);
+    pairs.add(
+        seeds,
+        held.arrived(),
+        hint,
+        receipt.domain(),
+        receipt.document(),
+    );
     add_receipt(label_index, held, &receipt);
     held.insert(place, receipt);
     let _valid = held.config();

@@ -6,6 +6,7 @@
 //! need ask for. The lemma of each call is in `proofs/RepresentFacts`; `proofs/EdgeFacts` goes
 //! between edges and nodes.
 mod label;
+mod label_guesses;
 mod label_index;
 
 pub(crate) use label::{Label, LabelTest};

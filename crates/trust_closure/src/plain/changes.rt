@@ -148,7 +148,14 @@ fn place_receipt(
     ensures released_capacity { vec_capacity released.new ≡ vec_capacity released.old }
 {
     let seeds = held.config().seeds();
-    pairs.add(seeds, held.arrived(), receipt.domain(), receipt.document());
+    let hint = held.hint_of_receipt(&receipt);
+    pairs.add(
+        seeds,
+        held.arrived(),
+        hint,
+        receipt.domain(),
+        receipt.document(),
+    );
     held.insert(place, receipt);
     released.push_reserved(false);
     let _valid = held.config();

@@ -45,6 +45,7 @@ fn sow(
     let mut offers = offers_of(alloc, &seed.domain, &seed.document)?;
     pairs.try_reserve(1)?;
     seed_offers.append(&mut offers)?;
-    pairs.add(earlier, held.arrived(), &seed.domain, &seed.document);
+    let hint = held.hint_of(&seed.domain);
+    pairs.add(earlier, held.arrived(), hint, &seed.domain, &seed.document);
     Ok(())
 }

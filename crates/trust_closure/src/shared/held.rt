@@ -103,10 +103,25 @@ impl Held {
         if let Err(why) = check_fit(&self.config, receipt) {
             return Err(why);
         }
-        match self.receipts.find(&OfReceipt::new(receipt)) {
+        match self.receipts.find_by_guess(&OfReceipt::new(receipt)) {
             Ok(_) => Ok(Lookup::Present),
             Err(_) if self.receipts.len() >= MOST_RECEIPTS => Err(TakeError::Full),
             Err(place) => Ok(Lookup::Absent(place)),
+        }
+    }
+
+    /// The number of the receipt's domain, for guesses. It is 0 where the configuration does not
+    /// have the domain.
+    pub(crate) fn hint_of_receipt(&self, receipt: &Receipt) -> u32 {
+        self.hint_of(receipt.domain())
+    }
+
+    /// The same of the domain.
+    pub(crate) fn hint_of(&self, domain: &TrustDomain) -> u32 {
+        let _domains = self.config.domains();
+        match self.config.domain_no(domain) {
+            Some(number) => number as u32,
+            None => 0,
         }
     }
 
@@ -178,7 +193,8 @@ impl Held {
         ensures { IsTrue result ↔ Contains self.now.held receipt.now }
     {
         let _form = receipt.domain();
-        self.receipts.find(&OfReceipt::new(receipt)).is_ok()
+        let sought = OfReceipt::new(receipt);
+        self.receipts.find_by_guess(&sought).is_ok()
     }
 
     /// The receipts in order of arrival.

@@ -15,7 +15,7 @@ use bundle_doc::Document;
 use closure_core::{Accepted, document_at, domain_at};
 use fed_config::Seed;
 use receipt_core::Receipt;
-use sorted_order::{Order, Probe};
+use sorted_order::{Agreed, Guess, Order, Probe, guess_text};
 use spiffe_name::TrustDomain;
 use std::alloc::{AllocError, Global};
 use std::cmp::Ordering;
@@ -25,12 +25,38 @@ use wait_index::NodeNo;
 /// The documents of domains that the nodes have, each different one once in their order, by the
 /// number of its first node, its head; the head for each node; and for each node a count, which
 /// says of a head how many marked nodes have its document. A document is accepted where its count
-/// is not 0.
+/// is not 0. Beside these stand keys by which the place of a document is guessed; no clause speaks
+/// of them.
 #[derive(Drop)]
 pub(crate) struct Pairs {
     order: Order,
     heads: Vec<u32>,
     counts: Vec<u32>,
+    keys: Vec<PairKey>,
+}
+
+/// What tells where a document stands, but for its text: the number of its domain, and its rank,
+/// where an absent one is 0 and every other one more, but for the highest.
+#[derive(Clone, Copy, Debug)]
+pub(crate) struct PairKey {
+    domain: u32,
+    rank: u64,
+}
+
+impl PairKey {
+    fn new(domain: u32, document: &Document) -> PairKey {
+        PairKey {
+            domain,
+            rank: document.rank().map_or(0, |rank| rank.saturating_add(1)),
+        }
+    }
+
+    fn compare(&self, other: &PairKey) -> Ordering {
+        match self.domain.cmp(&other.domain) {
+            Ordering::Equal => self.rank.cmp(&other.rank),
+            unequal => unequal,
+        }
+    }
 }
 
 impl Model for Pairs {
@@ -54,6 +80,44 @@ pub(crate) struct SoughtPair<'a> {
     receipts: &'a [Receipt],
     domain: &'a TrustDomain,
     document: &'a Document,
+    keys: &'a [PairKey],
+    key: PairKey,
+}
+
+impl<'a> SoughtPair<'a> {
+    /// How the text of the document with the number seems to stand to that of this one.
+    fn guess_by_text(&self, number: usize, agreed: Agreed) -> (bool, usize) {
+        match self.text_of(number) {
+            Some(text) => {
+                let (order, bytes) = guess_text(text, self.document.canonical(), agreed);
+                (order.is_lt(), bytes)
+            }
+            None => (false, 0),
+        }
+    }
+
+    fn text_of(&self, number: usize) -> Option<&[u8]> {
+        match self.seeds.get(number) {
+            Some(seed) => Some(seed.document.canonical()),
+            None => {
+                let receipt = self.receipts.get(number.saturating_sub(self.seeds.len()))?;
+                Some(receipt.document().canonical())
+            }
+        }
+    }
+}
+
+impl<'a> Guess for SoughtPair<'a> {
+    fn guess(&self, number: u32, agreed: Agreed) -> (bool, usize) {
+        let Some(key) = self.keys.get(number as usize) else {
+            return (false, 0);
+        };
+        match key.compare(&self.key) {
+            Ordering::Less => (true, 0),
+            Ordering::Equal => self.guess_by_text(number as usize, agreed),
+            Ordering::Greater => (false, 0),
+        }
+    }
 }
 
 impl<'a> Probe for SoughtPair<'a> {
@@ -122,6 +186,7 @@ impl Pairs {
             order: Order::new(alloc),
             heads: Vec::new(alloc),
             counts: Vec::new(alloc),
+            keys: Vec::new(alloc),
         }
     }
 
@@ -147,17 +212,19 @@ impl Pairs {
         self.order.try_reserve(more)?;
         self.heads.try_reserve(nodes)?;
         self.counts.try_reserve(nodes)?;
+        self.keys.try_reserve(nodes)?;
         // That there are so few stands on this call.
         let _few = self.order.len();
         Ok(())
     }
 
     /// Adds the next node, with its document, to those of these nodes. There is room for it. Its
-    /// count is 0.
+    /// count is 0. `hint` is the number of the domain, for guesses alone.
     pub(crate) fn add(
         &mut self,
         seeds: &[Seed],
         receipts: &[Receipt],
+        hint: u32,
         domain: &TrustDomain,
         document: &Document,
     )
@@ -171,16 +238,20 @@ impl Pairs {
         ensures capacity { self.new.capacity ≡ self.old.capacity }
     {
         let _form = document.canonical();
+        let key = PairKey::new(hint, document);
         let sought = SoughtPair {
             seeds,
             receipts,
             domain,
             document,
+            keys: self.keys.as_slice(),
+            key,
         };
         let number = self.heads.len() as u32;
         let first = first_number(&mut self.order, &sought, number);
         self.heads.push_reserved(first);
         self.counts.push_reserved(0);
+        keep_key(&mut self.keys, key);
     }
 
     /// Adds one for each of these nodes to the count of its document, and returns how many
@@ -247,6 +318,8 @@ impl Pairs {
             receipts,
             domain,
             document,
+            keys: &[],
+            key: PairKey::new(0, document),
         };
         match self.order.find(&sought) {
             Ok(place) => flag_at(&self.counts, self.order.get(place) as usize),
@@ -291,12 +364,19 @@ fn first_number(order: &mut Order, sought: &SoughtPair<'_>, number: u32) -> u32
         order.new.items result }
     ensures capacity { order.new.capacity ≡ order.old.capacity }
 {
-    match order.find(sought) {
+    match order.find_by_guess(sought) {
         Ok(place) => order.get(place),
         Err(place) => {
             order.insert(place, number);
             number
         }
+    }
+}
+
+/// Keeps a key. There is room for it; without room it is left out, and only guesses are worse.
+fn keep_key(keys: &mut Vec<PairKey>, key: PairKey) {
+    if keys.len() < keys.capacity() {
+        keys.push_reserved(key);
     }
 }
 

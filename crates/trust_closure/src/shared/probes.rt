@@ -2,7 +2,7 @@
 ghost use Rattle.std.specs.Prelude.{◌≡◌};
 
 use receipt_core::Receipt;
-use sorted_order::{ItemProbe, Probe};
+use sorted_order::{Agreed, ItemGuess, ItemProbe, Probe, guess_text};
 use std::cmp::Ordering;
 
 /// A receipt by its line.
@@ -58,6 +58,17 @@ impl<'a> ItemProbe<Receipt> for OfReceipt<'a> {
 
     fn compare(&self, item: &Receipt) -> Ordering {
         item.cmp(self.receipt)
+    }
+}
+
+impl<'a> ItemGuess<Receipt> for OfReceipt<'a> {
+    // By the texts of the documents. Receipts of one document are compared whole.
+    fn guess(&self, item: &Receipt, agreed: Agreed) -> (bool, usize) {
+        let sought = self.receipt.document().canonical();
+        match guess_text(item.document().canonical(), sought, agreed) {
+            (Ordering::Equal, bytes) => (item.cmp(self.receipt).is_lt(), bytes),
+            (order, bytes) => (order.is_lt(), bytes),
+        }
     }
 }
 

@@ -1,5 +1,8 @@
-use Rattle.std.proofs.Common.{◌≡◌, ◌++◌}
+use Rattle.std.proofs.Common.{◌≡◌, ◌++◌, length}
 use Rattle.bundle_view.proofs.listed.list_accepted.Given as goal
 
-abbrev pub invariant-loop-document : goal.invariant-loop-document
-invariant-loop-document g l = l.documents.items ++ l.document-iterator ≡ l.initial.document-iterator
+abbrev pub invariant-lent : goal.invariant-lent
+invariant-lent g l = l.documents.items ++ l.accepted ≡ l.initial.accepted
+
+abbrev pub decreases-lent : goal.decreases-lent
+decreases-lent g l = length l.accepted

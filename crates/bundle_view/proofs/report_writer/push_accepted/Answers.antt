@@ -1,4 +1,4 @@
-use Rattle.std.proofs.Common.{◌∙◌, ◌++◌, ap}
+use Rattle.std.proofs.Common.{◌∙◌}
 use Rattle.bundle_view.specs.Report.{accepted_line}
 use Rattle.bundle_view.proofs.ReportFacts.{lines_more}
 use Rattle.bundle_view.proofs.report_writer.push_accepted.Goals as goal
@@ -7,5 +7,5 @@ pub loop-listed-preserved : goal.loop-listed-preserved
 loop-listed-preserved c =
     lines_more (accepted_line c.args.domain.now) c.args.documents.now c.loop-listed.listed-index c.listed-item.result
     c.loop-listed-test.true c.listed-item.is _ _
-    (c.in_ok-push_accepted_line.ensures ∙ ap (λ d. c.loop-listed.out.items ++ accepted_line c.args.domain.now d) c.document.ensures)
+    c.in_ok-push_accepted_line.ensures
     ∙ c.loop-listed.invariant

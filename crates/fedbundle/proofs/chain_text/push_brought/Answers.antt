@@ -11,8 +11,8 @@ returns c =
     joined c.args.text.now.items (encode_lower (doc_id_of r.domain r.document)) (codes " sequence " ++ number_or_none r.document.rank) _ _
     (c.in_ok-push_digits.ensures
     ∙ ap (λ d. c.args.text.now.items ++ encode_lower d)
-    (c.id.ensures ∙ (λ i. doc_id_of (c.domain.ensures.domain i) (c.document.ensures i))))
+    c.document_id.ensures)
     (joined c.push_digits.new.out.items (codes " sequence ") (number_or_none r.document.rank) _ _ c.in_ok-extend_from_slice.ensures.items
     (c.in_ok-push_number_or_none.ensures
     ∙ ap (λ n. c.extend_from_slice.new.self.items ++ number_or_none n)
-    (c.rank.ensures ∙ ap (λ (d : Bundle). d.rank) c.document-2.ensures)))
+    (c.rank.ensures ∙ ap (λ (d : Bundle). d.rank) c.document.ensures)))

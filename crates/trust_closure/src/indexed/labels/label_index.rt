@@ -1,14 +1,16 @@
 //! A net whose labels are found by what they stand for.
 ghost use Rattle.std.specs.Prelude.{◌≡◌, ◌+◌, ◌-◌, ◌^◌, ◌<◌, ◌≤◌, false, [], length, vec_capacity};
-ghost use Rattle.std.specs.Prelude.{IsOk, OnOk};
+ghost use Rattle.std.specs.Prelude.{IsOk, OnOk, IfSome, Some, slice_get};
 ghost use Rattle.sorted_order.specs.ArenaView.{in_order};
 ghost use Rattle.wait_index.specs.Net.{ListsReached, has_wait, with_label};
 ghost use Rattle.trust_closure.specs.Inside.Labels.{IsInOrder, HasNumber, AreNumbersOf};
 
 use crate::indexed::labels::label::{Label, LabelTest, SoughtKey, SoughtLabel};
+use crate::indexed::labels::label_guesses::LabelGuesses;
 use jwk_set::KeyId;
-use sorted_order::{Arena, Numbers};
+use sorted_order::{Arena, ItemProbe, Numbers};
 use std::alloc::{AllocError, Global};
+use std::cmp::Ordering;
 use std::marker::Model;
 use wait_index::{LabelNo, NodeNo, Reach};
 
@@ -21,6 +23,9 @@ pub(crate) struct LabelIndex {
 
     /// The labels that a close closes. There is room for each label, so a close takes no memory.
     closing: Vec<LabelNo>,
+
+    /// Guesses of the labels' numbers, of which no clause speaks.
+    guesses: LabelGuesses,
 }
 
 impl Model for LabelIndex {
@@ -55,6 +60,7 @@ impl LabelIndex {
             labels: Arena::new(alloc),
             reach: Reach::new(alloc),
             closing: Vec::new(alloc),
+            guesses: LabelGuesses::new(alloc),
         }
     }
 
@@ -73,6 +79,7 @@ impl LabelIndex {
         if nodes <= spare_nodes && edges <= spare_edges {
             return Ok(());
         }
+        self.guesses.try_reserve(self.labels.items(), edges)?;
         self.labels.try_reserve(edges)?;
         reserve_list(&mut self.closing, self.labels.len(), edges)?;
         self.reach.try_reserve(nodes, edges, edges)?;
@@ -105,7 +112,8 @@ impl LabelIndex {
         ensures offers { Offers self.old node label closed self.new }
         ensures reached { ListsReached self.new.net self.new.marked }
     {
-        let number = number_of(&mut self.labels, &mut self.reach, label, closed);
+        let (labels, reach) = (&mut self.labels, &mut self.reach);
+        let number = guessed_or_found(labels, reach, &mut self.guesses, label, closed);
         self.reach.add_offer(node, number);
     }
 
@@ -119,7 +127,8 @@ impl LabelIndex {
         ensures awaits { Awaits self.old node label closed self.new }
         ensures reached { ListsReached self.new.net self.new.marked }
     {
-        let number = number_of(&mut self.labels, &mut self.reach, label, closed);
+        let (labels, reach) = (&mut self.labels, &mut self.reach);
+        let number = guessed_or_found(labels, reach, &mut self.guesses, label, closed);
         self.reach.add_wait(number, node);
     }
 
@@ -165,6 +174,54 @@ impl LabelIndex {
         let (nodes, labels, edges) = self.reach.room();
         let listed = self.closing.capacity() - self.labels.len();
         (nodes, labels.min(edges).min(self.labels.room()).min(listed))
+    }
+}
+
+/// The same as [`number_of`], by a guess where that holds.
+fn guessed_or_found(
+    labels: &mut Arena<Label>,
+    reach: &mut Reach,
+    guesses: &mut LabelGuesses,
+    label: Label,
+    closed: bool,
+) -> LabelNo
+    requires rising { IsInOrder (in_order labels.old) }
+    requires sizes { length reach.old.net.closed ≡ length labels.old.items }
+    requires reached { ListsReached reach.old.net reach.old.marked }
+    requires items { length labels.old.items < labels.old.capacity }
+    requires room { 0 < reach.old.room.labels }
+    ensures number { HasNumber labels.old.items reach.old.net label closed labels.new.items
+        reach.new.net result }
+    ensures rising { IsInOrder (in_order labels.new) }
+    ensures sizes { length reach.new.net.closed ≡ length labels.new.items }
+    ensures reached { ListsReached reach.new.net reach.new.marked }
+    ensures marked { reach.new.marked ≡ reach.old.marked }
+    ensures last { reach.new.last ≡ reach.old.last }
+    ensures capacity { labels.new.capacity ≡ labels.old.capacity }
+    ensures nodes { reach.new.room.nodes ≡ reach.old.room.nodes }
+    ensures edges { reach.new.room.edges ≡ reach.old.room.edges }
+    ensures labels { reach.old.room.labels - (length labels.new.items - length labels.old.items)
+        ≡ reach.new.room.labels }
+{
+    match guessed(labels.items(), guesses, &SoughtLabel { label }) {
+        Some(number) => LabelNo::new(number as usize),
+        None => {
+            let number = number_of(labels, reach, label, closed);
+            guesses.keep(&label, number.index());
+            number
+        }
+    }
+}
+
+/// The number of the label, if the guess holds.
+fn guessed(labels: &[Label], guesses: &LabelGuesses, sought: &SoughtLabel) -> Option<u32>
+    ensures { IfSome result (λ number. slice_get labels.now number ≡ Some sought.now.label) }
+{
+    let number = guesses.number_of(&sought.label)?;
+    let found = labels.get(number as usize)?;
+    match sought.compare(found) {
+        Ordering::Equal => Some(number),
+        _ => None,
     }
 }
 

@@ -4,7 +4,7 @@ use Rattle.closure_core.specs.AcceptedList.{document_of}
 use Rattle.trust_closure.proofs.PairFacts.{rising-sought}
 use Rattle.trust_closure.proofs.shared.pairs.first_number.Goals as goal
 
-pub find-requires-clause-rising : goal.find-requires-clause-rising
-find-requires-clause-rising c =
+pub find_by_guess-requires-clause-rising : goal.find_by_guess-requires-clause-rising
+find_by_guess-requires-clause-rising c =
     rising-sought (pairs_of c.args.sought.now.seeds.now c.args.sought.now.receipts.now) c.args.order.now.items
     (document_of c.args.sought.now.domain.now c.args.sought.now.document.now) c.requires.rising

@@ -12,15 +12,15 @@ use Rattle.closure_core.proofs.RisingFacts.{sought}
 use Rattle.trust_closure.proofs.HeldFacts.{finds_held}
 use Rattle.trust_closure.proofs.shared.held.Held.holds.Goals as goal
 
-pub find-requires : goal.find-requires
-find-requires c = record {
-  rising = subst (λ (r : Receipt). IsNonDecreasingBy (λ s. ordering_index (receipt_cmp s r)) (in_order c.self.inside.receipts)) (sym c.new.ensures)
+pub find_by_guess-requires : goal.find_by_guess-requires
+find_by_guess-requires c = record {
+  rising = subst (λ (r : Receipt). IsNonDecreasingBy (λ s. ordering_index (receipt_cmp s r)) (in_order c.self.inside.receipts)) (sym c.new-sought.ensures)
       (sought receipt_total (in_order c.self.inside.receipts) c.args.receipt.now c.self.invariant.rising);
 }
 
 pub returns : goal.returns
 returns c =
-    let found = subst (λ (r : Receipt). FindsNumber (λ s. receipt_cmp s r) c.self.inside.receipts c.find.result) c.new.ensures c.find.ensures in
+    let found = subst (λ (r : Receipt). FindsNumber (λ s. receipt_cmp s r) c.self.inside.receipts c.find_by_guess.result) c.new-sought.ensures c.find_by_guess.ensures in
     subst (λ (h : HeldReceipts). IsTrue c.is_ok.result ↔ Contains h.held c.args.receipt.now) c.self.view_is
     (subst (λ b. IsTrue b ↔ Contains (in_order c.self.inside.receipts) c.args.receipt.now) (sym c.is_ok.ensures.value)
-    (finds_held c.self.inside.receipts c.args.receipt.now c.find.result c.self.invariant.receipts c.domain-form.ensures.form found))
+    (finds_held c.self.inside.receipts c.args.receipt.now c.find_by_guess.result c.self.invariant.receipts c.domain-form.ensures.form found))

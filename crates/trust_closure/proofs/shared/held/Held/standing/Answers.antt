@@ -17,8 +17,8 @@ use Rattle.trust_closure.proofs.shared.held.Held.standing.Goals as goal
 abbrev Fits : HeldReceipts → Receipt → Type 0
 Fits h r = IsFitting h.config r
 
-pub find-requires : goal.find-requires
-find-requires c = record {
+pub find_by_guess-requires : goal.find_by_guess-requires
+find_by_guess-requires c = record {
   rising = subst (λ (r : Receipt). IsNonDecreasingBy (λ s. ordering_index (receipt_cmp s r)) (in_order c.self.inside.receipts)) (sym c.new.ensures)
       (sought receipt_total (in_order c.self.inside.receipts) c.args.receipt.now c.self.invariant.rising);
 }
@@ -42,32 +42,32 @@ returns-in-Err c =
     }) c.args.receipt.now c.in-Err.why
     c.in-Err.ensures.fits)
 
-pub returns-in-Err-find : goal.returns-in-Err-find
-returns-in-Err-find c =
-    let missing : IsMissing (λ s. receipt_cmp s c.args.receipt.now) (in_order c.self.inside.receipts) c.in-Err-find.field-0 =
-    subst (λ (r : Receipt). IsMissing (λ s. receipt_cmp s r) (in_order c.self.inside.receipts) c.in-Err-find.field-0) c.new.ensures c.in-Err-find.ensures in
+pub returns-in-Err-find_by_guess : goal.returns-in-Err-find_by_guess
+returns-in-Err-find_by_guess c =
+    let missing : IsMissing (λ s. receipt_cmp s c.args.receipt.now) (in_order c.self.inside.receipts) c.in-Err-find_by_guess.field-0 =
+    subst (λ (r : Receipt). IsMissing (λ s. receipt_cmp s r) (in_order c.self.inside.receipts) c.in-Err-find_by_guess.field-0) c.new.ensures c.in-Err-find_by_guess.ensures in
     let size : length (in_order c.self.inside.receipts) ≡ length c.self.inside.receipts.items =
     length_in_order c.self.inside.receipts c.self.invariant.arranged in
     let full : 65536 ≤ length (in_order c.self.inside.receipts) = omega arith in
     record {
       fits = subst (λ (h : HeldReceipts). Fits h c.args.receipt.now) c.self.view_is c.in_default.ensures.fits;
-      unheld = λ has. missing_lacks (in_order c.self.inside.receipts) c.args.receipt.now c.in-Err-find.field-0 missing
+      unheld = λ has. missing_lacks (in_order c.self.inside.receipts) c.args.receipt.now c.in-Err-find_by_guess.field-0 missing
           (subst (λ (h : HeldReceipts). Contains h.held c.args.receipt.now) (sym c.self.view_is) has);
       full = subst (λ (h : HeldReceipts). 65536 ≤ length h.held) c.self.view_is full;
     }
 
 pub returns-in-Err-2 : goal.returns-in-Err-2
 returns-in-Err-2 c =
-    let missing : IsMissing (λ s. receipt_cmp s c.args.receipt.now) (in_order c.self.inside.receipts) c.in-Err-find.field-0 =
-    subst (λ (r : Receipt). IsMissing (λ s. receipt_cmp s r) (in_order c.self.inside.receipts) c.in-Err-find.field-0) c.new.ensures c.in-Err-find.ensures in
+    let missing : IsMissing (λ s. receipt_cmp s c.args.receipt.now) (in_order c.self.inside.receipts) c.in-Err-find_by_guess.field-0 =
+    subst (λ (r : Receipt). IsMissing (λ s. receipt_cmp s r) (in_order c.self.inside.receipts) c.in-Err-find_by_guess.field-0) c.new.ensures c.in-Err-find_by_guess.ensures in
     let size : length (in_order c.self.inside.receipts) ≡ length c.self.inside.receipts.items =
     length_in_order c.self.inside.receipts c.self.invariant.arranged in
     let few : length (in_order c.self.inside.receipts) < 65536 = omega arith in
     record {
       is = c.check_fit.ensures.form;
       fits = subst (λ (h : HeldReceipts). Fits h c.args.receipt.now) c.self.view_is c.in_default.ensures.fits;
-      unheld = λ has. missing_lacks (in_order c.self.inside.receipts) c.args.receipt.now c.in-Err-find.field-0 missing
+      unheld = λ has. missing_lacks (in_order c.self.inside.receipts) c.args.receipt.now c.in-Err-find_by_guess.field-0 missing
           (subst (λ (h : HeldReceipts). Contains h.held c.args.receipt.now) (sym c.self.view_is) has);
       few = subst (λ (h : HeldReceipts). length h.held < 65536) c.self.view_is few;
-      missing = subst (λ (h : HeldReceipts). IsMissing (λ s. receipt_cmp s c.args.receipt.now) h.held c.in-Err-find.field-0) c.self.view_is missing;
+      missing = subst (λ (h : HeldReceipts). IsMissing (λ s. receipt_cmp s c.args.receipt.now) h.held c.in-Err-find_by_guess.field-0) c.self.view_is missing;
     }

@@ -1,12 +1,12 @@
 use Rattle.std.proofs.Common.{◌++◌, ◌∙◌, ap, sym, map, append-nil}
 use Rattle.receipt_core.specs.Receipt.{Pair, offer_of, key_ids}
 use Rattle.receipt_core.proofs.KeyIdFacts.{offers_more}
-use Rattle.receipt_core.proofs.offers.offers_of.Goals as goal
+use Rattle.receipt_core.proofs.offers.offers_with.Goals as goal
 
 pub loop-key-init : goal.loop-key-init
 loop-key-init c =
     ap (λ x. x ++ map (offer_of (record { domain = c.args.domain.now; document = c.args.document.now }))
-    c.into_iter-key-iterator.result) c.new-offers.ensures.items
+    c.into_iter-key-iterator.result) c.in_ok-offers.ensures.items
 
 pub loop-key-preserved : goal.loop-key-preserved
 loop-key-preserved c =
@@ -22,4 +22,4 @@ returns c =
     sym (append-nil c.loop-key.offers.items)
     ∙ ap (λ x. c.loop-key.offers.items ++ map (offer_of p) x) (sym c.in-None.ensures.steps.0)
     ∙ c.loop-key.invariant
-    ∙ ap (map (offer_of p)) (c.into_iter-key-iterator.ensures.into_iter_gives.0 ∙ c.in_ok-key-items.ensures ∙ ap key_ids c.authorities.ensures)
+    ∙ ap (map (offer_of p)) (c.into_iter-key-iterator.ensures.into_iter_gives.0 ∙ c.in_ok-keys.ensures ∙ ap key_ids c.authorities.ensures)

@@ -1,6 +1,6 @@
 use Rattle.std.proofs.Common.{◌≡◌, ◌++◌, map}
 use Rattle.receipt_core.specs.Receipt.{offer_of}
-use Rattle.receipt_core.proofs.offers.offers_of.Given as goal
+use Rattle.receipt_core.proofs.offers.offers_with.Given as goal
 
 abbrev pub invariant-loop-key : goal.invariant-loop-key
 invariant-loop-key l =

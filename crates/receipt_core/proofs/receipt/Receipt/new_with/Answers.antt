@@ -1,5 +1,5 @@
 use Rattle.std.proofs.Common.{◌∙◌}
-use Rattle.receipt_core.proofs.receipt.Receipt.new.Goals as goal
+use Rattle.receipt_core.proofs.receipt.Receipt.new_with.Goals as goal
 
 pub invariant_of-result : goal.invariant_of-result
 invariant_of-result c = record {
