@@ -3,6 +3,7 @@
 #![tactic(auto)]
 
 mod arena;
+mod backward;
 mod block;
 mod directory;
 mod guess;
@@ -15,6 +16,7 @@ mod search;
 mod sums;
 
 pub use arena::Arena;
+pub use backward::Backward;
 pub use guess::{Agreed, Guess, ItemGuess, guess_text};
 pub use lent::Lent;
 pub use numbers::Numbers;
