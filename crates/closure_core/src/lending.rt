@@ -126,7 +126,8 @@ impl<'a> Accepted<'a> {
     /// the documents are of the domain, the ids of most are at hand; any other is computed, which
     /// takes time for each byte of its document.
     pub fn next_with_id(&mut self, domain: &TrustDomain) -> Option<(&'a Document, DocId)>
-        ensures next { YieldsFirstBy (λ found. found.0.now) (λ rest. rest) self.old result self.new }
+        ensures next { YieldsFirstBy (λ found. found.0.now) (λ rest. rest) self.old result
+            self.new }
         ensures id { IfSome result (λ found. found.1.0 ≡ doc_id_of domain.now found.0.now) }
     {
         while let Some(number) = self.numbers.next() {
