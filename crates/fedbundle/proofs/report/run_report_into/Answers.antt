@@ -48,7 +48,8 @@ returns g c =
     record {
       answer = (
         c.in_ok-count.ensures.read,
-        reported run.sink complaints (g.C.Closure.state c.args.closure.now).meaning.config run.source.before (g.C.Closure.state c.take_lines.new.closure).meaning
+        reported run.sink complaints (g.C.Closure.state c.args.closure.now).meaning.config run.source.before
+            (g.C.Closure.state c.take_lines.new.closure).meaning
             c.in_ok-count.count judged c.in_ok-write_report.ensures.ok,
       );
       sound = λ unless. (before.0, c.in_ok-write_report.ensures.fault, before.1);
