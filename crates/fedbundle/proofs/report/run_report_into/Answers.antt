@@ -7,7 +7,7 @@ use Rattle.fedbundle.proofs.report.run_report_into.Goals as goal
 
 pub returns-in_err-count : goal.returns-in_err-count
 returns-in_err-count g c =
-    let exit = err_from_is_err_and c.from_residual-in_err-count.result c.from_residual-in_err-count.ensures.1 in
+    let exit = err_from_is_err_and c.from_residual.result c.from_residual.ensures.1 in
     let judged = c.in_err-count.ensures.stops in
     let run = run_of (device_run g.R.Source.remaining g.R.Source.has_failed c.args.source.now c.take_lines.new.source)
     (device_run g.W.Sink.contents g.W.Sink.has_failed c.args.sink.now c.args.sink.now) in
