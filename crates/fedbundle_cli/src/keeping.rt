@@ -113,7 +113,7 @@ pub(crate) fn look<C: Closure>(
 
 /// Leaves to the system what the command held: the process ends, and its memory is taken back at
 /// once, and not piece by piece.
-pub(crate) fn leave<T>(held: T) {
+pub(crate) fn leave<T: Drop>(held: T) {
     mem::forget(held);
 }
 
