@@ -35,6 +35,16 @@ def built_program():
     return program
 
 
+def earlier_programs():
+    """The program of an earlier commit that $FEDBUNDLE_BEFORE names, if it names one: it is measured in the same turns."""
+    program = os.environ.get("FEDBUNDLE_BEFORE")
+    if program is None:
+        return []
+    if not os.access(program, os.X_OK):
+        stop(f"{program} is not there: $FEDBUNDLE_BEFORE names it")
+    return [program]
+
+
 def build_ours(name, *crates, words=(), text=b""):
     """Builds the program programs/NAME.rt.txt, with the files of programs/NAME/ if there are any, over the crates and all
     that they stand on, runs it once on the words and the text, and returns where it is."""

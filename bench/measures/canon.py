@@ -2,7 +2,8 @@
 
 It makes bundles of several sizes, always the same ones, checks that both programs print the same bytes for each, and
 measures whole processes: start, reading standard input, and writing the answer. The runs of the two programs take turns,
-so that what else the machine does falls on both.
+so that what else the machine does falls on both. Where $FEDBUNDLE_BEFORE names the program of an earlier commit, that one
+runs in the same turns, and the last two columns have fedbundle's time over its.
 
 words: [RUNS]      RUNS is the number of timed runs of each program on each bundle, 31 if left out
 """
@@ -14,7 +15,7 @@ import subprocess
 import tempfile
 from pathlib import Path
 
-from building import build_peer, built_program, stop, used_by_children
+from building import build_peer, built_program, earlier_programs, stop, used_by_children
 from texts import url_text
 
 DOMAIN = "a.example"
@@ -128,15 +129,19 @@ def measure(commands, path, runs):
 # The table.
 
 ROW = "{:<15} {:>8} {:>8} {:>8} | {:>9} {:>8} {:>6} | {:>8} {:>8} {:>6} | {:>5} {:>6}"
+RATIOS = " | {:>6} {:>6}"
 
 
-def row(made_of, name, size, count, ours, plain):
+def row(made_of, name, size, count, ours, plain, *earlier):
     def columns(times):
         best, median = min(times), statistics.median(times)
         return f"{best * 1e3:.2f}", f"{median * 1e3:.2f}", f"{size / 1e6 / best:.1f}"
 
-    ratios = f"{min(ours) / min(plain):.2f}", f"{statistics.median(ours) / statistics.median(plain):.2f}"
-    return ROW.format(made_of, name, size, count, *columns(ours), *columns(plain), *ratios)
+    def ratios(others):
+        return f"{min(ours) / min(others):.2f}", f"{statistics.median(ours) / statistics.median(others):.2f}"
+
+    text = ROW.format(made_of, name, size, count, *columns(ours), *columns(plain), *ratios(plain))
+    return text + "".join(RATIOS.format(*ratios(times)) for times in earlier)
 
 
 def growth(points):
@@ -147,24 +152,27 @@ def growth(points):
 
 def main(words):
     runs = int(words[0]) if words else 31
-    commands = [[built_program(), "canon", "--domain", DOMAIN], [str(build_peer("canon")), DOMAIN]]
+    words = ["canon", "--domain", DOMAIN]
+    earlier = [[program, *words] for program in earlier_programs()]
+    commands = [[built_program(), *words], [str(build_peer("canon")), DOMAIN], *earlier]
     print(f"Processor times of whole processes in ms, the start of the process included, by {runs} runs of each, in turns.")
     print("MB/s is by the best time. The ratio is fedbundle's time over that of plain Rust.\n")
-    print(ROW.format("", "", "", "", "fedbundle", "", "", "plain", "", "", "ratio", ""))
-    print(ROW.format("bundle", "size", "bytes", "elements", *["best", "median", "MB/s"] * 2, "best", "median"))
+    before = RATIOS.format("before", "") * len(earlier)
+    print(ROW.format("", "", "", "", "fedbundle", "", "", "plain", "", "", "ratio", "") + before)
+    names = [*["best", "median", "MB/s"] * 2, "best", "median"]
+    print(ROW.format("bundle", "size", "bytes", "elements", *names) + RATIOS.format("best", "median") * len(earlier))
     points = {MIXED: ([], []), SMALL: ([], [])}
     with tempfile.TemporaryDirectory() as folder:
         path = Path(folder) / "bundle.json"
         for made_of, name, written, count in bundles():
             path.write_bytes(written)
-            first, second = (answer(command, path) for command in commands)
-            if first != second:
-                stop(f"the two programs print different texts for the bundle of {made_of}, {name}")
+            if len({answer(command, path) for command in commands}) != 1:
+                stop(f"the programs print different texts for the bundle of {made_of}, {name}")
             times = measure(commands, path, runs)
             print(row(made_of, name, len(written), count, *times), flush=True)
-            for found, at in zip(times, points[made_of]):
+            for found, at in zip(times[:2], points[made_of]):
                 at.append((len(written), min(found)))
-    print("\nBoth programs printed the same bytes for each bundle.")
+    print("\nAll programs printed the same bytes for each bundle.")
     print("Growth: ns for each further byte from one size to the next, which stay about the same where time is linear.")
     for made_of, (ours, plain) in points.items():
         print(f"  {made_of}: fedbundle {growth(ours)}; plain {growth(plain)}")

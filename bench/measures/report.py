@@ -5,7 +5,8 @@ report for each, and measures whole processes: start, reading the configuration 
 report. The runs of the two programs take turns, so that what else the machine does falls on both.
 
 Plain Rust is built twice: as it comes, where its digests are those of the processor where that has them, and with digests
-in plain code, as fedbundle's are.
+in plain code, as fedbundle's are. Where $FEDBUNDLE_BEFORE names the program of an earlier commit, that one runs in the
+same turns, and its figures stand last.
 
 words: [RUNS [SIZE..]]      RUNS is the number of timed runs of each program on each stream, 5 if left out; the
                             sizes are 4096, 16384 and 65536 receipts, if none is given
@@ -17,7 +18,7 @@ import random
 import tempfile
 from pathlib import Path
 
-from building import build_peer, built_program, run_timed, stop
+from building import build_peer, built_program, earlier_programs, run_timed, stop
 from texts import compact, url_text
 
 DOMAIN = "a.example"
@@ -133,7 +134,8 @@ def measure(command, path, answer):
     return used, held
 
 
-ROW = "{:<11} {:<15} {:>8} {:>10} | {:>8} {:>6} {:>5} | {:>8} {:>6} {:>5} {:>5} | {:>8} {:>6} {:>5} {:>5}"
+OURS = " | {:>8} {:>6} {:>5}"
+OTHER = " | {:>8} {:>6} {:>5} {:>5}"
 
 
 def main(words):
@@ -141,20 +143,24 @@ def main(words):
     sizes = [int(size) for size in words[1:]] or [4_096, 16_384, 65_536]
     program = built_program()
     plain = [build_peer("report"), build_peer("report", soft=True)]
-    print(f"Best processor times in ms of whole processes by {runs} runs of each, in turns. The ratio is fedbundle's over plain")
-    print("Rust's. Growth: the time for each receipt over that at the size before. Held: the most bytes resident beyond")
+    earlier = earlier_programs()
+    row = "{:<11} {:<15} {:>8} {:>10}" + OURS + OTHER * (len(plain) + len(earlier))
+    print(f"Best processor times in ms of whole processes by {runs} runs of each, in turns. The ratio is fedbundle's over")
+    print("the other's. Growth: the time for each receipt over that at the size before. Held: the most bytes resident beyond")
     print("those of a run on no receipts, for each byte of input.\n")
-    print(ROW.format(*[""] * 4, "fedbundle", "", "", "plain", "", "", "", "soft", "", "", ""))
+    others = ["plain", "soft", *["before"] * len(earlier)]
+    print(row.format(*[""] * 4, "fedbundle", "", "", *(word for name in others for word in (name, "", "", ""))))
     names = ["ms", "growth", "held"]
-    print(ROW.format("bundles", "shape", "receipts", "bytes", *names, *[*names, "ratio"] * 2), flush=True)
+    print(row.format("bundles", "shape", "receipts", "bytes", *names, *[*names, "ratio"] * len(others)), flush=True)
     before = {}
     with tempfile.TemporaryDirectory() as name:
         folder = Path(name)
-        empty, answers = folder / "empty", [folder / "ours", folder / "plain", folder / "soft"]
+        empty, answers = folder / "empty", [folder / f"answer{at}" for at in range(1 + len(others))]
         empty.touch()
         for bundles, shape, size, documents, receipts in streams(sizes):
             config, path = write_stream(folder, documents, receipts)
-            commands = [[program, "report", "--config", config], *([one, config] for one in plain)]
+            words = ["report", "--config", config]
+            commands = [[program, *words], *([one, config] for one in plain), *([one, *words] for one in earlier)]
             own = [measure(command, empty, answer)[1] for command, answer in zip(commands, answers)]
             found = [[measure(command, path, answer) for command, answer in zip(commands, answers)] for _ in range(runs)]
             if len({answer.read_bytes() for answer in answers}) != 1:
@@ -167,5 +173,5 @@ def main(words):
                 before[bundles, shape, at] = each
                 columns += [f"{best[at] * 1e3:.1f}", f"{each / last:.2f}" if last else "", f"{held:.2f}"]
                 columns += [f"{best[0] / best[at]:.2f}"] if at else []
-            print(ROW.format(bundles, shape, size, bytes_, *columns), flush=True)
+            print(row.format(bundles, shape, size, bytes_, *columns), flush=True)
     print("\nAll programs printed the same report for each stream.")

@@ -11,13 +11,10 @@ use spiffe_name::TrustDomain;
 /// bytes. `None` exactly where none of the domain is accepted, so also for a domain that the
 /// configuration does not have.
 ///
-/// It takes no memory. The work grows with the number of accepted documents of the domain.
+/// It takes no memory. The domain's documents are searched for among all, and looked at from the
+/// greatest down: of the accepted ones, none but the current one is looked at.
 pub fn current<'a, C: Closure>(closure: &'a C, domain: &TrustDomain) -> Option<&'a Document>
     ensures { IsCurrent (C.state closure.now).meaning domain.now (option_copied result) }
 {
-    let mut current = None;
-    for document in closure.accepted(domain) {
-        current = Some(document);
-    }
-    current
+    closure.accepted(domain).into_last()
 }

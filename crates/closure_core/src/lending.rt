@@ -1,7 +1,8 @@
 //! What a closure lends, in order and without memory: three iterators over slices. Their value in
 //! contracts is the list that is left. Those who implement `Closure` make them, by the numbers of
 //! `nodes` and the rows of `record`; `specs/Inside/` says what these and their flags mean.
-ghost use Rattle.std.specs.Prelude.{◌≡◌, length, IfSome};
+ghost use Rattle.std.specs.Prelude.{◌≡◌, length, IfSome, None, option_copied};
+ghost use Rattle.std.specs.List.{last_or};
 ghost use Rattle.std.specs.Iterator.{YieldsFirstBy, YieldsFirstRef, item_count};
 ghost use Rattle.bundle_doc.specs.Bundle.{doc_id_of};
 ghost use Rattle.closure_core.specs.Inside.Nodes.{flags_of, pairs_of, raised_documents, AreNumbers};
@@ -125,12 +126,27 @@ impl<'a> Accepted<'a> {
     /// the documents are of the domain, the ids of most are at hand; any other is computed, which
     /// takes time for each byte of its document.
     pub fn next_with_id(&mut self, domain: &TrustDomain) -> Option<(&'a Document, DocId)>
-        ensures next { YieldsFirstBy (λ found. found.0.now) (λ rest. rest) self.old result self.new }
+        ensures next { YieldsFirstBy (λ found. found.0.now) (λ rest. rest) self.old result
+            self.new }
         ensures id { IfSome result (λ found. found.1.0 ≡ doc_id_of domain.now found.0.now) }
     {
         while let Some(number) = self.numbers.next() {
             if self.counts[number as usize] != 0 {
                 return Some(document_with_id(self.seeds, self.receipts, number as usize, domain));
+            }
+        }
+        None
+    }
+
+    /// The last of the documents that are left, which is the greatest of them. It looks from the
+    /// end, so it passes over no other accepted document.
+    pub fn into_last(self) -> Option<&'a Document>
+        ensures { option_copied result ≡ last_or None self.entry }
+    {
+        let mut numbers = self.numbers.backward();
+        while let Some(number) = numbers.next() {
+            if self.counts[number as usize] != 0 {
+                return Some(document_at(self.seeds, self.receipts, number as usize));
             }
         }
         None

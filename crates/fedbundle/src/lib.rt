@@ -51,7 +51,7 @@ pub use option_texts::{
 };
 pub use polls::{run_polls, run_polls_in};
 pub use pull::run_pull;
-pub use report::{run_report, run_report_with};
+pub use report::{run_report, run_report_into, run_report_with};
 pub use run_error::RunError;
 pub use serve::{run_serve, write_served};
 pub use sessions::read_sessions;

@@ -1,4 +1,5 @@
 //! `report`: what a replica accepts, from the bytes of a stream of receipts.
+ghost use Rattle.std.specs.Prelude.{◌≡◌, []};
 ghost use Rattle.fedbundle.specs.CommandRun.{device_run, run_of};
 ghost use Rattle.fedbundle.specs.Report.{RunsReport};
 
@@ -68,10 +69,34 @@ pub fn run_report_with<C: Closure, R: Source, W: Sink, E: Sink>(
         (device_run W.contents W.has_failed sink.old sink.new))
         (device_run E.contents E.has_failed complaints.old complaints.new) config.now result }
 {
-    // The prover learns here that each domain has one relationship.
-    let _domains = config.domains();
     let mut closure = C::new(alloc, config)?;
-    let count = take_lines(alloc, &mut closure, source, complaints)?;
-    write_report(alloc, &closure, sink)?;
+    run_report_into(alloc, &mut closure, source, sink, complaints)
+}
+
+/// The same as [`run_report`], into a closure that holds nothing yet, by the configuration of that.
+/// What it took is the caller's afterwards: a program that ends with its report need not give the
+/// memory back piece by piece.
+///
+/// # Errors
+/// Those of [`run_report`].
+pub fn run_report_into<C: Closure, R: Source, W: Sink, E: Sink>(
+    alloc: Global,
+    closure: &mut C,
+    source: &mut R,
+    sink: &mut W,
+    complaints: &mut E,
+) -> Result<u64, RunError>
+    requires receipts { (C.state closure.old).meaning.held ≡ [] }
+    requires records { (C.state closure.old).meaning.records ≡ [] }
+    ensures { RunsReport
+        (run_of (device_run R.remaining R.has_failed source.old source.new)
+        (device_run W.contents W.has_failed sink.old sink.new))
+        (device_run E.contents E.has_failed complaints.old complaints.new)
+        (C.state closure.old).meaning.config result }
+{
+    // The prover learns here that each domain has one relationship.
+    let _domains = closure.config().domains();
+    let count = take_lines(alloc, closure, source, complaints)?;
+    write_report(alloc, closure, sink)?;
     Ok(count)
 }

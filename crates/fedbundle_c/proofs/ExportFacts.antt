@@ -3,9 +3,9 @@
 use Rattle.std.proofs.Common.{◌≡◌, ℕ, ◌≤◌, ℤ, List, length, sym, subst, inl, inr, Some, None, Ok, Err, arith}
 use Rattle.std.specs.Prelude.{Option, Result, MatchResult, MatchOption}
 use Rattle.receipt_core.specs.Acceptance.{Meaning}
-use Rattle.replica_bytes.specs.Outcomes.{WritesOut, FitsOut, Refuses, ReturnsNone}
+use Rattle.replica_bytes.specs.Outcomes.{WritesOut, FitsOut, LacksOut, RefusesOut}
 use Rattle.replica_bytes.specs.declared.call_error.CallError.{CallError}
-use Rattle.fedbundle_c.specs.Exports.{HandleRun, BufferRun, IsUsedClosed, meaning_in, FindsByHandle, FindsHeld}
+use Rattle.fedbundle_c.specs.Exports.{HandleRun, BufferRun, IsShownClosed, meaning_in, FindsByHandle, FindsHeld}
 use Rattle.fedbundle_c.specs.declared.held_replica.Replica.{Replica}
 
 -- a text for which there is room is written
@@ -24,21 +24,21 @@ module _ (old new : Option Replica) (held : Replica) (before after : List ℕ) (
   -- by what was made: a text, none, or a refusal
   found : {V : Type 0} (N : Type 0) (P : List ℕ → Type 0) (Q : CallError → Type 0) (made : Result (Option V) CallError) (items : V → List ℕ)
       → MatchResult made (λ o. MatchOption o N (λ v. P (items v))) Q
-      → MatchResult made (λ o. MatchOption o (ReturnsNone returned × (after ≡ before)) (λ v. WritesOut (items v) before after said returned))
-      (λ e. Refuses e returned × (after ≡ before))
+      → MatchResult made (λ o. MatchOption o (LacksOut before after said returned) (λ v. WritesOut (items v) before after said returned))
+      (λ e. RefusesOut e before after said returned)
       → FindsHeld held N P Q buffer run
-  found N P Q (Ok None) items is_so put = record { same = is; puts = inl (record { absent = is_so; same = put.1; none = put.0 }) }
+  found N P Q (Ok None) items is_so put = record { same = is; puts = inl (record { absent = is_so; none = put }) }
   found N P Q (Ok (Some v)) items is_so put = record { same = is; puts = inr (inl (record { text = items v; is = is_so; written = put })) }
   found N P Q (Err e) items is_so put =
-      record { same = is; puts = inr (inr (record { error = e; cause = is_so; same = put.1; refused = put.0 })) }
+      record { same = is; puts = inr (inr (record { error = e; cause = is_so; refused = put })) }
 
   -- whatever is so of the replica that was held is so of the handle
   pub finds-by : {V : Type 0} (N : Meaning → Type 0) (P : Meaning → List ℕ → Type 0) (Q : CallError → Type 0) (made : Result (Option V) CallError)
       (items : V → List ℕ)
       → MatchResult made (λ o. MatchOption o (N (meaning_in held)) (λ v. P (meaning_in held) (items v))) Q
-      → MatchResult made (λ o. MatchOption o (ReturnsNone returned × (after ≡ before)) (λ v. WritesOut (items v) before after said returned))
-      (λ e. Refuses e returned × (after ≡ before))
+      → MatchResult made (λ o. MatchOption o (LacksOut before after said returned) (λ v. WritesOut (items v) before after said returned))
+      (λ e. RefusesOut e before after said returned)
       → FindsByHandle N P Q buffer run
   finds-by N P Q made items is_so put =
-      subst (λ (o : Option Replica). MatchOption o (IsUsedClosed new returned) (λ h. FindsHeld h (N (meaning_in h)) (P (meaning_in h)) Q buffer run))
+      subst (λ (o : Option Replica). MatchOption o (IsShownClosed buffer run) (λ h. FindsHeld h (N (meaning_in h)) (P (meaning_in h)) Q buffer run))
       (sym was) (found (N (meaning_in held)) (P (meaning_in held)) Q made items is_so put)

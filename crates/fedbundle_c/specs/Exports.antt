@@ -19,8 +19,8 @@ use Rattle.replica_bytes.specs.Changes.{HasRefusedKeyBytes, MergesBytes, HasRefu
 use Rattle.replica_bytes.specs.Changes.{AbsorbsBytes, HasRefusedGiveBytes, ObservesFetched}
 use Rattle.replica_bytes.specs.Changes.{HasRefusedFetched}
 use Rattle.replica_bytes.specs.Opening.{OpensBytes, RefusesOpening}
-use Rattle.replica_bytes.specs.Outcomes.{Refuses, ReturnsDone, ReturnsNone, ReturnsAlready}
-use Rattle.replica_bytes.specs.Outcomes.{ReturnsNeedsRoom, FitsOut, WritesOut}
+use Rattle.replica_bytes.specs.Outcomes.{Refuses, ReturnsDone, ReturnsAlready, ReturnsNeedsRoom}
+use Rattle.replica_bytes.specs.Outcomes.{CountsNone, FitsOut, WritesOut, LacksOut, RefusesOut}
 use Rattle.replica_bytes.specs.Texts.{HasNoCurrentBundle, IsCurrentBundle, IsNotAccepted}
 use Rattle.replica_bytes.specs.Texts.{HasChainText, RefusesDocumentBytes, AnswersBytes}
 use Rattle.replica_bytes.specs.Texts.{RefusesHaveBytes}
@@ -39,11 +39,6 @@ state_in replica = replica.closure
 
 abbrev pub meaning_in : Replica → Meaning
 meaning_in replica = (state_in replica).meaning
-
--- The handle is closed: the call is refused, and the handle stays closed.
-pub record IsUsedClosed (new : Option Replica) (returned : ℤ) : Type 0 where
-  pub closed : new ≡ None
-  pub refused : Refuses Usage returned
 
 -- It holds a replica of the configuration, with what the snapshot has.
 pub record HasOpened (config snapshot : List ℕ) (new : Option Replica)
@@ -74,29 +69,35 @@ OpensHandle old config snapshot new returned =
 
 -- ---- what changes a replica
 
--- a handle before and after, what the call counted, and what it returned
+-- a handle before and after, what the call counts or how many bytes its text has, and what it
+-- returned
 pub record HandleRun : Type 0 where
   pub old : Option Replica
   pub new : Option Replica
   pub said : ℕ
   pub returned : ℤ
 
+-- The handle is closed: the call is refused, counts nothing, and the handle stays closed.
+pub record IsUsedClosed (run : HandleRun) : Type 0 where
+  pub closed : run.new ≡ None
+  pub refused : CountsNone Usage run.said run.returned
+
 -- what is said of a receipt
 abbrev pub SaysOfReceipt : Result Taken CallError → ℕ → ℤ → Type 0
 SaysOfReceipt (Ok (TakenNew n)) said returned = (said ≡ n) × ReturnsDone returned
-SaysOfReceipt (Ok TakenAlready) said returned = ReturnsAlready returned
-SaysOfReceipt (Err e) said returned = Refuses e returned
+SaysOfReceipt (Ok TakenAlready) said returned = (said ≡ 0) × ReturnsAlready returned
+SaysOfReceipt (Err e) said returned = CountsNone e said returned
 
 -- what is said of a record
 abbrev pub SaysOfRecord : Result Distrusted CallError → ℕ → ℤ → Type 0
 SaysOfRecord (Ok (DistrustedNew n)) said returned = (said ≡ n) × ReturnsDone returned
-SaysOfRecord (Ok DistrustedAlready) said returned = ReturnsAlready returned
-SaysOfRecord (Err e) said returned = Refuses e returned
+SaysOfRecord (Ok DistrustedAlready) said returned = (said ≡ 0) × ReturnsAlready returned
+SaysOfRecord (Err e) said returned = CountsNone e said returned
 
 -- what is said of a number of receipts
 abbrev pub SaysOfNumber : Result ℕ CallError → ℕ → ℤ → Type 0
 SaysOfNumber (Ok n) said returned = (said ≡ n) × ReturnsDone returned
-SaysOfNumber (Err e) said returned = Refuses e returned
+SaysOfNumber (Err e) said returned = CountsNone e said returned
 
 -- The line was taken or refused, and that is said.
 pub record HasTakenLine (held : Replica) (line : List ℕ) (run : HandleRun) : Type 0 where
@@ -109,7 +110,7 @@ pub record HasTakenLine (held : Replica) (line : List ℕ) (run : HandleRun) : T
   pub says : SaysOfReceipt outcome run.said run.returned
 
 abbrev pub TakesByHandle : HandleRun → List ℕ → Type 0
-TakesByHandle run line = MatchOption run.old (IsUsedClosed run.new run.returned)
+TakesByHandle run line = MatchOption run.old (IsUsedClosed run)
     (λ held. HasTakenLine held line run)
 
 -- The key was distrusted or refused, and that is said.
@@ -124,7 +125,7 @@ pub record HasDistrustedKey (held : Replica) (domain key : List ℕ)
   pub says : SaysOfRecord outcome run.said run.returned
 
 abbrev pub DistrustsByHandle : HandleRun → List ℕ → List ℕ → Type 0
-DistrustsByHandle run domain key = MatchOption run.old (IsUsedClosed run.new run.returned)
+DistrustsByHandle run domain key = MatchOption run.old (IsUsedClosed run)
     (λ held. HasDistrustedKey held domain key run)
 
 -- The snapshot was merged or refused, and that is said.
@@ -138,7 +139,7 @@ pub record HasMergedSnapshot (held : Replica) (snapshot : List ℕ) (run : Handl
   pub says : SaysOfNumber outcome run.said run.returned
 
 abbrev pub MergesByHandle : HandleRun → List ℕ → Type 0
-MergesByHandle run snapshot = MatchOption run.old (IsUsedClosed run.new run.returned)
+MergesByHandle run snapshot = MatchOption run.old (IsUsedClosed run)
     (λ held. HasMergedSnapshot held snapshot run)
 
 -- The answer was absorbed or refused, and that is said.
@@ -152,7 +153,7 @@ pub record HasAbsorbedAnswer (held : Replica) (answered : List ℕ) (run : Handl
   pub says : SaysOfNumber outcome run.said run.returned
 
 abbrev pub AbsorbsByHandle : HandleRun → List ℕ → Type 0
-AbsorbsByHandle run answered = MatchOption run.old (IsUsedClosed run.new run.returned)
+AbsorbsByHandle run answered = MatchOption run.old (IsUsedClosed run)
     (λ held. HasAbsorbedAnswer held answered run)
 
 -- ---- what is shown
@@ -161,6 +162,11 @@ AbsorbsByHandle run answered = MatchOption run.old (IsUsedClosed run.new run.ret
 pub record BufferRun : Type 0 where
   pub before : List ℕ
   pub after : List ℕ
+
+-- The handle is closed: the call is refused, and the handle stays closed and the buffer as it was.
+pub record IsShownClosed (buffer : BufferRun) (run : HandleRun) : Type 0 where
+  pub closed : run.new ≡ None
+  pub refused : RefusesOut Usage buffer.before buffer.after run.said run.returned
 
 -- A text of which this holds is written, or there is no room for it.
 pub record PutsText (P : List ℕ → Type 0) (buffer : BufferRun) (run : HandleRun) : Type 0 where
@@ -172,8 +178,7 @@ pub record PutsText (P : List ℕ → Type 0) (buffer : BufferRun) (run : Handle
 pub record PutsFault (Q : CallError → Type 0) (buffer : BufferRun) (run : HandleRun) : Type 0 where
   pub error : CallError
   pub cause : Q error
-  pub same : buffer.after ≡ buffer.before
-  pub refused : Refuses error run.returned
+  pub refused : RefusesOut error buffer.before buffer.after run.said run.returned
 
 -- The handle keeps what it holds, and one of the two is so.
 pub record PutsOfHeld (held : Replica) (P : List ℕ → Type 0) (Q : CallError → Type 0)
@@ -183,7 +188,7 @@ pub record PutsOfHeld (held : Replica) (P : List ℕ → Type 0) (Q : CallError 
 
 abbrev pub PutsByHandle : (Meaning → List ℕ → Type 0) → (Meaning → CallError → Type 0) → BufferRun
     → HandleRun → Type 0
-PutsByHandle P Q buffer run = MatchOption run.old (IsUsedClosed run.new run.returned)
+PutsByHandle P Q buffer run = MatchOption run.old (IsShownClosed buffer run)
     (λ held. PutsOfHeld held (P (meaning_in held)) (Q (meaning_in held)) buffer run)
 
 abbrev pub ReportsByHandle : BufferRun → HandleRun → Type 0
@@ -207,7 +212,8 @@ SaysOfFetched (Ok (Held text)) buffer run =
     FitsOut text.items buffer.before buffer.after run.said run.returned
 SaysOfFetched (Ok (NeedsRoom needed)) buffer run = (buffer.after ≡ buffer.before)
     × (run.said ≡ needed) × ReturnsNeedsRoom run.returned
-SaysOfFetched (Err e) buffer run = (buffer.after ≡ buffer.before) × Refuses e run.returned
+SaysOfFetched (Err e) buffer run =
+    RefusesOut e buffer.before buffer.after run.said run.returned
 
 -- It was observed or refused, and that is said.
 pub record HasObservedFetched (held : Replica) (fetched : FetchedBytes) (buffer : BufferRun)
@@ -221,7 +227,7 @@ pub record HasObservedFetched (held : Replica) (fetched : FetchedBytes) (buffer 
   pub says : SaysOfFetched outcome buffer run
 
 abbrev pub ObservesByHandle : FetchedBytes → BufferRun → HandleRun → Type 0
-ObservesByHandle fetched buffer run = MatchOption run.old (IsUsedClosed run.new run.returned)
+ObservesByHandle fetched buffer run = MatchOption run.old (IsShownClosed buffer run)
     (λ held. HasObservedFetched held fetched buffer run)
 
 -- ---- what there may be none of
@@ -229,8 +235,7 @@ ObservesByHandle fetched buffer run = MatchOption run.old (IsUsedClosed run.new 
 -- There is none, and the buffer is as it was.
 pub record PutsNone (N : Type 0) (buffer : BufferRun) (run : HandleRun) : Type 0 where
   pub absent : N
-  pub same : buffer.after ≡ buffer.before
-  pub none : ReturnsNone run.returned
+  pub none : LacksOut buffer.before buffer.after run.said run.returned
 
 pub record FindsHeld (held : Replica) (N : Type 0) (P : List ℕ → Type 0) (Q : CallError → Type 0)
     (buffer : BufferRun) (run : HandleRun) : Type 0 where
@@ -239,7 +244,7 @@ pub record FindsHeld (held : Replica) (N : Type 0) (P : List ℕ → Type 0) (Q 
 
 abbrev pub FindsByHandle : (Meaning → Type 0) → (Meaning → List ℕ → Type 0) → (CallError → Type 0)
     → BufferRun → HandleRun → Type 0
-FindsByHandle N P Q buffer run = MatchOption run.old (IsUsedClosed run.new run.returned)
+FindsByHandle N P Q buffer run = MatchOption run.old (IsShownClosed buffer run)
     (λ held. FindsHeld held (N (meaning_in held)) (P (meaning_in held)) Q buffer run)
 
 abbrev pub CurrentByHandle : List ℕ → BufferRun → HandleRun → Type 0

@@ -1,6 +1,6 @@
 -- What the exports do that hold no replica.
 use Rattle.std.specs.Prelude.{◌≡◌, ℕ, ℤ, ◌⊎◌, List}
-use Rattle.replica_bytes.specs.Outcomes.{Refuses, WritesOut}
+use Rattle.replica_bytes.specs.Outcomes.{RefusesOut, WritesOut}
 use Rattle.replica_bytes.specs.declared.call_error.CallError.{CallError}
 use Rattle.command_bytes.specs.Canonical.{WritesCanonBytes, RefusesCanonBytes}
 use Rattle.command_bytes.specs.Reporting.{ReportsBytes, RefusesReportBytes}
@@ -26,8 +26,8 @@ pub record RefusesCall (Q : CallError → Type 0) (buffer : BufferRun)
     (run : StatelessRun) : Type 0 where
   pub error : CallError
   pub cause : Q error
-  pub same : buffer.after ≡ buffer.before
-  pub refused : Refuses error run.returned
+  pub refused : RefusesOut error buffer.before buffer.after run.length run.returned
+  pub counted : run.count ≡ 0
 
 abbrev pub ReportsByBytes : List ℕ → List ℕ → BufferRun → StatelessRun → Type 0
 ReportsByBytes config lines buffer run = PutsReport config lines buffer run
@@ -39,6 +39,7 @@ pub record PutsCanon (domain document : List ℕ) (buffer : BufferRun)
   pub text : List ℕ
   pub is : WritesCanonBytes domain document text
   pub written : WritesOut text buffer.before buffer.after run.length run.returned
+  pub counted : run.count ≡ 0
 
 abbrev pub CanonsByBytes : List ℕ → List ℕ → BufferRun → StatelessRun → Type 0
 CanonsByBytes domain document buffer run = PutsCanon domain document buffer run

@@ -1,5 +1,5 @@
 //! Exports: what changes a replica.
-ghost use Rattle.std.specs.Prelude.{◌≤◌};
+ghost use Rattle.std.specs.Prelude.{◌≡◌, ◌≤◌};
 ghost use Rattle.fedbundle_c.specs.Exports.{DistrustsByHandle, MergesByHandle};
 ghost use Rattle.fedbundle_c.specs.Exports.{ObservesByHandle, TakesByHandle};
 
@@ -26,6 +26,7 @@ pub extern "C" fn fedbundle_raw_take(
       said = outcome.new.count;
       returned = result;
     }) line.now }
+    ensures length { outcome.new.length ≡ 0 }
     ensures fault { outcome.new.fault_length ≤ 240 }
 {
     outcome.clear();
@@ -57,6 +58,7 @@ pub extern "C" fn fedbundle_raw_distrust(
       said = outcome.new.count;
       returned = result;
     }) domain.now key.now }
+    ensures length { outcome.new.length ≡ 0 }
     ensures fault { outcome.new.fault_length ≤ 240 }
 {
     outcome.clear();
@@ -86,6 +88,7 @@ pub extern "C" fn fedbundle_raw_merge(
       said = outcome.new.count;
       returned = result;
     }) snapshot.now }
+    ensures length { outcome.new.length ≡ 0 }
     ensures fault { outcome.new.fault_length ≤ 240 }
 {
     outcome.clear();
@@ -127,6 +130,7 @@ pub extern "C" fn fedbundle_raw_observe(
           said = outcome.new.length;
           returned = result;
         }) }
+    ensures count { outcome.new.count ≡ 0 }
     ensures fault { outcome.new.fault_length ≤ 240 }
 {
     outcome.clear();

@@ -1,5 +1,5 @@
 //! Exports: the messages between replicas.
-ghost use Rattle.std.specs.Prelude.{◌≤◌};
+ghost use Rattle.std.specs.Prelude.{◌≡◌, ◌≤◌};
 ghost use Rattle.fedbundle_c.specs.Exports.{AbsorbsByHandle, AnswersByHandle, HavesByHandle};
 
 use crate::handle::Handle;
@@ -22,6 +22,7 @@ pub extern "C" fn fedbundle_raw_have(
           said = outcome.new.length;
           returned = result;
         }) }
+    ensures count { outcome.new.count ≡ 0 }
     ensures fault { outcome.new.fault_length ≤ 240 }
 {
     outcome.clear();
@@ -49,6 +50,7 @@ pub extern "C" fn fedbundle_raw_answer(
           said = outcome.new.length;
           returned = result;
         }) }
+    ensures count { outcome.new.count ≡ 0 }
     ensures fault { outcome.new.fault_length ≤ 240 }
 {
     outcome.clear();
@@ -74,6 +76,7 @@ pub extern "C" fn fedbundle_raw_absorb(
       said = outcome.new.count;
       returned = result;
     }) answered.now }
+    ensures length { outcome.new.length ≡ 0 }
     ensures fault { outcome.new.fault_length ≤ 240 }
 {
     outcome.clear();

@@ -15,6 +15,7 @@ use trust_closure::ExchangeClosure;
 #[unsafe(no_mangle)]
 pub extern "C" fn fedbundle_raw_version(out: &mut [u8], outcome: &mut CallOutcome) -> i64
     ensures does { WritesOut (codes "0.1.0") out.old out.new outcome.new.length result }
+    ensures count { outcome.new.count ≡ 0 }
     ensures fault { outcome.new.fault_length ≤ 240 }
 {
     outcome.put(b"0.1.0", out)
@@ -32,6 +33,8 @@ pub extern "C" fn fedbundle_raw_open(
     outcome: &mut CallOutcome,
 ) -> i64
     ensures does { OpensHandle handle.old.value config.now snapshot.now handle.new.value result }
+    ensures count { outcome.new.count ≡ 0 }
+    ensures length { outcome.new.length ≡ 0 }
     ensures fault { outcome.new.fault_length ≤ 240 }
 {
     outcome.clear();

@@ -1,5 +1,5 @@
 //! Exports: what a replica holds and accepts, as texts. They change nothing.
-ghost use Rattle.std.specs.Prelude.{◌≤◌};
+ghost use Rattle.std.specs.Prelude.{◌≡◌, ◌≤◌};
 ghost use Rattle.fedbundle_c.specs.Exports.{CurrentByHandle, ExplainsByHandle, ReportsByHandle};
 ghost use Rattle.fedbundle_c.specs.Exports.{SnapshotsByHandle};
 
@@ -24,6 +24,7 @@ pub extern "C" fn fedbundle_raw_replica_report(
           said = outcome.new.length;
           returned = result;
         }) }
+    ensures count { outcome.new.count ≡ 0 }
     ensures fault { outcome.new.fault_length ≤ 240 }
 {
     outcome.clear();
@@ -50,6 +51,7 @@ pub extern "C" fn fedbundle_raw_snapshot(
           said = outcome.new.length;
           returned = result;
         }) }
+    ensures count { outcome.new.count ≡ 0 }
     ensures fault { outcome.new.fault_length ≤ 240 }
 {
     outcome.clear();
@@ -78,6 +80,7 @@ pub extern "C" fn fedbundle_raw_current(
           said = outcome.new.length;
           returned = result;
         }) }
+    ensures count { outcome.new.count ≡ 0 }
     ensures fault { outcome.new.fault_length ≤ 240 }
 {
     outcome.clear();
@@ -108,6 +111,7 @@ pub extern "C" fn fedbundle_raw_explain(
           said = outcome.new.length;
           returned = result;
         }) }
+    ensures count { outcome.new.count ≡ 0 }
     ensures fault { outcome.new.fault_length ≤ 240 }
 {
     outcome.clear();

@@ -1,7 +1,7 @@
 // The subcommands that change what a state file holds. What they take is read before the lock of
 // the state is taken, and a fault of that is reported after those of the lock, the state and the
 // options. The replica is made and given back in one place, and each command only borrows it.
-use crate::keeping::{keeping_of, load, lock, room_left, save};
+use crate::keeping::{keeping_of, leave, load, lock, room_left, save};
 use crate::limited::Limited;
 use crate::streams::{input, output, output_line};
 use crate::{distrusting, options, reasons};
@@ -43,7 +43,9 @@ pub(crate) fn read_bundle(rt: &HostRuntime) -> Result<Vec<u8>, CommandError> {
 /// Takes what the replica holds whose state file standard input has.
 pub(crate) fn merge(rt: &HostRuntime, config: &Config, call: &Call<'_>) -> Result<u8, Exit> {
     let other = read_other(rt, config, room_left(rt, keeping_of(call)?));
-    change(rt, config, call, Coming::Replica(&other))
+    let changed = change(rt, config, call, Coming::Replica(&other));
+    leave(other);
+    changed
 }
 
 fn read_other(rt: &HostRuntime, config: &Config, most_bytes: u64) -> Result<IndexedClosure, Exit> {
@@ -77,8 +79,20 @@ fn change(
     let state = keeping_of(call)?;
     let _lock = lock(rt, state)?;
     let mut closure = load(rt, config, state.path)?;
-    take(rt, &mut closure, call, coming)?;
-    save(rt, &closure, state.path)?;
+    let changed = take_and_save(rt, &mut closure, state.path, call, coming);
+    leave(closure);
+    changed
+}
+
+fn take_and_save(
+    rt: &HostRuntime,
+    closure: &mut IndexedClosure,
+    path: &str,
+    call: &Call<'_>,
+    coming: Coming<'_>,
+) -> Result<u8, Exit> {
+    take(rt, closure, call, coming)?;
+    save(rt, closure, path)?;
     Ok(0)
 }
 

@@ -2,6 +2,7 @@
 // by what it does with a state: it needs none, it shows what is held, it changes that, or it
 // talks with another replica.
 use crate::exit::print_clap;
+use crate::keeping::leave;
 use crate::streams::{complaints, input, output};
 use crate::{
     at_replica, changing, command_line, exchange, lacking, options, printing, reasons, showing,
@@ -11,9 +12,10 @@ use byte_lines::FromRead;
 use fed_config::Config;
 use fedbundle::{
     Call, CommandError, CommandName, Exit, OptionName, OutputForm, WordsError, given, manner_of,
-    read_output_form, read_words, run_canon, run_report, wanted,
+    read_output_form, read_words, run_canon, run_report_into, wanted,
 };
 use spiffe_name::TrustDomain;
+use trust_closure::{Closure, IndexedClosure};
 
 /// What the words ask for, done: the exit status 0, or 1 where an input was refused and the rest is
 /// done.
@@ -127,13 +129,18 @@ fn report_lines(rt: &HostRuntime, config: &Config, call: &Call<'_>) -> Result<u8
         return Err(Exit::Usage);
     }
     let mut errors = complaints(rt);
-    match run_report(
+    let Ok(mut closure) = IndexedClosure::new(rt.alloc(), config) else {
+        return Err(Exit::Refused(CommandError::NoMemory));
+    };
+    let reported = run_report_into(
         rt.alloc(),
-        config,
+        &mut closure,
         &mut input(rt),
         &mut output(rt),
         &mut errors,
-    ) {
+    );
+    leave(closure);
+    match reported {
         Ok(0) => Ok(0),
         Ok(_) => Ok(1),
         Err(error) => Err(Exit::Refused(CommandError::from(error))),

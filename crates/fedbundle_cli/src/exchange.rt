@@ -3,7 +3,7 @@
 // end.
 use crate::connection::{Connection, accept, connect, listen};
 use crate::exit::print_exit;
-use crate::keeping::{Keeping, keeping_of, load, lock, look, room_left, save};
+use crate::keeping::{Keeping, keeping_of, leave, load, lock, look, room_left, save};
 use crate::limited::Limited;
 use crate::streams::{error_lines, output_line};
 use crate::{options, reasons};
@@ -137,6 +137,7 @@ pub(crate) fn pull(rt: &HostRuntime, config: &Config, call: &Call<'_>) -> Result
     let peer = wanted(call, OptionName::Peer)?;
     let pulled = pull_from(rt, &mut begun.closure, peer, room_left(rt, state))?;
     let saved = end_saving(rt, config, state, &begun);
+    leave(begun);
     Ok(end_pull(rt, call, pulled, saved))
 }
 

@@ -8,8 +8,8 @@ use fedbundle::{
     manner_of, save_state, state_bytes, try_lock_state, wanted,
 };
 use std::io::Write;
-use std::thread;
 use std::time::Duration;
+use std::{mem, thread};
 use trust_closure::Closure;
 
 /// How long a command waits before it tries again to take the lock, and how often it does so in a
@@ -109,6 +109,12 @@ pub(crate) fn look<C: Closure>(
         );
     }
     load(rt, config, state.path)
+}
+
+/// Leaves to the system what the command held: the process ends, and its memory is taken back at
+/// once, and not piece by piece.
+pub(crate) fn leave<T: Drop>(held: T) {
+    mem::forget(held);
 }
 
 pub(crate) fn save<C: Closure>(rt: &HostRuntime, closure: &C, path: &str) -> Result<(), Exit> {

@@ -1,6 +1,6 @@
 // The subcommands that show what a state file holds, and write no file: they take no lock. The
 // replica is made and given back in one place, and each command only borrows it.
-use crate::keeping::{keeping_of, look};
+use crate::keeping::{keeping_of, leave, look};
 use crate::streams::{complaints, input, output};
 use crate::{anew, distrusting, options, printing, viewing};
 use fed_config::Config;
@@ -17,7 +17,9 @@ use trust_closure::IndexedClosure;
 /// Shows what the command asks for, of what the state file holds.
 pub(crate) fn show(rt: &HostRuntime, config: &Config, call: &Call<'_>) -> Result<u8, Exit> {
     let closure = look(rt, config, keeping_of(call)?)?;
-    show_of(rt, config, &closure, call)
+    let shown = show_of(rt, config, &closure, call);
+    leave(closure);
+    shown
 }
 
 fn show_of(

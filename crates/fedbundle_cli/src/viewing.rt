@@ -1,5 +1,5 @@
 // What a state file holds, or only one of two, and how the replica stands, printed.
-use crate::keeping::load;
+use crate::keeping::{leave, load};
 use crate::options;
 use crate::streams::output;
 use fed_config::Config;
@@ -84,7 +84,9 @@ pub(crate) fn diff(
     call: &Call<'_>,
 ) -> Result<u8, Exit> {
     let other = load(rt, config, wanted(call, OptionName::With)?)?;
-    compare(rt, closure, &other)
+    let compared = compare(rt, closure, &other);
+    leave(other);
+    compared
 }
 
 fn compare(rt: &HostRuntime, one: &IndexedClosure, other: &IndexedClosure) -> Result<u8, Exit> {

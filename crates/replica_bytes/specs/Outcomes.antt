@@ -42,7 +42,23 @@ abbrev pub WritesOut : List ℕ → List ℕ → List ℕ → ℕ → ℤ → Ty
 WritesOut text old new said returned = FitsOut text old new said returned
     ⊎ OverfillsOut text old new said returned
 
+-- There is no text, and the buffer is as it was.
+pub record LacksOut (old new : List ℕ) (said : ℕ) (returned : ℤ) : Type 0 where
+  pub same : new ≡ old
+  pub size : said ≡ 0
+  pub none : ReturnsNone returned
+
+-- The call is refused, and the buffer is as it was.
+pub record RefusesOut (e : CallError) (old new : List ℕ) (said : ℕ) (returned : ℤ) : Type 0 where
+  pub same : new ≡ old
+  pub size : said ≡ 0
+  pub refused : Refuses e returned
+
+-- The call is refused, and counts nothing.
+abbrev pub CountsNone : CallError → ℕ → ℤ → Type 0
+CountsNone e said returned = (said ≡ 0) × Refuses e returned
+
 -- what is said of a call that counts
 abbrev pub Counts : Result ℕ CallError → ℕ → ℤ → Type 0
 Counts counted said returned = MatchResult counted (λ n. (said ≡ n) × ReturnsDone returned)
-    (λ e. Refuses e returned)
+    (λ e. CountsNone e said returned)

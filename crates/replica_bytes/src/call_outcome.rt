@@ -1,7 +1,7 @@
 //! What a caller in C reads of a call.
 ghost use Rattle.std.specs.Prelude.{◌≡◌, ◌≤◌, MatchResult, MatchOption};
-ghost use Rattle.replica_bytes.specs.Outcomes.{ReturnsNeedsRoom, Counts, ReturnsNone, Refuses};
-ghost use Rattle.replica_bytes.specs.Outcomes.{WritesOut};
+ghost use Rattle.replica_bytes.specs.Outcomes.{ReturnsNeedsRoom, Counts, Refuses, WritesOut};
+ghost use Rattle.replica_bytes.specs.Outcomes.{LacksOut, RefusesOut};
 
 use crate::call_error::CallError;
 use crate::fault_bytes::{FaultBytes, MAX_TEXT_BYTES};
@@ -62,6 +62,7 @@ impl CallOutcome {
     /// Says how much a call counts.
     pub fn count(&mut self, counted: Result<u64, CallError>) -> i64
         ensures counts { Counts counted self.new.count result }
+        ensures length { self.new.length ≡ 0 }
         ensures fault { self.new.fault_length ≤ 240 }
     {
         self.clear();
@@ -78,6 +79,7 @@ impl CallOutcome {
     pub fn need(&mut self, length: usize) -> i64
         ensures length { self.new.length ≡ length }
         ensures asks { ReturnsNeedsRoom result }
+        ensures count { self.new.count ≡ 0 }
         ensures fault { self.new.fault_length ≡ 0 }
     {
         self.clear();
@@ -88,6 +90,7 @@ impl CallOutcome {
     /// Puts the text into `out` where there is room for it.
     pub fn put(&mut self, text: &[u8], out: &mut [u8]) -> i64
         ensures writes { WritesOut text.now out.old out.new self.new.length result }
+        ensures count { self.new.count ≡ 0 }
         ensures fault { self.new.fault_length ≡ 0 }
     {
         if text.len() > out.len() {
@@ -103,7 +106,8 @@ impl CallOutcome {
     pub fn put_result(&mut self, made: Result<Vec<u8>, CallError>, out: &mut [u8]) -> i64
         ensures writes { MatchResult made
             (λ text. WritesOut text.items out.old out.new self.new.length result)
-            (λ e. Refuses e result × (out.new ≡ out.old)) }
+            (λ e. RefusesOut e out.old out.new self.new.length result) }
+        ensures count { self.new.count ≡ 0 }
         ensures fault { self.new.fault_length ≤ 240 }
     {
         match made {
@@ -118,9 +122,10 @@ impl CallOutcome {
     /// The same of a text that there may be none of.
     pub fn put_option(&mut self, made: Result<Option<Vec<u8>>, CallError>, out: &mut [u8]) -> i64
         ensures writes { MatchResult made
-            (λ found. MatchOption found (ReturnsNone result × (out.new ≡ out.old))
+            (λ found. MatchOption found (LacksOut out.old out.new self.new.length result)
             (λ text. WritesOut text.items out.old out.new self.new.length result))
-            (λ e. Refuses e result × (out.new ≡ out.old)) }
+            (λ e. RefusesOut e out.old out.new self.new.length result) }
+        ensures count { self.new.count ≡ 0 }
         ensures fault { self.new.fault_length ≤ 240 }
     {
         match made {

@@ -1,3 +1,4 @@
+pub mod BackwardFacts
 pub mod BlockFacts
 pub mod SumFacts
 pub mod SearchFacts

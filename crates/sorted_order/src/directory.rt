@@ -27,7 +27,7 @@ pub(crate) fn locate(blocks: &[Block], sums: &[usize], at: usize) -> (usize, usi
 }
 
 /// The same, by the lengths of the blocks alone.
-fn locate_among(blocks: &[Block], at: usize) -> (usize, usize)
+pub(crate) fn locate_among(blocks: &[Block], at: usize) -> (usize, usize)
     requires place { at ≤ length (concat blocks.now) }
     requires some { 0 < length blocks.now }
     ensures spot { IsSpot blocks.now at result.0 result.1 }

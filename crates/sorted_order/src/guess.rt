@@ -1,7 +1,7 @@
 //! Guesses of where what is sought stands. They are made by parts of what is compared, and believed
 //! only where comparisons beside the place show that they hold.
-ghost use Rattle.std.specs.Prelude.{◌≡◌, ◌≢◌, ℕ, ◌+◌, ◌-◌, ◌<◌, ◌≤◌, length, slice_get, slice_index};
-ghost use Rattle.std.specs.Prelude.{Some, IsTrue};
+ghost use Rattle.std.specs.Prelude.{◌≡◌, ◌≢◌, ℕ, ◌+◌, ◌-◌, ◌<◌, ◌≤◌, length};
+ghost use Rattle.std.specs.Prelude.{slice_get, slice_index, Some, IsTrue};
 ghost use Rattle.std.specs.List.{All, concat};
 ghost use Rattle.std.specs.declared.cmp.Ordering.TheVariants.{Less};
 ghost use Rattle.sorted_order.specs.Inside.Blocks.{AreFilled, block_at, length_before, IsSpot};
@@ -22,20 +22,45 @@ pub struct Agreed {
     pub after: usize,
 }
 
-/// Guesses where numbers stand, for those who seek by a text.
+/// How far what is sought seems to lie from one of two to the other, in parts of 2^32: 0 is at the
+/// first.
+#[derive(Clone, Copy, Debug)]
+pub struct Share(pub u32);
+
+impl Share {
+    /// In the middle.
+    pub const HALF: Share = Share(1 << 31);
+
+    /// By numbers that rise evenly, such as the first bytes of digests. None where those of both
+    /// ends are equal, so that they tell nothing.
+    pub fn between(from: u32, to: u32, sought: u32) -> Option<Share> {
+        let all = u64::from(to.checked_sub(from)?);
+        let of = u64::from(sought.saturating_sub(from));
+        let parts = (of << 32).checked_div(all)?;
+        Some(Share(u32::try_from(parts).unwrap_or(u32::MAX)))
+    }
+}
+
+/// Guesses where numbers stand, for those who seek by a text or a digest.
 pub trait Guess {
     /// Whether the number, which stands between those on both sides, seems to stand before what is
     /// sought; and on how many bytes their texts seem to agree. No clause speaks of it: where the
     /// guess does not hold, the search compares.
     fn guess(&self, number: u32, agreed: Agreed) -> (bool, usize);
+
+    /// How far what is sought seems to lie from one number to another. No clause speaks of it.
+    fn share(&self, from: u32, to: u32) -> Share;
 }
 
-/// Guesses where items stand, for those who seek by a text.
+/// Guesses where items stand, for those who seek by a text or a digest.
 pub trait ItemGuess<T> {
     /// Whether the item, which stands between those on both sides, seems to stand before what is
     /// sought; and on how many bytes their texts seem to agree. No clause speaks of it: where the
     /// guess does not hold, the search compares.
     fn guess(&self, item: &T, agreed: Agreed) -> (bool, usize);
+
+    /// How far what is sought seems to lie from one item to another. No clause speaks of it.
+    fn share(&self, from: &T, to: &T) -> Share;
 }
 
 impl<'a, T, P: ItemGuess<T>> Guess for ByItem<'a, T, P> {
@@ -43,6 +68,13 @@ impl<'a, T, P: ItemGuess<T>> Guess for ByItem<'a, T, P> {
         match self.items.get(number as usize) {
             Some(item) => self.probe.guess(item, agreed),
             None => (false, 0),
+        }
+    }
+
+    fn share(&self, from: u32, to: u32) -> Share {
+        match (self.items.get(from as usize), self.items.get(to as usize)) {
+            (Some(from), Some(to)) => self.probe.share(from, to),
+            _ => Share::HALF,
         }
     }
 }
@@ -204,30 +236,76 @@ fn guessed<G: Guess>(blocks: &[Block], guess: &G) -> (usize, usize) {
 fn guessed_block<G: Guess>(blocks: &[Block], guess: &G, agreed: &mut Agreed) -> usize {
     let mut low = 0;
     let mut high = blocks.len();
+    let mut turn = Turn::Share;
     while high - low > 1 {
-        let middle = low + (high - low) / 2;
+        let ends = (first_number(blocks, low), first_number(blocks, high));
+        let middle = low + turn.way(guess, ends, high - low).max(1);
         if seems_before(blocks[middle].as_slice().first(), guess, agreed) {
             low = middle;
         } else {
             high = middle;
         }
+        turn = turn.next();
     }
     low
+}
+
+/// The first number of a block, or the last number of all where there is no such block.
+fn first_number(blocks: &[Block], block: usize) -> Option<&u32> {
+    match blocks.get(block) {
+        Some(found) => found.as_slice().first(),
+        None => blocks.last()?.as_slice().last(),
+    }
 }
 
 /// How many numbers seem to stand before what is sought.
 fn guessed_place<G: Guess>(numbers: &[u32], guess: &G, agreed: &mut Agreed) -> usize {
     let mut low = 0;
     let mut high = numbers.len();
+    let mut turn = Turn::Share;
     while low < high {
-        let middle = low + (high - low) / 2;
+        let ends = (numbers.get(low), numbers.get(high).or(numbers.last()));
+        let middle = low + turn.way(guess, ends, high - low);
         if seems_before(numbers.get(middle), guess, agreed) {
             low = middle + 1;
         } else {
             high = middle;
         }
+        turn = turn.next();
     }
     low
+}
+
+/// Where to look next: twice where what is sought seems to lie, and then in the middle, so that
+/// what lies unevenly is found soon too.
+#[derive(Clone, Copy, Debug)]
+enum Turn {
+    Share,
+    ShareAgain,
+    Half,
+}
+
+impl Turn {
+    fn next(self) -> Turn {
+        match self {
+            Turn::Share => Turn::ShareAgain,
+            Turn::ShareAgain => Turn::Half,
+            Turn::Half => Turn::Share,
+        }
+    }
+
+    /// How far to go of so many places, which lie between these numbers.
+    fn way<G: Guess>(self, guess: &G, ends: (Option<&u32>, Option<&u32>), places: usize) -> usize
+        requires { 0 < places }
+        ensures { result < places }
+    {
+        let share = match (self, ends) {
+            (Turn::Share | Turn::ShareAgain, (Some(from), Some(to))) => guess.share(*from, *to),
+            _ => Share::HALF,
+        };
+        let way = (places as u128 * u128::from(share.0)) >> 32;
+        (way as usize).min(places - 1)
+    }
 }
 
 /// Whether the number seems to stand before what is sought. On how many bytes they agree is kept.

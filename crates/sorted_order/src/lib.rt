@@ -3,6 +3,7 @@
 #![tactic(auto)]
 
 mod arena;
+mod backward;
 mod block;
 mod directory;
 mod guess;
@@ -15,7 +16,8 @@ mod search;
 mod sums;
 
 pub use arena::Arena;
-pub use guess::{Agreed, Guess, ItemGuess, guess_text};
+pub use backward::Backward;
+pub use guess::{Agreed, Guess, ItemGuess, Share, guess_text};
 pub use lent::Lent;
 pub use numbers::Numbers;
 pub use order::Order;

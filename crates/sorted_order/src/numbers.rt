@@ -4,6 +4,7 @@ ghost use Rattle.std.specs.List.{concat};
 ghost use Rattle.std.specs.Iterator.{YieldsFirst, item_count};
 ghost use Rattle.sorted_order.specs.Inside.Blocks.{AreFilled, AreHalfFull, AreSums};
 
+use crate::backward::Backward;
 use crate::block::Block;
 use crate::directory::locate;
 use std::marker::Model;
@@ -48,6 +49,14 @@ impl<'a> Numbers<'a> {
             blocks: &blocks[block + 1..],
             left: numbers,
         }
+    }
+
+    /// The same numbers, lent from the end. It passes over the lengths of the blocks in which they
+    /// lie, and over no number.
+    pub fn backward(self) -> Backward<'a>
+        ensures { result ≡ self.entry }
+    {
+        Backward::new(self.here, self.blocks, self.left)
     }
 }
 

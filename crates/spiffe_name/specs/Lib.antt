@@ -3,3 +3,4 @@ pub mod Bytes
 pub mod NameError
 pub mod SpiffeId
 pub mod TrustDomain
+pub mod Inside

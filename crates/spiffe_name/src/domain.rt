@@ -1,6 +1,6 @@
 //! Trust domain names.
 ghost use Rattle.std.specs.Prelude.{◌≡◌, ◌≢◌, ℕ, ◌≤◌, List, Some, refl, IfOk, IfErr, MatchResult};
-ghost use Rattle.std.specs.Prelude.{IsOkUnless, MatchOption, bytes_eq, string_bytes, length};
+ghost use Rattle.std.specs.Prelude.{IsOk, IsOkUnless, MatchOption, bytes_eq, string_bytes, length};
 ghost use Rattle.std.proofs.Common.{rules};
 ghost use Rattle.std.specs.Ordering.{nat_cmp};
 ghost use Rattle.std.specs.Hash as written;
@@ -11,9 +11,11 @@ ghost use Rattle.std.specs.Cmp.Rules.{hashing};
 ghost use Rattle.std.specs.List.{AllPass};
 ghost use Rattle.spiffe_name.specs.Bytes.{is_domain_byte, FirstFails};
 ghost use Rattle.spiffe_name.specs.NameError.{place_of};
+ghost use Rattle.spiffe_name.specs.Inside.NameText.{text_of};
 ghost use Rattle.spiffe_name.specs.TrustDomain.{IsDomainText, RefusesDomain};
 
 use crate::error::NameError;
+use arrayvec::ArrayString;
 use std::alloc::{AllocError, Global};
 use std::cmp::Ordering;
 use std::hash::{Hash, Hasher};
@@ -25,18 +27,26 @@ pub const MAX_DOMAIN_BYTES: usize = 255;
 /// The name of a trust domain, in lower-case letters, digits, full stops, hyphens and low lines: at
 /// least one of these, and no more than 255 (SPIFFE-ID, sections 2.1 and 2.3).
 ///
-/// A name is its bytes: by these it is compared, ordered and hashed.
+/// A name is its bytes: by these it is compared, ordered and hashed. One of at most 24 bytes lies
+/// in the value itself, and takes no memory beside it.
 #[derive(Debug, Drop)]
 pub struct TrustDomain {
-    text: String,
+    text: NameText,
+}
+
+/// Where the bytes of a name lie. Most names are short.
+#[derive(Debug, Drop)]
+enum NameText {
+    Short(ArrayString<24>),
+    Long(String),
 }
 
 impl Model for TrustDomain {
     ghost Value = { List ℕ };
 
-    ghost view = { λ domain. string_bytes domain.text };
+    ghost view = { λ domain. text_of domain.text };
 
-    ghost invariant = { λ domain. IsDomainText (string_bytes domain.text) };
+    ghost invariant = { λ domain. IsDomainText (text_of domain.text) };
 }
 
 impl TrustDomain {
@@ -52,6 +62,7 @@ impl TrustDomain {
             (λ domain. (domain ≡ text.now) × IsDomainText text.now)
             (λ error. RefusesDomain text.now error) }
         ensures complete { IsDomainText text.now → IsOkUnless result NameError.NoMemory }
+        ensures short { IsDomainText text.now → length text.now ≤ 24 → IsOk result }
     {
         check_domain(text.as_bytes())?;
         Ok(TrustDomain::copied(alloc, text)?)
@@ -62,7 +73,10 @@ impl TrustDomain {
         ensures text { result.now ≡ self.now }
         ensures valid { IsDomainText self.now }
     {
-        self.text.as_str()
+        match &self.text {
+            NameText::Short(text) => text.as_str(),
+            NameText::Long(text) => text.as_str(),
+        }
     }
 
     /// A name that is equal to this one.
@@ -78,11 +92,14 @@ impl TrustDomain {
     /// A name of its own for a text that is known to be one.
     pub(crate) fn copied(alloc: Global, text: &str) -> Result<TrustDomain, AllocError>
         requires { IsDomainText text.now }
-        ensures { IfOk result (λ domain. domain ≡ text.now) }
+        ensures text { IfOk result (λ domain. domain ≡ text.now) }
+        ensures short { length text.now ≤ 24 → IsOk result }
     {
-        Ok(TrustDomain {
-            text: String::from_str(alloc, text)?,
-        })
+        let text = match ArrayString::from(text) {
+            Ok(short) => NameText::Short(short),
+            Err(_) => NameText::Long(String::from_str(alloc, text)?),
+        };
+        Ok(TrustDomain { text })
     }
 }
 

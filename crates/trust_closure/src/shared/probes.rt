@@ -2,7 +2,7 @@
 ghost use Rattle.std.specs.Prelude.{◌≡◌};
 
 use receipt_core::Receipt;
-use sorted_order::{Agreed, ItemGuess, ItemProbe, Probe, guess_text};
+use sorted_order::{Agreed, ItemGuess, ItemProbe, Probe, Share, guess_text};
 use std::cmp::Ordering;
 
 /// A receipt by its line.
@@ -69,6 +69,11 @@ impl<'a> ItemGuess<Receipt> for OfReceipt<'a> {
             (Ordering::Equal, bytes) => (item.cmp(self.receipt).is_lt(), bytes),
             (order, bytes) => (order.is_lt(), bytes),
         }
+    }
+
+    // Texts do not lie evenly.
+    fn share(&self, _from: &Receipt, _to: &Receipt) -> Share {
+        Share::HALF
     }
 }
 

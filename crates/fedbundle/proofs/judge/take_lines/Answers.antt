@@ -1,4 +1,4 @@
-use Rattle.std.proofs.Common.{◌+◌, ◌∙◌, length, arith, ap, refl, sym, Err}
+use Rattle.std.proofs.Common.{◌+◌, ◌∙◌, length, arith, ap, refl, Err}
 use Rattle.std.proofs.lemmas.Result.{err_from_is_err_and}
 use Rattle.byte_lines.specs.declared.line_buf.Line.{Line}
 use Rattle.fedbundle.specs.declared.complaint.LineFault.TheVariants.{TooLong}

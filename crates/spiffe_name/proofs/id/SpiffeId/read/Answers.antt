@@ -13,7 +13,7 @@ pub invariant_of-result : goal.invariant_of-result
 invariant_of-result c =
     let found = c.in_ok-domain.ensures.answer in
     IsIdText-copied c.args.text.now c.in_ok-domain.domain.now found.0 (string_bytes c.in_ok-text.text)
-    c.in_ok-domain-2.domain found.1 c.in_ok-text.ensures.ok c.in_ok-domain-2.ensures
+    c.in_ok-domain-2.domain found.1 c.in_ok-text.ensures.ok c.in_ok-domain-2.ensures.text
 
 pub returns-clause-answer : goal.returns-clause-answer
 returns-clause-answer c = (c.in_ok-text.ensures.ok, invariant_of-result c)

@@ -20,7 +20,8 @@ find_by_guess-requires c = record {
 
 pub returns : goal.returns
 returns c =
-    let found = subst (λ (r : Receipt). FindsNumber (λ s. receipt_cmp s r) c.self.inside.receipts c.find_by_guess.result) c.new-sought.ensures c.find_by_guess.ensures in
+    let found = subst (λ (r : Receipt). FindsNumber (λ s. receipt_cmp s r) c.self.inside.receipts c.find_by_guess.result)
+    c.new-sought.ensures c.find_by_guess.ensures in
     subst (λ (h : HeldReceipts). IsTrue c.is_ok.result ↔ Contains h.held c.args.receipt.now) c.self.view_is
     (subst (λ b. IsTrue b ↔ Contains (in_order c.self.inside.receipts) c.args.receipt.now) (sym c.is_ok.ensures.value)
     (finds_held c.self.inside.receipts c.args.receipt.now c.find_by_guess.result c.self.invariant.receipts c.domain-form.ensures.form found))

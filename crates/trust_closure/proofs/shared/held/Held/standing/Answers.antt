@@ -45,7 +45,8 @@ returns-in-Err c =
 pub returns-in-Err-find_by_guess : goal.returns-in-Err-find_by_guess
 returns-in-Err-find_by_guess c =
     let missing : IsMissing (λ s. receipt_cmp s c.args.receipt.now) (in_order c.self.inside.receipts) c.in-Err-find_by_guess.field-0 =
-    subst (λ (r : Receipt). IsMissing (λ s. receipt_cmp s r) (in_order c.self.inside.receipts) c.in-Err-find_by_guess.field-0) c.new.ensures c.in-Err-find_by_guess.ensures in
+    subst (λ (r : Receipt). IsMissing (λ s. receipt_cmp s r) (in_order c.self.inside.receipts) c.in-Err-find_by_guess.field-0)
+    c.new.ensures c.in-Err-find_by_guess.ensures in
     let size : length (in_order c.self.inside.receipts) ≡ length c.self.inside.receipts.items =
     length_in_order c.self.inside.receipts c.self.invariant.arranged in
     let full : 65536 ≤ length (in_order c.self.inside.receipts) = omega arith in
@@ -59,7 +60,8 @@ returns-in-Err-find_by_guess c =
 pub returns-in-Err-2 : goal.returns-in-Err-2
 returns-in-Err-2 c =
     let missing : IsMissing (λ s. receipt_cmp s c.args.receipt.now) (in_order c.self.inside.receipts) c.in-Err-find_by_guess.field-0 =
-    subst (λ (r : Receipt). IsMissing (λ s. receipt_cmp s r) (in_order c.self.inside.receipts) c.in-Err-find_by_guess.field-0) c.new.ensures c.in-Err-find_by_guess.ensures in
+    subst (λ (r : Receipt). IsMissing (λ s. receipt_cmp s r) (in_order c.self.inside.receipts) c.in-Err-find_by_guess.field-0)
+    c.new.ensures c.in-Err-find_by_guess.ensures in
     let size : length (in_order c.self.inside.receipts) ≡ length c.self.inside.receipts.items =
     length_in_order c.self.inside.receipts c.self.invariant.arranged in
     let few : length (in_order c.self.inside.receipts) < 65536 = omega arith in

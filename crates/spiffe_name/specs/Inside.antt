@@ -1,0 +1,2 @@
+-- Where the bytes of a name lie.
+pub mod NameText
