@@ -31,8 +31,8 @@ impl Share {
     /// In the middle.
     pub const HALF: Share = Share(1 << 31);
 
-    /// By numbers that rise evenly, such as the first bytes of digests. None where those of both
-    /// ends are equal, so that they tell nothing.
+    /// By numbers that rise evenly. None where those of both ends are equal, so that they tell
+    /// nothing.
     pub fn between(from: u32, to: u32, sought: u32) -> Option<Share> {
         let all = u64::from(to.checked_sub(from)?);
         let of = u64::from(sought.saturating_sub(from));
@@ -41,7 +41,7 @@ impl Share {
     }
 }
 
-/// Guesses where numbers stand, for those who seek by a text or a digest.
+/// Guesses where numbers stand, for those who seek by a text or a number.
 pub trait Guess {
     /// Whether the number, which stands between those on both sides, seems to stand before what is
     /// sought; and on how many bytes their texts seem to agree. No clause speaks of it: where the
@@ -52,7 +52,7 @@ pub trait Guess {
     fn share(&self, from: u32, to: u32) -> Share;
 }
 
-/// Guesses where items stand, for those who seek by a text or a digest.
+/// Guesses where items stand, for those who seek by a text or a number.
 pub trait ItemGuess<T> {
     /// Whether the item, which stands between those on both sides, seems to stand before what is
     /// sought; and on how many bytes their texts seem to agree. No clause speaks of it: where the

@@ -57,6 +57,21 @@ impl PairKey {
             unequal => unequal,
         }
     }
+
+    /// How far the key that is sought seems to lie from this one to another of the same domain.
+    fn share(&self, to: &PairKey, sought: &PairKey) -> Share {
+        let all = to.rank.saturating_sub(self.rank);
+        let of = sought.rank.saturating_sub(self.rank).min(all);
+        // So many of their last bits are left out that 32 hold the others.
+        let left_out = 32u32.saturating_sub(all.leading_zeros());
+        Share::between(0, short_of(all >> left_out), short_of(of >> left_out)).unwrap_or(
+            Share::HALF,
+        )
+    }
+}
+
+fn short_of(number: u64) -> u32 {
+    u32::try_from(number).unwrap_or(u32::MAX)
 }
 
 impl Model for Pairs {
@@ -119,9 +134,13 @@ impl<'a> Guess for SoughtPair<'a> {
         }
     }
 
-    // Texts do not lie evenly.
-    fn share(&self, _from: u32, _to: u32) -> Share {
-        Share::HALF
+    // By the ranks, which mostly rise evenly: a domain counts its documents.
+    fn share(&self, from: u32, to: u32) -> Share {
+        let ends = (self.keys.get(from as usize), self.keys.get(to as usize));
+        match ends {
+            (Some(from), Some(to)) if from.domain == to.domain => from.share(to, &self.key),
+            _ => Share::HALF,
+        }
     }
 }
 

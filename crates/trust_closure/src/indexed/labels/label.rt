@@ -6,7 +6,7 @@ ghost use Rattle.trust_closure.specs.Inside.Labels.{label_cmp};
 
 use bundle_doc::DocId;
 use jwk_set::KeyId;
-use sorted_order::{Agreed, ItemGuess, ItemProbe, Share};
+use sorted_order::ItemProbe;
 use std::cmp::Ordering;
 
 /// A key of a document of a trust domain, by the domain's number and by the ids of the document and
@@ -47,31 +47,6 @@ impl ItemProbe<Label> for SoughtLabel {
             unequal => unequal,
         }
     }
-}
-
-impl ItemGuess<Label> for SoughtLabel {
-    fn guess(&self, item: &Label, _agreed: Agreed) -> (bool, usize) {
-        (self.compare(item).is_lt(), 0)
-    }
-
-    fn share(&self, from: &Label, to: &Label) -> Share {
-        if from.domain != to.domain {
-            return Share::HALF;
-        }
-        let sought = &self.label;
-        share_by(&from.key.0, &to.key.0, &sought.key.0)
-            .or_else(|| share_by(&from.document.0, &to.document.0, &sought.document.0))
-            .unwrap_or(Share::HALF)
-    }
-}
-
-/// By the first bytes of digests, which lie evenly.
-fn share_by(from: &[u8; 32], to: &[u8; 32], sought: &[u8; 32]) -> Option<Share> {
-    Share::between(front_of(from), front_of(to), front_of(sought))
-}
-
-fn front_of(digest: &[u8; 32]) -> u32 {
-    u32::from_be_bytes([digest[0], digest[1], digest[2], digest[3]])
 }
 
 // Labels of one domain are ordered by the key, and by the document only where that is the same.

@@ -246,7 +246,7 @@ fn number_of(labels: &mut Arena<Label>, reach: &mut Reach, label: Label, closed:
         ≡ reach.new.room.labels }
 {
     let _count = labels.len();
-    match labels.find_by_guess(&SoughtLabel { label }) {
+    match labels.find(&SoughtLabel { label }) {
         Ok(number) => LabelNo::new(number as usize),
         Err(place) => {
             labels.insert(place, label);

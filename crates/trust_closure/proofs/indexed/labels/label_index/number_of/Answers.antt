@@ -10,8 +10,8 @@ use Rattle.trust_closure.proofs.LabelOrderFacts.{label-exact, rising-from_in_ord
 use Rattle.trust_closure.proofs.RepresentFacts.{slice_get-push}
 use Rattle.trust_closure.proofs.indexed.labels.label_index.number_of.Goals as goal
 
-pub find_by_guess-requires : goal.find_by_guess-requires
-find_by_guess-requires c = rising-from_in_order (in_order c.args.labels.now) c.args.label c.requires.rising
+pub find-requires : goal.find-requires
+find-requires c = rising-from_in_order (in_order c.args.labels.now) c.args.label c.requires.rising
 
 pub insert-requires-clause-place : goal.insert-requires-clause-place
 insert-requires-clause-place c =
