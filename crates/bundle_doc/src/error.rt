@@ -5,8 +5,8 @@ ghost use Rattle.std.specs.Prelude.{◌≡◌};
 use std::alloc::{AllocError, AllocFailed};
 use thiserror::Error;
 
-/// Why something is no document. Of several causes the first of this list is returned. Want of
-/// memory can come in place of each that is found out after memory was first wanted: of a text
+/// Why something is not a document. Of several causes the first of this list is returned. Out of
+/// memory can come in place of each that is found after memory was first asked for: of a text
 /// after `TooLong`, of a JSON value after `BadRefreshHint`.
 #[derive(Clone, Copy, Debug, PartialEq, Eq, Error)]
 pub enum DocError {

@@ -37,7 +37,7 @@ pub record CutsReport (sink : DeviceRun) (c : Configuration) (lines : Lines) : T
 
 -- ---- what is reported
 
--- All complaints of the lines were told, n of them.
+-- All complaints of the lines were written, n of them.
 pub record TellsAll (complaints : DeviceRun) (c : Configuration) (lines : Lines)
     (n : ℕ) : Type 0 where
   pub list : List Complaint
@@ -45,7 +45,7 @@ pub record TellsAll (complaints : DeviceRun) (c : Configuration) (lines : Lines)
   pub telling : Appends complaints.before complaints.after (flat_map complaint_text list)
   pub counted : n ≡ length list
 
--- A beginning of what there is to tell was told, perhaps all of it.
+-- A beginning of the complaints was written, perhaps all of them.
 pub record BeginsTelling (c : Configuration) (lines : Lines)
     (told tells : Option (List ℕ)) : Type 0 where
   pub complaints : List Complaint
@@ -70,9 +70,9 @@ StopsReport run complaints c Full = WritesNothing run.sink
 StopsReport run complaints c NoMemory = WritesNothing run.sink
 StopsReport run complaints c Io = FailsReport run complaints c
 
--- By the answer: the report was written and all complaints told, n of them; or the run stopped, and
--- a beginning of the complaints was told. Where the source cannot tell its bytes, nothing is said
--- of its lines.
+-- By the answer: the report was written and all complaints, n of them; or the run stopped, and
+-- a beginning of the complaints was written. Where the source's bytes are not known, nothing is
+-- said of its lines.
 abbrev pub AnswersReport : CommandRun → DeviceRun → Configuration → Result ℕ RunError → Type 0
 AnswersReport run complaints c (Ok n) = IsReadOut run.source
     × IfSome run.source.before

@@ -16,7 +16,7 @@ const MAX_EVERY_SECONDS: u64 = 86_400;
 /// From how many replicas one pulls at most.
 const MOST_PEERS: usize = 16;
 
-/// Stays until it is told to end.
+/// Runs the replica until it is asked to end.
 pub(crate) fn stay(rt: &HostRuntime, config: &Config, call: &Call<'_>) -> Result<u8, Exit> {
     let peers = peers_of(rt.alloc(), given(call, OptionName::Peers))?;
     let settings = settings_of(call, peers.as_slice())?;

@@ -23,8 +23,8 @@ pub enum FoldStep {
     SyncJournal,
 }
 
-/// A journal that is being folded into a snapshot: it says which step is due, and is told when it
-/// is done, and when lines were appended to the journal meanwhile.
+/// A journal that is being folded into a snapshot: it says which step is due. Its caller says when
+/// the step is done, and when lines were appended to the journal meanwhile.
 ///
 /// At each moment each line that was kept is a whole line of what a stop leaves of the snapshot or
 /// of the journal. A journal that got lines since the snapshot was begun is not emptied.

@@ -191,7 +191,7 @@ line_called line words run (Ok reply) says calls replied = record {
 }
 line_called line words run (Err fault) says calls replied = tt
 
--- want of memory is a fault of any line
+-- out of memory is a fault of any line
 pub lacks_memory : (line : List ℕ) (fault : RequestFault) → fault ≡ request_fault.NoMemory → RefusesWordsLine line fault
 lacks_memory line fault is = record { why = line_error.NoMemory; refused = tt; is = is }
 

@@ -64,7 +64,7 @@ pub record GivesInto (Runs : DeviceRun → Type 0) (output : List ℕ) : Type 0 
   pub filled : sink.after ≡ Some output
   pub runs : Runs sink
 
--- Over memory a device fails for want of memory alone.
+-- A device over memory fails only where memory runs out.
 abbrev pub memory_exit : CommandError → Exit
 memory_exit Io = Refused NoMemory
 memory_exit e = Refused e

@@ -167,7 +167,7 @@ pub(crate) fn status<C: Closure>(
     }
 }
 
-// Over memory no device fails but for want of memory.
+// A device over memory fails only where memory runs out.
 pub(crate) fn in_memory(error: CommandError) -> Exit
     ensures { result ≡ memory_exit error }
 {

@@ -127,7 +127,7 @@ all-next cmp total (x ∷ items) seen rising =
 
 -- ---- what refuses
 
--- what may be held is refused for want of memory alone
+-- what may be held is refused only where memory ran out
 refusal-none : (old : Closed) (r : Receipt) (why : TakeError) → IsConfiguration old.meaning.config
     → RefusesReceipt old.meaning old.room r why → why ≢ NoMemory → IsFitting old.meaning.config r
     → length old.meaning.held < 65536 → ⊥

@@ -1,4 +1,4 @@
--- Every state is a pair of rising lists within the limits, and what is no replica holds nothing.
+-- Every state is a pair of rising lists within the limits, and a number without a replica holds nothing.
 use Rattle.std.proofs.Common.{◌≡◌, ℕ, ◌+◌, ◌≤◌, inl, inr, Bool, true, false, List, [], ◌∷◌, arith, refl, sym, subst, leb-true}
 use Rattle.std.specs.List.Sorted.{IsStrictlySortedBy}
 use Rattle.std.proofs.lemmas.Bool.{cases_eq}
@@ -78,13 +78,13 @@ tidy-empty = record {
   saved = λ i. record { rising = tt; records_rising = tt; within = refl };
 }
 
--- ---- what is no replica
+-- ---- numbers without a replica
 
--- what is no replica holds nothing
+-- a number without a replica holds nothing
 abbrev pub IsOutside : Rules → ℕ → State → Type 0
 IsOutside rules i state = rules.replicas ≤ i → state ≡ no_state
 
--- What is no replica gains nothing.
+-- A number without a replica gains nothing.
 pub outside-kept : (rules : Rules) → IsKeptByGains rules (IsOutside rules)
 outside-kept rules = record {
   gain = λ k state more e o b l. absurd (let inside : k + 1 ≤ rules.replicas = leb-true (k + 1) rules.replicas e in omega arith);

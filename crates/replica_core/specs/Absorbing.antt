@@ -50,7 +50,7 @@ entries_of content = of_records content.records ++ of_receipts content.held
 abbrev pub with_entries : List Entry → Meaning → Meaning
 with_entries entries m = fold (λ before entry. with_entry entry before) m entries
 
--- Nothing but want of memory would keep it from being taken.
+-- It would be taken, unless memory ran out.
 abbrev pub IsWelcome : Meaning → Entry → Type 0
 IsWelcome m entry = (why : TakeError) → why ≢ NoTakeMemory → RefusesEntry m entry why → ⊥
 

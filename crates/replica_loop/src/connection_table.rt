@@ -134,7 +134,7 @@ impl ConnectionTable {
         }
     }
 
-    /// It could not be put there: requests are told so, and nobody else is told anything.
+    /// It could not be put there: requests are refused, and nothing is sent to anyone else.
     pub(crate) fn fail(&mut self) {
         for conn in &mut self.connections {
             conn.fail();

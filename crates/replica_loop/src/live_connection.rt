@@ -155,7 +155,8 @@ impl Connection {
         }
     }
 
-    /// A change could not be put on the disk: a request is told so, and another replica nothing.
+    /// A change could not be put on the disk: a request is refused, and nothing is sent to another
+    /// replica.
     pub(crate) fn fail(&mut self) {
         match &mut self.talk {
             Talk::Local(talk) => talk.fail(),

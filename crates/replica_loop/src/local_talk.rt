@@ -42,7 +42,7 @@ impl LocalTalk {
         }
     }
 
-    /// One more than there may be: it is told so, and nothing is read.
+    /// One more than there may be: the reply says so, and nothing is read.
     pub(crate) fn refused(alloc: Global) -> LocalTalk {
         LocalTalk {
             parts: RequestParts::new(alloc),

@@ -106,7 +106,7 @@ took_piece m came old piece used new due answer written idle (inr ends) answers 
 
 -- ---- what a call does
 
--- What is no fault is none.
+-- Where no fault is found there is none.
 pub no_fault : (f : Option SyncError) → ((why : SyncError) → f ≡ Some why → ⊥) → f ≡ None
 no_fault None none = refl
 no_fault (Some why) none = absurd (none why refl)

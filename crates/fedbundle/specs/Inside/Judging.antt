@@ -49,14 +49,14 @@ FailsText old text Full = IsTextTooMany old text
 FailsText old text NoMemory = Unit {0}
 FailsText old text Io = ⊥
 
--- The complaint was told, and nothing is taken.
+-- The complaint was written, and nothing is taken.
 pub record ComplainsOf (old : HeldAndRoom) (text : List ℕ) (number : ℕ) (new : HeldAndRoom)
     (told tells : Option (List ℕ)) : Type 0 where
   pub why : LineFault
   pub refuses : RefusesReceiptText old text new why
   pub now : Appends told tells (complaint_text (record { number = number; why = why }))
 
--- A beginning of the complaint was told.
+-- A beginning of the complaint was written.
 pub record BeginsTellingOf (old : HeldAndRoom) (text : List ℕ) (number : ℕ)
     (told tells : Option (List ℕ)) : Type 0 where
   pub why : LineFault
@@ -75,7 +75,7 @@ TriesText old text number new told tells failed (Err Io) = (failed ≡ true)
 
 -- ---- all lines
 
--- What is held is what is taken of the lines, and all complaints were told, n of them.
+-- What is held is what is taken of the lines, and all complaints were written, n of them.
 pub record HasJudged (c : Configuration) (lines : Lines) (m : Meaning)
     (told tells : Option (List ℕ)) (n : ℕ) : Type 0 where
   pub config : m.config ≡ c
