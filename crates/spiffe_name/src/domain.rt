@@ -56,7 +56,7 @@ impl TrustDomain {
     /// - [`NameError::Empty`]: the text is empty,
     /// - [`NameError::TooLong`]: it has more than [`MAX_DOMAIN_BYTES`] bytes,
     /// - [`NameError::BadDomainByte`]: else, where its first wrong byte is,
-    /// - [`NameError::NoMemory`]: memory ran out, for a text that is a name.
+    /// - [`NameError::NoMemory`]: memory ran out, for a name of more than 24 bytes.
     pub fn read(alloc: Global, text: &str) -> Result<TrustDomain, NameError>
         ensures answer { MatchResult result
             (λ domain. (domain ≡ text.now) × IsDomainText text.now)
