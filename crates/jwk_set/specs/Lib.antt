@@ -4,3 +4,4 @@ pub mod Forms
 pub mod Json
 -- for private clauses
 pub mod Written
+pub mod Inside

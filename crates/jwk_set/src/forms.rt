@@ -4,9 +4,11 @@ ghost use Rattle.std.specs.Cmp.{partial_equiv_from_equiv};
 ghost use Rattle.std.specs.Cmp.Lexicographic.{pointwise, nat_list_eq_equiv};
 ghost use Rattle.base64.specs.Engines.{standard};
 ghost use Rattle.base64.specs.GeneralPurpose.{encode_of};
+ghost use Rattle.jwk_set.specs.Inside.KeptText.{bytes_of};
 ghost use Rattle.jwk_set.specs.Forms.{FindsMember, IsUrlText, IsNonEmptyText, IsCertificate};
 ghost use Rattle.jwk_set.specs.Forms.{is_url_symbol as url_symbol};
 
+use crate::kept_text::KeptText;
 use base64::DecodeAllocError;
 use base64::engine::general_purpose::STANDARD;
 use std::alloc::{AllocError, Global};
@@ -18,15 +20,15 @@ use std::marker::Model;
 /// written, and nothing is decoded, so texts are equal exactly when their bytes are.
 #[derive(Debug, Drop)]
 pub struct UrlText {
-    text: String,
+    text: KeptText,
 }
 
 impl Model for UrlText {
     ghost Value = { List ℕ };
 
-    ghost view = { λ a. string_bytes a.text };
+    ghost view = { λ a. bytes_of a.text };
 
-    ghost invariant = { λ a. IsUrlText (string_bytes a.text) };
+    ghost invariant = { λ a. IsUrlText (bytes_of a.text) };
 }
 
 impl UrlText {
@@ -41,7 +43,7 @@ impl UrlText {
             return Ok(None);
         }
         Ok(Some(UrlText {
-            text: String::from_str(alloc, text)?,
+            text: KeptText::copied(alloc, text)?,
         }))
     }
 
@@ -61,7 +63,7 @@ impl UrlText {
         ensures { IfOk result (λ t. t ≡ self.now) }
     {
         Ok(UrlText {
-            text: String::from_str(alloc, self.text.as_str())?,
+            text: KeptText::copied(alloc, self.as_str())?,
         })
     }
 }
@@ -84,15 +86,15 @@ impl Eq for UrlText {
 /// (`kid`, RFC 7517, section 4.5). Texts are equal exactly when their bytes are.
 #[derive(Debug, Drop)]
 pub struct NonEmptyText {
-    text: String,
+    text: KeptText,
 }
 
 impl Model for NonEmptyText {
     ghost Value = { List ℕ };
 
-    ghost view = { λ a. string_bytes a.text };
+    ghost view = { λ a. bytes_of a.text };
 
-    ghost invariant = { λ a. IsNonEmptyText (string_bytes a.text) };
+    ghost invariant = { λ a. IsNonEmptyText (bytes_of a.text) };
 }
 
 impl NonEmptyText {
@@ -107,7 +109,7 @@ impl NonEmptyText {
             return Ok(None);
         }
         Ok(Some(NonEmptyText {
-            text: String::from_str(alloc, text)?,
+            text: KeptText::copied(alloc, text)?,
         }))
     }
 
@@ -127,7 +129,7 @@ impl NonEmptyText {
         ensures { IfOk result (λ t. t ≡ self.now) }
     {
         Ok(NonEmptyText {
-            text: String::from_str(alloc, self.text.as_str())?,
+            text: KeptText::copied(alloc, self.as_str())?,
         })
     }
 }

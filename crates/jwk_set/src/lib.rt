@@ -5,6 +5,7 @@
 mod authority;
 mod element;
 mod forms;
+mod kept_text;
 pub mod laws;
 mod text;
 

@@ -1,0 +1,2 @@
+-- Where the bytes of a text lie.
+pub mod KeptText
