@@ -76,7 +76,7 @@ fn list_trusted<'a, C: Closure>(
     let mut waiting = Vec::new(alloc);
     for receipt in closure.receipts() {
         let need = receipt.need();
-        if closure.is_distrusted(&need.domain, need.key) {
+        if closure.is_distrusted(need.domain(), need.key()) {
             continue;
         }
         waiting.push(TrustedReceipt { receipt })?;

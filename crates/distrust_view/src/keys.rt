@@ -79,7 +79,7 @@ fn keys_of_document(
 {
     let mut keys = Vec::new(alloc);
     for offer in &offers_of(alloc, domain, document)? {
-        keys.push(offer.key)?;
+        keys.push(offer.key())?;
     }
     Ok(keys)
 }

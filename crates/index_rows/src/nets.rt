@@ -92,7 +92,7 @@ fn offer(reach: &mut Reach, node: usize, label: usize) -> bool {
     if reach.room().2 == 0 || node >= reach.counts().0 || label >= reach.label_count() {
         return false;
     }
-    reach.add_offer(NodeNo::new(node), LabelNo::new(label));
+    reach.add_offer(NodeNo::new(node as u32), LabelNo::new(label as u32));
     true
 }
 
@@ -111,10 +111,10 @@ fn wait(reach: &mut Reach, label: usize, node: usize) -> bool {
     if reach.room().2 == 0 || node >= reach.counts().0 || label >= reach.label_count() {
         return false;
     }
-    if reach.awaits(NodeNo::new(node)) {
+    if reach.awaits(NodeNo::new(node as u32)) {
         return false;
     }
-    reach.add_wait(LabelNo::new(label), NodeNo::new(node));
+    reach.add_wait(LabelNo::new(label as u32), NodeNo::new(node as u32));
     true
 }
 
@@ -138,7 +138,7 @@ fn mark(reach: &mut Reach, node: usize, answer: &mut String) -> Result<(), Alloc
     if node >= reach.counts().0 {
         return answer.push_str("no such node\n");
     }
-    reach.mark(NodeNo::new(node));
+    reach.mark(NodeNo::new(node as u32));
     Ok(())
 }
 
@@ -146,7 +146,7 @@ fn close(reach: &mut Reach, label: usize, answer: &mut String) -> Result<(), All
     if label >= reach.label_count() {
         return answer.push_str("no such label\n");
     }
-    let turns = reach.close_label(LabelNo::new(label));
+    let turns = reach.close_label(LabelNo::new(label as u32));
     write!(answer, "turns {turns}\n")
 }
 
@@ -154,7 +154,7 @@ fn close(reach: &mut Reach, label: usize, answer: &mut String) -> Result<(), All
 fn tell_state(reach: &Reach, answer: &mut String) -> Result<(), AllocError> {
     answer.push_str("marked")?;
     for node in 0..reach.counts().0 {
-        if reach.is_marked(NodeNo::new(node)) {
+        if reach.is_marked(NodeNo::new(node as u32)) {
             write!(answer, " {node}")?;
         }
     }
@@ -167,7 +167,7 @@ fn tell_state(reach: &Reach, answer: &mut String) -> Result<(), AllocError> {
 
 fn tell_open(reach: &Reach, answer: &mut String) -> Result<(), AllocError> {
     for label in 0..reach.label_count() {
-        if reach.is_open(LabelNo::new(label)) {
+        if reach.is_open(LabelNo::new(label as u32)) {
             write!(answer, " {label}")?;
         }
     }

@@ -1,4 +1,5 @@
 pub mod Limits
+pub mod Triple
 pub mod Receipt
 pub mod Order
 pub mod Parts

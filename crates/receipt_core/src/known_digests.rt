@@ -7,16 +7,16 @@ use std::alloc::Global;
 use std::marker::Model;
 
 // How many digests are kept.
-const PLACES: usize = 256;
+const PLACES: usize = 4_096;
 
 // The most bytes whose digest is kept.
 const MOST_BYTES: usize = 4_096;
 
 /// Digests of certificates that came before, for those who read many lines: a certificate that
-/// comes again is compared, byte by byte, and not hashed. At most 256 are kept, each with a copy of
-/// its certificate, and of none that is longer than 4,096 bytes: the copies take at most 1 MiB, and
-/// their places at most 32 KiB more. The last bytes of a certificate tell its place, and what was
-/// there before is forgotten. No result depends on what is kept. Where memory runs out, nothing
+/// comes again is compared, byte by byte, and not hashed. At most 4,096 are kept, each with a copy
+/// of its certificate, and of none that is longer than 4,096 bytes: the copies take at most 16 MiB,
+/// and their places at most 256 KiB more. The last bytes of a certificate tell its place, and what
+/// was there before is forgotten. No result depends on what is kept. Where memory runs out, nothing
 /// more is kept.
 #[derive(Drop)]
 pub struct KnownDigests {

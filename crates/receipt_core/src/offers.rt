@@ -4,7 +4,7 @@ ghost use Rattle.jwk_set.specs.Element.{key_id_of};
 ghost use Rattle.receipt_core.specs.Receipt.{key_ids, offers_of, with_key_id};
 
 use crate::known_digests::KnownDigests;
-use crate::triple::Triple;
+use crate::triple::{Origin, Triple};
 use bundle_doc::Document;
 use jwk_set::{Authority, KeyId};
 use spiffe_name::TrustDomain;
@@ -37,11 +37,14 @@ pub(crate) fn offers_with(
     ensures { IfOk result (λ offers. offers.items
         ≡ offers_of (record { domain = domain.now; document = document.now })) }
 {
-    let id = document.id(domain);
     let keys = key_ids(alloc, document.authorities(), known)?;
     let mut offers = Vec::with_capacity(alloc, keys.len())?;
+    if keys.is_empty() {
+        return Ok(offers);
+    }
+    let origin = Origin::shared(alloc, domain, document.id(domain))?;
     for key in keys {
-        offers.push(Triple::new(alloc, domain, id, key)?)?;
+        offers.push(Triple::of_key(&origin, key)?)?;
     }
     Ok(offers)
 }

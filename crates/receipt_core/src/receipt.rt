@@ -211,7 +211,7 @@ impl Receipt {
         ensures { result.0 ≡ doc_id_of self.now.domain self.now.document }
     {
         match self.offers.as_slice() {
-            [first, ..] => first.document,
+            [first, ..] => first.document(),
             [] => self.document.id(&self.domain),
         }
     }

@@ -9,16 +9,54 @@ use jwk_set::KeyId;
 use spiffe_name::TrustDomain;
 use std::alloc::{AllocError, Global};
 use std::cmp::Ordering;
+use std::marker::Model;
+use std::sync::Arc;
 
 /// A key of a document of a trust domain, by the document's id and the key's. A receipt needs one,
 /// and a document offers one for each key of its X.509 authorities. Triples are equal exactly when
 /// their three parts are, and are ordered by domain, then document id, then key id, each by its
 /// bytes.
+///
+/// The triples that a document offers hold its domain and its id once between them, as do copies
+/// of a triple.
 #[derive(Debug, Drop)]
 pub struct Triple {
-    pub domain: TrustDomain,
-    pub document: DocId,
-    pub key: KeyId,
+    origin: Arc<Origin, Global>,
+    key: KeyId,
+}
+
+/// The document whose keys vouch, by its domain and its id.
+#[derive(Debug, Drop)]
+pub(crate) struct Origin {
+    domain: TrustDomain,
+    document: DocId,
+}
+
+impl Model for Triple {
+    ghost use Rattle.receipt_core.specs.Triple.{Triple};
+
+    ghost Value = { Triple };
+
+    ghost view = { λ t. record {
+      domain = t.origin.value.domain;
+      document = t.origin.value.document;
+      key = t.key;
+    } };
+}
+
+impl Origin {
+    // One that triples can share.
+    pub(crate) fn shared(
+        alloc: Global,
+        domain: &TrustDomain,
+        document: DocId,
+    ) -> Result<Arc<Origin, Global>, AllocError>
+        ensures { IfOk result (λ o. o.value
+            ≡ record { domain = domain.now; document = document }) }
+    {
+        let domain = domain.try_clone(alloc)?;
+        Ok(Arc::new(alloc, Origin { domain, document })?)
+    }
 }
 
 impl Triple {
@@ -35,21 +73,53 @@ impl Triple {
         ensures { IfOk result (λ t. t
             ≡ record { domain = domain.now; document = document; key = key }) }
     {
-        Ok(Triple {
-            domain: domain.try_clone(alloc)?,
-            document,
-            key,
-        })
+        let origin = Origin::shared(alloc, domain, document)?;
+        Ok(Triple { origin, key })
     }
 
-    /// A triple that is equal to this one.
+    // The triple of a key of the document.
+    pub(crate) fn of_key(origin: &Arc<Origin, Global>, key: KeyId) -> Result<Triple, AllocError>
+        ensures { IfOk result (λ t. t
+            ≡ record {
+              domain = origin.now.value.domain;
+              document = origin.now.value.document;
+              key = key;
+            }) }
+    {
+        let origin = Arc::try_clone(origin)?;
+        Ok(Triple { origin, key })
+    }
+
+    /// A triple that is equal to this one. It shares the names of this one, and takes no memory for
+    /// them.
     ///
     /// # Errors
-    /// Memory ran out.
-    pub fn try_clone(&self, alloc: Global) -> Result<Triple, AllocError>
+    /// As many triples share the names as can be counted, which no memory can hold.
+    pub fn try_clone(&self, _alloc: Global) -> Result<Triple, AllocError>
         ensures { IfOk result (λ t. t ≡ self.now) }
     {
-        Triple::new(alloc, &self.domain, self.document, self.key)
+        Triple::of_key(&self.origin, self.key)
+    }
+
+    /// The trust domain whose document it is.
+    pub fn domain(&self) -> &TrustDomain
+        ensures { result.now ≡ self.now.domain }
+    {
+        &self.origin.domain
+    }
+
+    /// The id of the document.
+    pub fn document(&self) -> DocId
+        ensures { result ≡ self.now.document }
+    {
+        self.origin.document
+    }
+
+    /// The id of the key.
+    pub fn key(&self) -> KeyId
+        ensures { result ≡ self.now.key }
+    {
+        self.key
     }
 }
 
@@ -90,8 +160,8 @@ impl Ord for Triple {
     ghost matches_eq = { λ a b. refl };
 
     fn cmp(&self, other: &Triple) -> Ordering {
-        let documents = self.document.cmp(&other.document);
+        let documents = self.document().cmp(&other.document());
         let keys = self.key.cmp(&other.key);
-        self.domain.cmp(&other.domain).then(documents.then(keys))
+        self.domain().cmp(other.domain()).then(documents.then(keys))
     }
 }

@@ -105,9 +105,9 @@ fn tell_parts(script: &Script, receipt: &Receipt, told: &mut String) -> Result<(
 }
 
 fn tell_triple(verb: &str, triple: &Triple, told: &mut String) -> Result<(), AllocError> {
-    let domain = triple.domain.as_str();
-    let document = triple.document;
-    let key = triple.key;
+    let domain = triple.domain().as_str();
+    let document = triple.document();
+    let key = triple.key();
     write!(told, "{verb} {domain} {document} {key}\n")
 }
 

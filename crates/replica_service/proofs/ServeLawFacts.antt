@@ -18,7 +18,7 @@ use Rattle.replica_sync.specs.SessionRun.{known_run}
 use Rattle.replica_sync.specs.Snapshots.{ended, text_of_lines}
 use Rattle.replica_sync.proofs.PullingFacts.{written_all}
 use Rattle.replica_service.specs.Serving.{AnswersAll, AnswersUpTo, Came, CameLines, HaveAndHeld, HeldLine, IsOwnHave, IsStill, ServesPieces}
-use Rattle.replica_service.specs.Serving.{bytes_of, gives_in_turn, line_of_have, lines_came, lines_with, with_held}
+use Rattle.replica_service.specs.Serving.{bytes_came, gives_in_turn, line_of_have, lines_came, lines_with, with_held}
 
 -- ---- the bytes of lines
 
@@ -60,12 +60,12 @@ piece_text old c =
 
 -- All pieces add their bytes.
 pieces_text : (old : CameLines) (came : List Came)
-    → text_of_held (fold lines_with old came).lines ++ (fold lines_with old came).rest ≡ (text_of_held old.lines ++ old.rest) ++ bytes_of came
+    → text_of_held (fold lines_with old came).lines ++ (fold lines_with old came).rest ≡ (text_of_held old.lines ++ old.rest) ++ bytes_came came
 pieces_text old [] = sym (append-nil (text_of_held old.lines ++ old.rest))
 pieces_text old (c ∷ came) =
     pieces_text (lines_with old c) came
-    ∙ ap (λ (l : List ℕ). l ++ bytes_of came) (piece_text old c)
-    ∙ append_assoc (text_of_held old.lines ++ old.rest) c.bytes (bytes_of came)
+    ∙ ap (λ (l : List ℕ). l ++ bytes_came came) (piece_text old c)
+    ∙ append_assoc (text_of_held old.lines ++ old.rest) c.bytes (bytes_came came)
 
 -- ---- what is held stays
 
@@ -117,7 +117,7 @@ gives_still m (a ∷ asked) held =
 record AnswersStill (m : Meaning) (came : List Came) (rest output : List ℕ) : Type 0 where
   pub haves : List HaveMessage
   pub each : AllByRecursion (IsHaveOf m.config) haves
-  pub text : bytes_of came ≡ flat_map have_text haves ++ rest
+  pub text : bytes_came came ≡ flat_map have_text haves ++ rest
   pub number : length (lines_came came).lines ≡ length haves
   pub written : output ≡ gives_text m haves
 
@@ -143,7 +143,7 @@ answers_still m came rest output answers still =
 -- All of the stream is answered.
 pub serves_whole : (f : Option SyncError) (m : Meaning) (came : List Came) (rest written due : List ℕ) → f ≡ None → rest ≡ [] → due ≡ []
     → ServesPieces f came rest (written ++ due) → IsStill m came
-    → Serves (known_run (bytes_of came) written) m (Ok (length (lines_came came).lines))
+    → Serves (known_run (bytes_came came) written) m (Ok (length (lines_came came).lines))
 serves_whole None m came rest written due sound none idle serves still =
     let is = answers_still m came rest (written ++ due) serves still in
     record {
@@ -163,7 +163,7 @@ has_byte (b ∷ rest) more = omega arith
 -- The stream ends within a have.
 pub serves_cut : (f : Option SyncError) (m : Meaning) (came : List Came) (rest written due : List ℕ) → f ≡ None → (rest ≡ [] → ⊥) → due ≡ []
     → HasNoFeed rest → ServesPieces f came rest (written ++ due) → IsStill m came
-    → Serves (known_run (bytes_of came) written) m (Err Truncated)
+    → Serves (known_run (bytes_came came) written) m (Err Truncated)
 serves_cut None m came rest written due sound more idle plain serves still =
     let is = answers_still m came rest (written ++ due) serves still in
     record {
@@ -187,34 +187,34 @@ joined_behind haves rest last later more tail =
 
 -- A fault ends it.
 stops_still : (m : Meaning) (came : List Came) (output more after : List ℕ) (e : SyncError) → AnswersUpTo came output e → IsStill m came
-    → ServesUpTo (known_run (bytes_of came ++ (more ++ (10 ∷ after))) output) m e
+    → ServesUpTo (known_run (bytes_came came ++ (more ++ (10 ∷ after))) output) m e
 stops_still m came output more after e stops still =
     let parts = still_first m stops.before stops.last stops.later (subst (IsStill m) stops.order still) in
     let is = answers_still m stops.before stops.rest output stops.answers parts.0 in
     let text = flat_map have_text is.haves in
-    let left = (stops.rest ++ stops.last.bytes) ++ ((bytes_of stops.later ++ more) ++ (10 ∷ after)) in
-    let came_is : bytes_of came ≡ (text ++ stops.rest) ++ (stops.last.bytes ++ bytes_of stops.later) =
-    ap bytes_of stops.order
+    let left = (stops.rest ++ stops.last.bytes) ++ ((bytes_came stops.later ++ more) ++ (10 ∷ after)) in
+    let came_is : bytes_came came ≡ (text ++ stops.rest) ++ (stops.last.bytes ++ bytes_came stops.later) =
+    ap bytes_came stops.order
     ∙ flat_map-append (λ (c : Came). c.bytes) stops.before (stops.last ∷ stops.later)
-    ∙ ap (λ (l : List ℕ). l ++ (stops.last.bytes ++ bytes_of stops.later)) is.text in
+    ∙ ap (λ (l : List ℕ). l ++ (stops.last.bytes ++ bytes_came stops.later)) is.text in
     record {
       haves = is.haves;
       left = Some left;
       asks = record {
         each = is.each;
         text = ap (λ (l : List ℕ). l ++ (more ++ (10 ∷ after))) came_is
-            ∙ joined_behind text stops.rest stops.last.bytes (bytes_of stops.later) more (10 ∷ after);
+            ∙ joined_behind text stops.rest stops.last.bytes (bytes_came stops.later) more (10 ∷ after);
       };
-      cause = subst (λ (k : Meaning). RefusesFurther k.config (Some left) e) parts.1 (stops.cause (bytes_of stops.later ++ more) after);
+      cause = subst (λ (k : Meaning). RefusesFurther k.config (Some left) e) parts.1 (stops.cause (bytes_came stops.later ++ more) after);
       written = written_all e (Some []) (Some output) (gives_text m is.haves) is.written;
     }
 
 pub serves_stopped : (f : Option SyncError) (m : Meaning) (came : List Came) (rest written due more after : List ℕ) (e : SyncError) → f ≡ Some e
     → due ≡ [] → ServesPieces f came rest (written ++ due) → IsStill m came
-    → Serves (known_run (bytes_of came ++ (more ++ (10 ∷ after))) written) m (Err e)
+    → Serves (known_run (bytes_came came ++ (more ++ (10 ∷ after))) written) m (Err e)
 serves_stopped None m came rest written due more after e stopped idle serves still = absurd (cc)
 serves_stopped (Some d) m came rest written due more after e stopped idle serves still =
     let same : d ≡ e = cc in
-    subst (λ (l : List ℕ). ServesUpTo (known_run (bytes_of came ++ (more ++ (10 ∷ after))) l) m e)
+    subst (λ (l : List ℕ). ServesUpTo (known_run (bytes_came came ++ (more ++ (10 ∷ after))) l) m e)
     (ap (λ (l : List ℕ). written ++ l) idle ∙ append-nil written)
     (stops_still m came (written ++ due) more after e (subst (AnswersUpTo came (written ++ due)) same serves) still)

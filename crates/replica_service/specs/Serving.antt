@@ -18,8 +18,8 @@ pub record Came : Type 0 where
   pub bytes : List ℕ
   pub held : Meaning
 
-abbrev pub bytes_of : List Came → List ℕ
-bytes_of came = flat_map (λ (c : Came). c.bytes) came
+abbrev pub bytes_came : List Came → List ℕ
+bytes_came came = flat_map (λ (c : Came). c.bytes) came
 
 -- While they came this was held.
 abbrev pub IsStill : Meaning → List Came → Type 0

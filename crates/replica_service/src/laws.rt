@@ -17,7 +17,7 @@ ghost use Rattle.replica_service.specs.Pieces.{EndsLine, GoesOn, PieceRun};
 ghost use Rattle.replica_service.specs.PulledPieces.{AreAlone, PulledPiece, bytes_pulled};
 ghost use Rattle.replica_service.specs.PullSessions.{HasPulledPieces, IsOverPulling};
 ghost use Rattle.replica_service.specs.PullSessions.{count_of_pulling, due_have, fault_of_pulling};
-ghost use Rattle.replica_service.specs.Serving.{Came, HasServedPieces, IsStill, bytes_of};
+ghost use Rattle.replica_service.specs.Serving.{Came, HasServedPieces, IsStill, bytes_came};
 ghost use Rattle.replica_service.specs.Serving.{due_give, fault_of_serving, kept_have, lines_came};
 ghost use Rattle.replica_service.specs.declared.piece_pulling.Pulling.{Pulling};
 ghost use Rattle.replica_service.specs.declared.piece_serving.Serving.{Serving};
@@ -61,16 +61,16 @@ pub fn served_pieces()
     ensures all { (s : Serving) (m : Meaning) (came : List Came) (written : List ℕ)
         → HasServedPieces s came written → IsStill m came → fault_of_serving s ≡ None
         → kept_have s ≡ [] → due_give s ≡ []
-        → Serves (known_run (bytes_of came) written) m (Ok (length (lines_came came).lines)) }
+        → Serves (known_run (bytes_came came) written) m (Ok (length (lines_came came).lines)) }
     ensures cut { (s : Serving) (m : Meaning) (came : List Came) (written : List ℕ)
         → HasServedPieces s came written → IsStill m came → fault_of_serving s ≡ None
         → (kept_have s ≡ [] → ⊥) → due_give s ≡ []
-        → Serves (known_run (bytes_of came) written) m (Err Truncated) }
+        → Serves (known_run (bytes_came came) written) m (Err Truncated) }
     ensures stopped { (s : Serving) (m : Meaning) (came : List Came)
         (written more after : List ℕ) (e : SyncError)
         → HasServedPieces s came written → IsStill m came → fault_of_serving s ≡ Some e
         → due_give s ≡ []
-        → Serves (known_run (bytes_of came ++ (more ++ (10 ∷ after))) written) m (Err e) }
+        → Serves (known_run (bytes_came came ++ (more ++ (10 ∷ after))) written) m (Err e) }
 {}
 
 /// Where nothing else changes what is held, a session whose answers come in pieces does what `pull`

@@ -25,7 +25,7 @@ pub(crate) fn voucher_line(alloc: Global, receipt: &Receipt) -> Result<TextLine,
     push_unseen_label(
         alloc,
         &mut line,
-        &receipt.need().domain,
+        receipt.need().domain(),
         &receipt.voucher().0,
     )?;
     line.extend_from_slice(b"\"];")?;

@@ -30,7 +30,7 @@ pub(crate) fn status_of<C: Closure>(
 {
     let _valid = closure.config();
     let need = receipt.need();
-    if closure.is_distrusted(&need.domain, need.key) {
+    if closure.is_distrusted(need.domain(), need.key()) {
         return ReceiptStatus::Distrusted;
     }
     if offered.contains(need) {

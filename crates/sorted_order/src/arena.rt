@@ -84,8 +84,21 @@ impl<T> Arena<T> {
     }
 
     /// Adds an item, whose number is how many there were, and gives it a place in the order. It
-    /// takes no memory.
+    /// takes no memory. Its hint is 0.
     pub fn insert(&mut self, at: usize, item: T) -> u32
+        requires place { at ≤ length self.old.items }
+        requires room { length self.old.items < self.old.capacity }
+        ensures number { result ≡ length self.old.items }
+        ensures items { self.new.items ≡ self.old.items ++ item ∷ [] }
+        ensures order { self.new.order ≡ insert self.old.order at (length self.old.items) }
+        ensures in_order { in_order self.new ≡ insert (in_order self.old) at item }
+        ensures capacity { self.new.capacity ≡ self.old.capacity }
+    {
+        self.insert_with_hint(at, item, 0)
+    }
+
+    /// The same with a hint, for [`Arena::find_by_guess`]. No clause speaks of it.
+    pub fn insert_with_hint(&mut self, at: usize, item: T, hint: u64) -> u32
         requires place { at ≤ length self.old.items }
         requires room { length self.old.items < self.old.capacity }
         ensures number { result ≡ length self.old.items }
@@ -96,7 +109,7 @@ impl<T> Arena<T> {
     {
         let number = self.order.len() as u32;
         self.items.push_reserved(item);
-        self.order.insert(at, number);
+        self.order.insert_with_hint(at, number, hint);
         number
     }
 
@@ -125,8 +138,8 @@ impl<T> Arena<T> {
             .find_number(&ByItem::new(self.items.as_slice(), probe))
     }
 
-    /// The same, where the place is guessed first. So few items are compared whole, where they are
-    /// sought by texts that agree on many bytes.
+    /// The same, where the place is guessed first, by the hints of the items and, where these are
+    /// equal, by what the caller guesses. So few items are compared whole.
     pub fn find_by_guess<P: ItemProbe<T> + ItemGuess<T>>(&self, probe: &P) -> Result<u32, usize>
         requires { IsRising (P.compared probe.now) (in_order self.now) }
         ensures { FindsNumber (P.compared probe.now) self.now result }

@@ -1,5 +1,5 @@
-//! A block: a vector of at most 512 numbers whose room is there from the start. Contracts see it as
-//! a list.
+//! A block: a vector of at most 512 numbers whose room is there from the start, and a hint beside
+//! each. Contracts see it as the list of the numbers.
 ghost use Rattle.std.specs.Prelude.{◌≡◌, ℕ, ◌<◌, ◌≤◌, List, [], length, take, drop, vec_capacity};
 ghost use Rattle.std.specs.Prelude.{IfOk};
 ghost use Rattle.std.specs.List.{insert};
@@ -13,9 +13,12 @@ pub(crate) const BLOCK: usize = 512;
 /// Half of them.
 pub(crate) const HALF: usize = 256;
 
+/// Numbers, and for each a hint in the same place. No clause speaks of hints, and that there are as
+/// many is not relied upon.
 #[derive(Drop)]
 pub(crate) struct Block {
     numbers: Vec<u32>,
+    hints: Vec<u64>,
 }
 
 impl Model for Block {
@@ -33,6 +36,7 @@ impl Block {
     {
         Ok(Block {
             numbers: Vec::with_capacity(alloc, BLOCK)?,
+            hints: Vec::with_capacity(alloc, BLOCK)?,
         })
     }
 
@@ -49,13 +53,19 @@ impl Block {
         self.numbers.as_slice()
     }
 
-    pub(crate) fn insert(&mut self, at: usize, number: u32)
+    /// The hints beside the numbers.
+    pub(crate) fn hints(&self) -> &[u64] {
+        self.hints.as_slice()
+    }
+
+    pub(crate) fn insert(&mut self, at: usize, number: u32, hint: u64)
         requires place { at ≤ length self.old }
         requires room { length self.old < 512 }
         ensures { self.new ≡ insert self.old at number }
     {
         // There is room, so it is never refused.
         let _ = self.numbers.insert(at, number);
+        insert_hint(&mut self.hints, at, hint);
     }
 
     /// Moves the second half into a spare block, and forgets what that held.
@@ -68,5 +78,22 @@ impl Block {
         // There is room, so it is never refused.
         let _ = spare.numbers.extend_from_slice(&self.numbers[HALF..]);
         self.numbers.truncate(HALF);
+        halve_hints(&mut self.hints, &mut spare.hints);
     }
+}
+
+fn insert_hint(hints: &mut Vec<u64>, at: usize, hint: u64) {
+    if at <= hints.len() {
+        // There is room. Where a hint is refused, only guesses are worse.
+        let _ = hints.insert(at, hint);
+    }
+}
+
+fn halve_hints(hints: &mut Vec<u64>, spare: &mut Vec<u64>) {
+    spare.clear();
+    if HALF <= hints.len() {
+        // There is room. Where hints are refused, only guesses are worse.
+        let _ = spare.extend_from_slice(&hints[HALF..]);
+    }
+    hints.truncate(HALF);
 }

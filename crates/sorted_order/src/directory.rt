@@ -42,13 +42,14 @@ pub(crate) fn locate_among(blocks: &[Block], at: usize) -> (usize, usize)
     (block, within)
 }
 
-/// Puts a number into the sequence.
+/// Puts a number into the sequence, and its hint beside it.
 pub(crate) fn put_number(
     blocks: &mut Vec<Block>,
     spare: &mut Vec<Block>,
     sums: &mut [usize],
     at: usize,
     number: u32,
+    hint: u64,
 )
     requires place { at ≤ length (concat blocks.old.items) }
     requires filled { AreFilled blocks.old.items }
@@ -70,7 +71,7 @@ pub(crate) fn put_number(
     ensures groups { length sums.new ≡ length sums.old }
 {
     let (block, place) = make_room(blocks, spare, sums, at);
-    put_into(blocks, block, place, number);
+    put_into(blocks, block, place, number, hint);
     count_one(sums, block);
 }
 
@@ -115,7 +116,7 @@ fn make_room(
     (block + 1, place - HALF)
 }
 
-fn put_into(blocks: &mut Vec<Block>, block: usize, within: usize, number: u32)
+fn put_into(blocks: &mut Vec<Block>, block: usize, within: usize, number: u32, hint: u64)
     requires block { block < length blocks.old.items }
     requires within { within ≤ length (block_at blocks.old.items block) }
     requires room { length (block_at blocks.old.items block) < 512 }
@@ -123,7 +124,7 @@ fn put_into(blocks: &mut Vec<Block>, block: usize, within: usize, number: u32)
     ensures directory { vec_capacity blocks.new ≡ vec_capacity blocks.old }
 {
     let chosen = &mut blocks[block];
-    chosen.insert(within, number);
+    chosen.insert(within, number, hint);
 }
 
 /// Cuts a block into halves.

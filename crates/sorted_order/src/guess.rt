@@ -22,59 +22,41 @@ pub struct Agreed {
     pub after: usize,
 }
 
-/// How far what is sought seems to lie from one of two to the other, in parts of 2^32: 0 is at the
-/// first.
-#[derive(Clone, Copy, Debug)]
-pub struct Share(pub u32);
-
-impl Share {
-    /// In the middle.
-    pub const HALF: Share = Share(1 << 31);
-
-    /// By numbers that rise evenly. None where those of both ends are equal, so that they tell
-    /// nothing.
-    pub fn between(from: u32, to: u32, sought: u32) -> Option<Share> {
-        let all = u64::from(to.checked_sub(from)?);
-        let of = u64::from(sought.saturating_sub(from));
-        let parts = (of << 32).checked_div(all)?;
-        Some(Share(u32::try_from(parts).unwrap_or(u32::MAX)))
-    }
-}
-
-/// Guesses where numbers stand, for those who seek by a text or a number.
+/// Guesses where numbers stand, for those who seek by a hint, and by a text or a number where hints
+/// are equal. No clause speaks of it: where a guess does not hold, the search compares.
 pub trait Guess {
-    /// Whether the number, which stands between those on both sides, seems to stand before what is
-    /// sought; and on how many bytes their texts seem to agree. No clause speaks of it: where the
-    /// guess does not hold, the search compares.
-    fn guess(&self, number: u32, agreed: Agreed) -> (bool, usize);
+    /// What is known of the place of what is sought beforehand. Where it can tell, it rises with
+    /// the order. Each number has the hint that it was inserted with.
+    fn hint(&self) -> u64;
 
-    /// How far what is sought seems to lie from one number to another. No clause speaks of it.
-    fn share(&self, from: u32, to: u32) -> Share;
+    /// Whether the number, which stands between those on both sides, seems to stand before what is
+    /// sought; and on how many bytes their texts seem to agree. It is asked only of numbers with
+    /// the same hint.
+    fn guess(&self, number: u32, agreed: Agreed) -> (bool, usize);
 }
 
-/// Guesses where items stand, for those who seek by a text or a number.
+/// Guesses where items stand, for those who seek by a hint, and by a text or a number where hints
+/// are equal. No clause speaks of it: where a guess does not hold, the search compares.
 pub trait ItemGuess<T> {
-    /// Whether the item, which stands between those on both sides, seems to stand before what is
-    /// sought; and on how many bytes their texts seem to agree. No clause speaks of it: where the
-    /// guess does not hold, the search compares.
-    fn guess(&self, item: &T, agreed: Agreed) -> (bool, usize);
+    /// What is known of the place of what is sought beforehand. Where it can tell, it rises with
+    /// the order. Each item has the hint that it was inserted with.
+    fn hint(&self) -> u64;
 
-    /// How far what is sought seems to lie from one item to another. No clause speaks of it.
-    fn share(&self, from: &T, to: &T) -> Share;
+    /// Whether the item, which stands between those on both sides, seems to stand before what is
+    /// sought; and on how many bytes their texts seem to agree. It is asked only of items with the
+    /// same hint.
+    fn guess(&self, item: &T, agreed: Agreed) -> (bool, usize);
 }
 
 impl<'a, T, P: ItemGuess<T>> Guess for ByItem<'a, T, P> {
+    fn hint(&self) -> u64 {
+        self.probe.hint()
+    }
+
     fn guess(&self, number: u32, agreed: Agreed) -> (bool, usize) {
         match self.items.get(number as usize) {
             Some(item) => self.probe.guess(item, agreed),
             None => (false, 0),
-        }
-    }
-
-    fn share(&self, from: u32, to: u32) -> Share {
-        match (self.items.get(from as usize), self.items.get(to as usize)) {
-            (Some(from), Some(to)) => self.probe.share(from, to),
-            _ => Share::HALF,
         }
     }
 }
@@ -221,103 +203,81 @@ fn is_not_past<P: Probe>(blocks: &[Block], probe: &P, block: usize, place: usize
 
 /// A block, and a place in it.
 fn guessed<G: Guess>(blocks: &[Block], guess: &G) -> (usize, usize) {
-    let mut agreed = Agreed {
-        before: 0,
-        after: 0,
+    let mut known = Known {
+        hint: guess.hint(),
+        agreed: Agreed {
+            before: 0,
+            after: 0,
+        },
     };
-    let block = guessed_block(blocks, guess, &mut agreed);
+    let block = guessed_block(blocks, guess, &mut known);
     match blocks.get(block) {
-        Some(found) => (block, guessed_place(found.as_slice(), guess, &mut agreed)),
+        Some(found) => (block, guessed_place(found, guess, &mut known)),
         None => (0, 0),
     }
 }
 
+/// What a search knows: the hint of what is sought, and how the texts on both sides agree.
+#[derive(Clone, Copy, Debug)]
+struct Known {
+    hint: u64,
+    agreed: Agreed,
+}
+
 /// The last block that seems to begin before what is sought, or else the first.
-fn guessed_block<G: Guess>(blocks: &[Block], guess: &G, agreed: &mut Agreed) -> usize {
+fn guessed_block<G: Guess>(blocks: &[Block], guess: &G, known: &mut Known) -> usize {
     let mut low = 0;
     let mut high = blocks.len();
-    let mut turn = Turn::Share;
     while high - low > 1 {
-        let ends = (first_number(blocks, low), first_number(blocks, high));
-        let middle = low + turn.way(guess, ends, high - low).max(1);
-        if seems_before(blocks[middle].as_slice().first(), guess, agreed) {
+        let middle = low + (high - low) / 2;
+        if seems_before(&blocks[middle], 0, guess, known) {
             low = middle;
         } else {
             high = middle;
         }
-        turn = turn.next();
     }
     low
 }
 
-/// The first number of a block, or the last number of all where there is no such block.
-fn first_number(blocks: &[Block], block: usize) -> Option<&u32> {
-    match blocks.get(block) {
-        Some(found) => found.as_slice().first(),
-        None => blocks.last()?.as_slice().last(),
-    }
-}
-
-/// How many numbers seem to stand before what is sought.
-fn guessed_place<G: Guess>(numbers: &[u32], guess: &G, agreed: &mut Agreed) -> usize {
+/// How many numbers of the block seem to stand before what is sought.
+fn guessed_place<G: Guess>(block: &Block, guess: &G, known: &mut Known) -> usize {
     let mut low = 0;
-    let mut high = numbers.len();
-    let mut turn = Turn::Share;
+    let mut high = block.len();
     while low < high {
-        let ends = (numbers.get(low), numbers.get(high).or(numbers.last()));
-        let middle = low + turn.way(guess, ends, high - low);
-        if seems_before(numbers.get(middle), guess, agreed) {
+        let middle = low + (high - low) / 2;
+        if seems_before(block, middle, guess, known) {
             low = middle + 1;
         } else {
             high = middle;
         }
-        turn = turn.next();
     }
     low
 }
 
-/// Where to look next: twice where what is sought seems to lie, and then in the middle, so that
-/// what lies unevenly is found soon too.
-#[derive(Clone, Copy, Debug)]
-enum Turn {
-    Share,
-    ShareAgain,
-    Half,
-}
-
-impl Turn {
-    fn next(self) -> Turn {
-        match self {
-            Turn::Share => Turn::ShareAgain,
-            Turn::ShareAgain => Turn::Half,
-            Turn::Half => Turn::Share,
-        }
-    }
-
-    /// How far to go of so many places, which lie between these numbers.
-    fn way<G: Guess>(self, guess: &G, ends: (Option<&u32>, Option<&u32>), places: usize) -> usize
-        requires { 0 < places }
-        ensures { result < places }
-    {
-        let share = match (self, ends) {
-            (Turn::Share | Turn::ShareAgain, (Some(from), Some(to))) => guess.share(*from, *to),
-            _ => Share::HALF,
-        };
-        let way = (places as u128 * u128::from(share.0)) >> 32;
-        (way as usize).min(places - 1)
+/// Whether the number at the place seems to stand before what is sought. The caller is asked only
+/// where its hint is that of what is sought.
+fn seems_before<G: Guess>(block: &Block, place: usize, guess: &G, known: &mut Known) -> bool {
+    let Some(hint) = block.hints().get(place) else {
+        return false;
+    };
+    match hint.cmp(&known.hint) {
+        Ordering::Less => true,
+        Ordering::Equal => is_guessed_before(block.as_slice().get(place), guess, known),
+        Ordering::Greater => false,
     }
 }
 
-/// Whether the number seems to stand before what is sought. On how many bytes they agree is kept.
-fn seems_before<G: Guess>(number: Option<&u32>, guess: &G, agreed: &mut Agreed) -> bool {
+/// Whether the number is guessed to stand before what is sought. On how many bytes they agree is
+/// kept.
+fn is_guessed_before<G: Guess>(number: Option<&u32>, guess: &G, known: &mut Known) -> bool {
     let Some(number) = number else {
         return false;
     };
-    let (before, bytes) = guess.guess(*number, *agreed);
+    let (before, bytes) = guess.guess(*number, known.agreed);
     if before {
-        agreed.before = bytes;
+        known.agreed.before = bytes;
     } else {
-        agreed.after = bytes;
+        known.agreed.after = bytes;
     }
     before
 }

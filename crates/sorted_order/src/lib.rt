@@ -17,7 +17,7 @@ mod sums;
 
 pub use arena::Arena;
 pub use backward::Backward;
-pub use guess::{Agreed, Guess, ItemGuess, Share, guess_text};
+pub use guess::{Agreed, Guess, ItemGuess, guess_text};
 pub use lent::Lent;
 pub use numbers::Numbers;
 pub use order::Order;

@@ -3,8 +3,8 @@
 //!
 //! Each block but the first is at least half full. The blocks, spare ones among them, number at
 //! most one for each 256 numbers of capacity and one more. So where there is room, a full block
-//! means that a spare one is left, and insertion needs no memory. A number of capacity costs 8
-//! bytes.
+//! means that a spare one is left, and insertion needs no memory. A number of capacity costs 24
+//! bytes: 8 for numbers and 16 for the hints beside them.
 ghost use Rattle.std.specs.Prelude.{◌≡◌, ℕ, ◌+◌, ◌-◌, ◌*◌, ◌^◌, ◌<◌, ◌≤◌, [], length, take, drop};
 ghost use Rattle.std.specs.Prelude.{slice_get, slice_index, min, IsOk, OnOk};
 ghost use Rattle.std.specs.List.{All, filter, insert};
@@ -27,14 +27,15 @@ const MOST_BLOCKS: usize = 16_777_216;
 /// The most numbers that there can be room for.
 const MOST_NUMBERS: usize = 4_294_967_040;
 
-/// Numbers of 32 bits in the order that the caller gives.
+/// Numbers of 32 bits in the order that the caller gives, each with a hint, by which a search can
+/// guess a place without looking at what the numbers stand for.
 ///
 /// They lie in blocks of at most 512, and beside these stands a sum for each group of 64 blocks. A
 /// place is found by passing over the sums of the groups before it, at most one for each 16,000
 /// numbers and one more, and over the lengths of at most 64 blocks. An insertion looks at those,
-/// raises one sum, and moves at most 2 KiB of numbers. Where it finds a full block, at most once in
-/// 256 insertions on average, it cuts that into halves, moves the directory's entries after it and
-/// makes all sums anew.
+/// raises one sum, and moves at most 6 KiB of numbers and hints. Where it finds a full block, at
+/// most once in 256 insertions on average, it cuts that into halves, moves the directory's entries
+/// after it and makes all sums anew.
 #[derive(Drop)]
 pub struct Order {
     blocks: Vec<Block>,
@@ -127,15 +128,26 @@ impl Order {
         Ok(())
     }
 
-    /// Puts a number at a place: those from there on stand one place later. It takes no memory.
+    /// Puts a number at a place: those from there on stand one place later. It takes no memory. Its
+    /// hint is 0.
     pub fn insert(&mut self, at: usize, number: u32)
         requires place { at ≤ length self.old.items }
         requires room { length self.old.items < self.old.capacity }
         ensures items { self.new.items ≡ insert self.old.items at number }
         ensures capacity { self.new.capacity ≡ self.old.capacity }
     {
+        self.insert_with_hint(at, number, 0);
+    }
+
+    /// The same with a hint, for [`Order::find_by_guess`]. No clause speaks of it.
+    pub fn insert_with_hint(&mut self, at: usize, number: u32, hint: u64)
+        requires place { at ≤ length self.old.items }
+        requires room { length self.old.items < self.old.capacity }
+        ensures items { self.new.items ≡ insert self.old.items at number }
+        ensures capacity { self.new.capacity ≡ self.old.capacity }
+    {
         let sums = self.sums.as_mut_slice();
-        put_number(&mut self.blocks, &mut self.spare, sums, at, number);
+        put_number(&mut self.blocks, &mut self.spare, sums, at, number, hint);
         self.count += 1;
     }
 
@@ -191,8 +203,8 @@ impl Order {
         }
     }
 
-    /// The same, where the place is guessed first. So few numbers are compared whole, where they
-    /// are sought by texts that agree on many bytes, or are guessed by less than what is compared.
+    /// The same, where the place is guessed first, by the hints of the numbers and, where these are
+    /// equal, by what the caller guesses. So few numbers are compared whole.
     pub fn find_by_guess<P: Probe + Guess>(&self, probe: &P) -> Result<usize, usize>
         requires known { All (P.knows probe.now) self.now.items }
         requires rising { IsRising (P.compared probe.now) self.now.items }

@@ -57,7 +57,7 @@ fn key_statuses<C: Closure>(
 {
     let mut keys = Vec::new(alloc);
     for offer in &offers_of(alloc, domain, document)? {
-        keys.push(key_status(closure, domain, offer.key))?;
+        keys.push(key_status(closure, domain, offer.key()))?;
     }
     Ok(keys)
 }

@@ -10,7 +10,7 @@ use Rattle.wait_index.specs.Inside.Listing.{holds, IsListing}
 use Rattle.wait_index.specs.Net.{Net, is_closed, step}
 use Rattle.wait_index.specs.Inside.Tally.{Tally, is_marked_in, is_touched_in, is_open_in, support_in, waits_of, Leaves, Opens, SettlesLabel, Supports}
 use Rattle.wait_index.specs.Inside.Step.{is_before, IsSteady, IsCounted, IsOpened, Follows, Spreads}
-use Rattle.wait_index.proofs.CountBelowFacts.{bit-true, bit-false, count_below-le, count_below-add, count_below-same, count_below-some}
+use Rattle.wait_index.proofs.CountBelowFacts.{bit-true, bit-false, count_below-more, count_below-le, count_below-add, count_below-same, count_below-some}
 use Rattle.wait_index.proofs.LinkFacts.{IsLink-last, count_owned, count_owned-step, count_owned_and, count_owned_and-step}
 use Rattle.wait_index.proofs.ListingFacts.{placed-from_holds, holds-from_placed}
 use Rattle.wait_index.proofs.ReleaseFacts.{front-trans}
@@ -406,6 +406,23 @@ module _ (net : Net) (t : Tally) (label : ℕ) (within : label < length net.clos
         ];
   }
 
+-- While an offer edge is left to be followed, the support of its label is below the number of offer edges.
+pub OffersFrom-support : (net : Net) (cursor node edge link : ℕ) (old now : Tally) → OffersFrom net cursor node link old now
+    → link ≡ edge + 1 → (label : ℕ) → label ≡ to_at net.offers edge → label < length net.closed
+    → support_in now label < length net.offers
+OffersFrom-support net cursor node edge link old now h e label to within =
+    let left : ℕ → Bool = λ i. eqb (from_at net.offers i) node && eqb (to_at net.offers i) label in
+    let here : left edge ≡ true = ap (λ b. b && eqb (to_at net.offers edge) label) (eq-eqb (from_at net.offers edge) node (h.at.owned edge e))
+    ∙ eq-eqb (to_at net.offers edge) label (sym to) in
+    omega (
+      arith,
+      h.follows.counted.support label within,
+      ap (count_below left) e,
+      count_below-more left edge,
+      bit-true (left edge) here,
+      count_below-le (λ i. is_before now (cursor + 1) (from_at net.offers i) && eqb (to_at net.offers i) label) (length net.offers),
+    )
+
 -- One offer edge more is followed, and its label settled.
 pub OffersFrom-step : (net : Net) (cursor node edge link next : ℕ) (old now new : Tally)
     → OffersFrom net cursor node link old now → link ≡ edge + 1 → to_at net.offers edge < length net.closed
@@ -471,7 +488,7 @@ Follows-visits net cursor node link t h =
       count_below-le (λ i. is_open_in t (from_at net.waits i)) (length net.waits),
     )
 
--- No label's support is above the number of offer edges, so it can be raised by one.
+-- No label's support is above the number of offer edges.
 pub Follows-support : (net : Net) (cursor node link : ℕ) (t : Tally) → Follows net t cursor node link → (l : ℕ)
     → l < length net.closed → support_in t l ≤ length net.offers
 Follows-support net cursor node link t h l a =

@@ -17,7 +17,7 @@ impl Marks {
         requires settled { IsSettled (net_of graph.old) (tally_of self.old) }
         requires node { node < length graph.old.roots.items }
         requires few { length graph.old.offers.edges.items + length graph.old.waits.edges.items
-            < 2 ^ 63 }
+            < 2 ^ 32 }
         ensures net { net_of graph.new ≡ with_root (net_of graph.old) node }
         ensures settled { IsSettled (net_of graph.new) (tally_of self.new) }
         ensures front { take (length self.old.marked.items.items) self.new.marked.items.items
@@ -32,13 +32,13 @@ impl Marks {
     }
 
     /// Adds an offer edge, and marks what it reaches.
-    pub(crate) fn add_offer(&mut self, graph: &mut Graph, node: usize, label: usize)
+    pub(crate) fn add_offer(&mut self, graph: &mut Graph, node: u32, label: u32)
         requires settled { IsSettled (net_of graph.old) (tally_of self.old) }
         requires node { node < length graph.old.roots.items }
         requires label { label < length graph.old.closed.items }
         requires room { length graph.old.offers.edges.items < (graph_capacity graph.old).offers }
         requires few { length graph.old.offers.edges.items + length graph.old.waits.edges.items + 1
-            < 2 ^ 63 }
+            < 2 ^ 32 }
         ensures net { net_of graph.new ≡ with_offer (net_of graph.old) node label }
         ensures settled { IsSettled (net_of graph.new) (tally_of self.new) }
         ensures front { take (length self.old.marked.items.items) self.new.marked.items.items
@@ -48,7 +48,7 @@ impl Marks {
     {
         graph.add_offer(node, label);
         let cursor = self.marked.items.len();
-        self.follow_new_offer(graph, node, label);
+        self.follow_new_offer(graph, node as usize, label as usize);
         self.follow_all(graph, cursor);
     }
 
@@ -58,7 +58,7 @@ impl Marks {
         requires node { node < length graph.now.roots.items }
         requires label { label < length graph.now.closed.items }
         requires visits { self.old.visits + 1 + length graph.now.waits.edges.items < 2 ^ 64 }
-        requires support { support_in (tally_of self.old) label + 1 < 2 ^ 64 }
+        requires support { support_in (tally_of self.old) label + 1 < 2 ^ 32 }
         ensures followed { ((is_marked_in (tally_of self.old) node ≡ true)
             × Supports (net_of graph.now) label (tally_of self.old) (tally_of self.new))
             ⊎ ((is_marked_in (tally_of self.old) node ≡ false)
@@ -71,14 +71,14 @@ impl Marks {
     }
 
     /// Adds a wait edge, and marks what it reaches.
-    pub(crate) fn add_wait(&mut self, graph: &mut Graph, label: usize, node: usize)
+    pub(crate) fn add_wait(&mut self, graph: &mut Graph, label: u32, node: u32)
         requires settled { IsSettled (net_of graph.old) (tally_of self.old) }
         requires label { label < length graph.old.closed.items }
         requires node { node < length graph.old.roots.items }
         requires once { has_wait (net_of graph.old) node ≡ false }
         requires room { length graph.old.waits.edges.items < (graph_capacity graph.old).waits }
         requires few { length graph.old.offers.edges.items + length graph.old.waits.edges.items + 1
-            < 2 ^ 63 }
+            < 2 ^ 32 }
         ensures net { net_of graph.new ≡ with_wait (net_of graph.old) label node }
         ensures settled { IsSettled (net_of graph.new) (tally_of self.new) }
         ensures front { take (length self.old.marked.items.items) self.new.marked.items.items
@@ -88,7 +88,7 @@ impl Marks {
     {
         graph.add_wait(label, node);
         let cursor = self.marked.items.len();
-        self.follow_new_wait(label, node);
+        self.follow_new_wait(label as usize, node as usize);
         self.follow_all(graph, cursor);
     }
 

@@ -27,7 +27,7 @@ impl Marks {
         requires settled { IsSettled (net_of graph.old) (tally_of self.old) }
         requires labels { All (λ label. label < length graph.old.closed.items) labels.now }
         requires few { length graph.old.offers.edges.items + length graph.old.waits.edges.items
-            < 2 ^ 63 }
+            < 2 ^ 32 }
         requires last_room { length graph.old.roots.items ≤ vec_capacity last.old.fallen }
         ensures net { net_of graph.new ≡ with_all_closed (net_of graph.old) labels.now }
         ensures settled { IsSettled (net_of graph.new) (tally_of self.new) }
@@ -89,7 +89,7 @@ impl Marks {
         requires follows { Follows (net_of graph.now) (tally_of self.old)
             (length self.old.marked.items.items) 0 0 }
         requires few { length graph.now.offers.edges.items + length graph.now.waits.edges.items
-            < 2 ^ 63 }
+            < 2 ^ 32 }
         ensures settled { IsSettled (net_of graph.now) (tally_of self.new) }
         ensures front { take (length self.old.marked.items.items) self.new.marked.items.items
             ≡ self.old.marked.items.items }
@@ -144,7 +144,7 @@ impl Marks {
         self.opened[label] = false;
         let mut link = graph.waits.newest[label];
         'waits: while link > 0 {
-            let edge = link - 1;
+            let edge = link as usize - 1;
             self.visits -= 1;
             self.fall(graph, last, graph.waits.edges[edge].to);
             link = graph.waits.earlier[edge];
@@ -152,7 +152,7 @@ impl Marks {
     }
 
     /// Unmarks the node and takes its offer edges back, unless it is a root.
-    fn fall(&mut self, graph: &Graph, last: &mut LastClose, node: usize)
+    fn fall(&mut self, graph: &Graph, last: &mut LastClose, node: u32)
         requires can { CanFall (net_of graph.now) (tally_of self.old) node }
         requires node { node < length graph.now.roots.items }
         requires marked { is_marked_in (tally_of self.old) node ≡ true }
@@ -163,10 +163,10 @@ impl Marks {
         ensures capacity { marks_capacity self.new ≡ marks_capacity self.old }
         ensures last_room { vec_capacity last.new.fallen ≡ vec_capacity last.old.fallen }
     {
-        if !graph.roots[node] {
+        if !graph.roots[node as usize] {
             last.add(node);
-            self.marked.remove(node);
-            self.withdraw_offers(graph, node);
+            self.marked.remove(node as usize);
+            self.withdraw_offers(graph, node as usize);
         }
     }
 
@@ -180,8 +180,8 @@ impl Marks {
     {
         let mut link = graph.offers.newest[node];
         'offers: while link > 0 {
-            let edge = link - 1;
-            self.withdraw(graph.offers.edges[edge].to);
+            let edge = link as usize - 1;
+            self.withdraw(graph.offers.edges[edge].to as usize);
             link = graph.offers.earlier[edge];
         }
     }
@@ -207,7 +207,7 @@ impl Marks {
         requires follows { Follows (net_of graph.now) (tally_of self.old)
             (length self.old.marked.items.items) 0 0 }
         requires few { length graph.now.offers.edges.items + length graph.now.waits.edges.items
-            < 2 ^ 63 }
+            < 2 ^ 32 }
         ensures follows { Follows (net_of graph.now) (tally_of self.new)
             (length self.old.marked.items.items) 0 0 }
         ensures untouched { self.new.touched.items.items ≡ [] }

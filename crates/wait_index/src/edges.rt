@@ -1,7 +1,7 @@
 //! Edges in the order in which they were added, with a list of the edges of each owner through
 //! them.
-ghost use Rattle.std.specs.Prelude.{◌≡◌, ℕ, ◌+◌, ◌<◌, ◌≤◌, [], ◌∷◌, ◌++◌, length, IsOk, OnOk, ◌==◌};
-ghost use Rattle.std.specs.Prelude.{vec_len, vec_capacity};
+ghost use Rattle.std.specs.Prelude.{◌≡◌, ℕ, ◌+◌, ◌^◌, ◌<◌, ◌≤◌, [], ◌∷◌, ◌++◌, length, IsOk, OnOk};
+ghost use Rattle.std.specs.Prelude.{◌==◌, vec_len, vec_capacity};
 ghost use Rattle.std.specs.List.{list_any};
 ghost use Rattle.wait_index.specs.Inside.Links.{AreLinked};
 
@@ -11,16 +11,16 @@ use std::alloc::{AllocError, Global};
 /// a node.
 #[derive(Clone, Copy, Debug, PartialEq, Eq)]
 pub(crate) struct Edge {
-    pub(crate) from: usize,
-    pub(crate) to: usize,
+    pub(crate) from: u32,
+    pub(crate) to: u32,
 }
 
 /// A link is the number of an edge plus 1, or 0 where no edge is left.
 #[derive(Drop)]
 pub(crate) struct Edges {
     pub(crate) edges: Vec<Edge>,
-    pub(crate) newest: Vec<usize>,
-    pub(crate) earlier: Vec<usize>,
+    pub(crate) newest: Vec<u32>,
+    pub(crate) earlier: Vec<u32>,
     ghost linked: { AreLinked edges.items newest.items earlier.items },
 }
 
@@ -64,20 +64,21 @@ impl Edges {
     pub(crate) fn add(&mut self, edge: Edge)
         requires owner { edge.from < length self.old.newest.items }
         requires room { length self.old.edges.items < edges_room self.old }
+        requires few { length self.old.edges.items + 1 < 2 ^ 32 }
         ensures edges { self.new.edges.items ≡ self.old.edges.items ++ edge ∷ [] }
         ensures owners { length self.new.newest.items ≡ length self.old.newest.items }
         ensures owners_room { owners_room self.new ≡ owners_room self.old }
         ensures edges_room { edges_room self.new ≡ edges_room self.old }
     {
         self.edges.push_reserved(edge);
-        self.earlier.push_reserved(self.newest[edge.from]);
-        self.newest[edge.from] = self.edges.len();
+        self.earlier.push_reserved(self.newest[edge.from as usize]);
+        self.newest[edge.from as usize] = self.edges.len() as u32;
     }
 
     /// Whether an edge leads there. It looks at each edge.
     pub(crate) fn has_edge_to(&self, there: usize) -> bool
         ensures { result ≡ list_any (λ edge. edge.to == there) self.now.edges.items }
     {
-        self.edges.iter().any(|edge| edge.to == there)
+        self.edges.iter().any(|edge| edge.to as usize == there)
     }
 }

@@ -7,8 +7,8 @@ use crate::edges::{Edge, Edges};
 use crate::number::LabelNo;
 use std::alloc::{AllocError, Global};
 
-/// The number of edges that an index holds at most.
-const MOST_EDGES: usize = 0x7fff_ffff_ffff_ffff;
+/// How many nodes, how many labels and how many edges an index holds at most.
+const MOST: usize = 0xffff_ffff;
 
 /// Which nodes are roots, which labels are closed, and the edges.
 #[derive(Drop)]
@@ -38,39 +38,43 @@ impl Graph {
         }
     }
 
-    /// Makes room for this many more nodes, labels and edges of each kind. There are at most
-    /// `MOST_EDGES` edges.
+    /// Makes room for this many more nodes, labels and edges of each kind. There are at most `MOST`
+    /// nodes, at most as many labels, and at most as many edges of both kinds together.
     pub(crate) fn try_reserve(
         &mut self,
         nodes: usize,
         labels: usize,
         edges: usize,
     ) -> Result<(), AllocError>
-        requires { length self.old.offers.edges.items + length self.old.waits.edges.items < 2 ^ 63 }
+        requires nodes { length self.old.roots.items < 2 ^ 32 }
+        requires labels { length self.old.closed.items < 2 ^ 32 }
+        requires edges { length self.old.offers.edges.items + length self.old.waits.edges.items
+            < 2 ^ 32 }
         ensures grows { GrowsGraph self.old self.new }
         ensures ok { OnOk result (HasGraphRoom self.new nodes labels edges) }
     {
+        let node_count = self.roots.len();
+        let label_count = self.closed.len();
+        let edge_count = self.offers.edges.len() + self.waits.edges.len();
+        self.try_number(node_count, nodes)?;
+        self.try_number(label_count, labels)?;
+        self.try_number(edge_count, edges)?;
         self.roots.try_reserve(nodes)?;
         self.closed.try_reserve(labels)?;
         self.offers.try_reserve(nodes, edges)?;
         self.waits.try_reserve(labels, edges)?;
-        self.try_reserve_edges(edges)?;
         Ok(())
     }
 
-    /// Two passes over all edges, with this many more, have to fit a word: past that it asks for a
-    /// growth that is always refused.
-    fn try_reserve_edges(&mut self, edges: usize) -> Result<(), AllocError>
-        requires { length self.old.offers.edges.items + length self.old.waits.edges.items < 2 ^ 63 }
+    /// The numbers of this many and of `more` of them have to fit 32 bits: past `MOST` it asks for
+    /// a growth that is always refused.
+    fn try_number(&mut self, count: usize, more: usize) -> Result<(), AllocError>
+        requires { count < 2 ^ 32 }
         ensures grows { GrowsGraph self.old self.new }
-        ensures room { graph_capacity self.new ≡ graph_capacity self.old }
-        ensures ok { OnOk result
-            (length self.new.offers.edges.items + length self.new.waits.edges.items + edges
-            < 2 ^ 63) }
+        ensures ok { OnOk result (count + more < 2 ^ 32) }
     {
-        let most = MOST_EDGES - self.offers.edges.len() - self.waits.edges.len();
-        if edges > most {
-            self.offers.edges.try_reserve(usize::MAX)?;
+        if more > MOST - count {
+            self.roots.try_reserve(usize::MAX)?;
         }
         Ok(())
     }
@@ -101,10 +105,11 @@ impl Graph {
         self.closed.len()
     }
 
-    pub(crate) fn add_offer(&mut self, node: usize, label: usize)
+    pub(crate) fn add_offer(&mut self, node: u32, label: u32)
         requires node { node < length self.old.roots.items }
         requires label { label < length self.old.closed.items }
         requires room { length self.old.offers.edges.items < (graph_capacity self.old).offers }
+        requires few { length self.old.offers.edges.items + 1 < 2 ^ 32 }
         ensures net { net_of self.new ≡ with_offer (net_of self.old) node label }
         ensures capacity { graph_capacity self.new ≡ graph_capacity self.old }
     {
@@ -114,11 +119,12 @@ impl Graph {
         });
     }
 
-    pub(crate) fn add_wait(&mut self, label: usize, node: usize)
+    pub(crate) fn add_wait(&mut self, label: u32, node: u32)
         requires label { label < length self.old.closed.items }
         requires node { node < length self.old.roots.items }
         requires once { has_wait (net_of self.old) node ≡ false }
         requires room { length self.old.waits.edges.items < (graph_capacity self.old).waits }
+        requires few { length self.old.waits.edges.items + 1 < 2 ^ 32 }
         ensures net { net_of self.new ≡ with_wait (net_of self.old) label node }
         ensures capacity { graph_capacity self.new ≡ graph_capacity self.old }
     {

@@ -1,5 +1,5 @@
 //! A set of labels in the order in which they were put in.
-ghost use Rattle.std.specs.Prelude.{◌≡◌, ℕ, ◌+◌, ◌<◌, ◌≤◌, true, false, [], ◌∷◌, ◌++◌, length};
+ghost use Rattle.std.specs.Prelude.{◌≡◌, ℕ, ◌+◌, ◌^◌, ◌<◌, ◌≤◌, true, false, [], ◌∷◌, ◌++◌, length};
 ghost use Rattle.std.specs.Prelude.{slice_set, MatchOption, OnOk, vec_capacity};
 ghost use Rattle.wait_index.specs.Inside.Listing.{IsListing, holds};
 
@@ -11,9 +11,10 @@ use std::alloc::{AllocError, Global};
 #[derive(Drop)]
 pub(crate) struct LabelSet {
     pub(crate) items: Vec<LabelNo>,
-    pub(crate) places: Vec<usize>,
+    pub(crate) places: Vec<u32>,
     ghost listed: { IsListing items.items places.items },
     ghost roomy: { length places.items ≤ vec_capacity items },
+    ghost few: { length places.items < 2 ^ 32 },
 }
 
 impl LabelSet {
@@ -44,6 +45,7 @@ impl LabelSet {
     pub(crate) fn add_label(&mut self)
         requires items_room { length self.old.places.items < vec_capacity self.old.items }
         requires places_room { length self.old.places.items < vec_capacity self.old.places }
+        requires few { length self.old.places.items + 1 < 2 ^ 32 }
         ensures items { self.new.items.items ≡ self.old.items.items }
         ensures places { self.new.places.items ≡ self.old.places.items ++ 0 ∷ [] }
         ensures items_room { vec_capacity self.new.items ≡ vec_capacity self.old.items }
@@ -69,8 +71,8 @@ impl LabelSet {
         ensures items_room { vec_capacity self.new.items ≡ vec_capacity self.old.items }
         ensures places_room { vec_capacity self.new.places ≡ vec_capacity self.old.places }
     {
-        self.items.push_reserved(LabelNo::new(label));
-        self.places[label] = self.items.len();
+        self.items.push_reserved(LabelNo::new(label as u32));
+        self.places[label] = self.items.len() as u32;
     }
 
     /// Takes the last label of the list out of the set.

@@ -46,7 +46,7 @@ impl LastClose {
     }
 
     /// The close unmarks the node.
-    pub(crate) fn add(&mut self, node: usize)
+    pub(crate) fn add(&mut self, node: u32)
         requires { length self.old.fallen.items < vec_capacity self.old.fallen }
         ensures fallen { self.new.fallen.items ≡ self.old.fallen.items ++ node ∷ [] }
         ensures kept { self.new.kept ≡ self.old.kept }

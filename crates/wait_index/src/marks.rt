@@ -17,7 +17,7 @@ use std::alloc::{AllocError, Global};
 #[derive(Drop)]
 pub(crate) struct Marks {
     pub(crate) marked: NodeSet,
-    pub(crate) support: Vec<usize>,
+    pub(crate) support: Vec<u32>,
     pub(crate) opened: Vec<bool>,
     pub(crate) touched: LabelSet,
     pub(crate) visits: usize,
@@ -58,7 +58,8 @@ impl Marks {
 
     /// Adds a node that is not marked.
     pub(crate) fn add_node(&mut self)
-        requires { length self.old.marked.places.items < (marks_capacity self.old).nodes }
+        requires room { length self.old.marked.places.items < (marks_capacity self.old).nodes }
+        requires few { length self.old.marked.places.items + 1 < 2 ^ 32 }
         ensures tally { tally_of self.new
             ≡ record (tally_of self.old) { places = self.old.marked.places.items ++ 0 ∷ [] } }
         ensures capacity { marks_capacity self.new ≡ marks_capacity self.old }
@@ -71,6 +72,7 @@ impl Marks {
         requires support { length self.old.support.items < (marks_capacity self.old).labels }
         requires opened { length self.old.opened.items < (marks_capacity self.old).labels }
         requires touched { length self.old.touched.places.items < (marks_capacity self.old).labels }
+        requires few { length self.old.touched.places.items + 1 < 2 ^ 32 }
         ensures tally { tally_of self.new ≡ record (tally_of self.old) {
           support = self.old.support.items ++ 0 ∷ [];
           opened = self.old.opened.items ++ false ∷ [];
@@ -89,7 +91,7 @@ impl Marks {
         requires follows { Follows (net_of graph.now) (tally_of self.old) cursor 0 0 }
         requires cursor { cursor ≤ length self.old.marked.items.items }
         requires few { length graph.now.offers.edges.items + length graph.now.waits.edges.items
-            < 2 ^ 63 }
+            < 2 ^ 32 }
         ensures follows { Follows (net_of graph.now) (tally_of self.new)
             (length self.new.marked.items.items) 0 0 }
         ensures spreads { Spreads (tally_of self.old) (tally_of self.new) }
@@ -107,7 +109,7 @@ impl Marks {
         requires follows { Follows (net_of graph.now) (tally_of self.old) cursor 0 0 }
         requires cursor { cursor < length self.old.marked.items.items }
         requires few { length graph.now.offers.edges.items + length graph.now.waits.edges.items
-            < 2 ^ 63 }
+            < 2 ^ 32 }
         ensures follows { Follows (net_of graph.now) (tally_of self.new) (cursor + 1) 0 0 }
         ensures spreads { Spreads (tally_of self.old) (tally_of self.new) }
         ensures capacity { marks_capacity self.new ≡ marks_capacity self.old }
@@ -115,8 +117,8 @@ impl Marks {
         let node = self.marked.items[cursor].index();
         let mut link = graph.offers.newest[node];
         'offers: while link > 0 {
-            let edge = link - 1;
-            self.follow_offer(graph, graph.offers.edges[edge].to);
+            let edge = link as usize - 1;
+            self.follow_offer(graph, graph.offers.edges[edge].to as usize);
             link = graph.offers.earlier[edge];
         }
     }
@@ -126,7 +128,7 @@ impl Marks {
         requires sizes { HasSizes (net_of graph.now) (tally_of self.old) }
         requires label { label < length graph.now.closed.items }
         requires visits { self.old.visits + 1 + length graph.now.waits.edges.items < 2 ^ 64 }
-        requires support { slice_index self.old.support.items label + 1 < 2 ^ 64 }
+        requires support { slice_index self.old.support.items label + 1 < 2 ^ 32 }
         ensures supported { Supports (net_of graph.now) label (tally_of self.old)
             (tally_of self.new) }
         ensures capacity { marks_capacity self.new ≡ marks_capacity self.old }
@@ -162,9 +164,9 @@ impl Marks {
     {
         let mut link = graph.waits.newest[label];
         'waits: while link > 0 {
-            let edge = link - 1;
+            let edge = link as usize - 1;
             self.visits += 1;
-            self.mark(graph.waits.edges[edge].to);
+            self.mark(graph.waits.edges[edge].to as usize);
             link = graph.waits.earlier[edge];
         }
     }

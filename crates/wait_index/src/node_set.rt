@@ -1,6 +1,6 @@
 //! A set of nodes in the order in which they were put in.
-ghost use Rattle.std.specs.Prelude.{◌≡◌, ℕ, ◌+◌, ◌<◌, ◌≤◌, ◌==◌, ◌&&◌, not, true, false, [], ◌∷◌};
-ghost use Rattle.std.specs.Prelude.{◌++◌, length, slice_set, OnOk, vec_capacity};
+ghost use Rattle.std.specs.Prelude.{◌≡◌, ℕ, ◌+◌, ◌^◌, ◌<◌, ◌≤◌, ◌==◌, ◌&&◌, not, true, false, []};
+ghost use Rattle.std.specs.Prelude.{◌∷◌, ◌++◌, length, slice_set, OnOk, vec_capacity};
 ghost use Rattle.wait_index.specs.Inside.Listing.{IsListing, holds};
 
 use crate::number::NodeNo;
@@ -11,9 +11,10 @@ use std::alloc::{AllocError, Global};
 #[derive(Drop)]
 pub(crate) struct NodeSet {
     pub(crate) items: Vec<NodeNo>,
-    pub(crate) places: Vec<usize>,
+    pub(crate) places: Vec<u32>,
     ghost listed: { IsListing items.items places.items },
     ghost roomy: { length places.items ≤ vec_capacity items },
+    ghost few: { length places.items < 2 ^ 32 },
 }
 
 impl NodeSet {
@@ -44,6 +45,7 @@ impl NodeSet {
     pub(crate) fn add_node(&mut self)
         requires items_room { length self.old.places.items < vec_capacity self.old.items }
         requires places_room { length self.old.places.items < vec_capacity self.old.places }
+        requires few { length self.old.places.items + 1 < 2 ^ 32 }
         ensures items { self.new.items.items ≡ self.old.items.items }
         ensures places { self.new.places.items ≡ self.old.places.items ++ 0 ∷ [] }
         ensures items_room { vec_capacity self.new.items ≡ vec_capacity self.old.items }
@@ -69,8 +71,8 @@ impl NodeSet {
         ensures items_room { vec_capacity self.new.items ≡ vec_capacity self.old.items }
         ensures places_room { vec_capacity self.new.places ≡ vec_capacity self.old.places }
     {
-        self.items.push_reserved(NodeNo::new(node));
-        self.places[node] = self.items.len();
+        self.items.push_reserved(NodeNo::new(node as u32));
+        self.places[node] = self.items.len() as u32;
     }
 
     /// Takes a node out of the set. The last one of the list takes its place.
@@ -87,6 +89,6 @@ impl NodeSet {
         let last = self.items[self.items.len() - 1];
         self.places[last.index()] = index + 1;
         self.places[node] = 0;
-        let _ = self.items.swap_remove(index);
+        let _ = self.items.swap_remove(index as usize);
     }
 }

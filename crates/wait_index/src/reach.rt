@@ -1,6 +1,6 @@
 //! The index as its callers see it.
-ghost use Rattle.std.specs.Prelude.{◌≡◌, ℕ, ◌+◌, ◌-◌, ◌*◌, ◌<◌, ◌≤◌, ◌↔◌, true, false, [], ◌∷◌};
-ghost use Rattle.std.specs.Prelude.{Bool, length, take, max, All, IsTrue, IsOk, OnOk, OnErr};
+ghost use Rattle.std.specs.Prelude.{◌≡◌, ℕ, ◌+◌, ◌-◌, ◌*◌, ◌^◌, ◌<◌, ◌≤◌, ◌↔◌, true, false, []};
+ghost use Rattle.std.specs.Prelude.{◌∷◌, Bool, length, take, max, All, IsTrue, IsOk, OnOk, OnErr};
 ghost use Rattle.std.specs.Prelude.{Contains};
 
 use crate::graph::Graph;
@@ -68,8 +68,8 @@ impl Reach {
     ///
     /// # Errors
     ///
-    /// [`NoMemory`] where there was not so much room already and a growth was refused. All is left
-    /// as it was.
+    /// [`NoMemory`] where there was not so much room already and a growth was refused, or where
+    /// there would be 2 to the power of 32 nodes, labels or edges, or more. All is left as it was.
     pub fn try_reserve(&mut self, nodes: usize, labels: usize, edges: usize) -> Result<(), NoMemory>
         ensures net { self.new.net ≡ self.old.net }
         ensures marked { self.new.marked ≡ self.old.marked }
@@ -116,7 +116,7 @@ impl Reach {
         ensures room { self.new.room ≡ record self.old.room { nodes = self.old.room.nodes - 1 } }
         ensures last { self.new.last ≡ self.old.last }
     {
-        let node = NodeNo::new(self.graph.roots.len());
+        let node = NodeNo::new(self.graph.roots.len() as u32);
         self.graph.add_node();
         self.marks.add_node();
         self.room.nodes -= 1;
@@ -163,7 +163,7 @@ impl Reach {
     {
         self.room.edges -= 1;
         self.marks
-            .add_offer(&mut self.graph, node.index(), label.index());
+            .add_offer(&mut self.graph, node.number(), label.number());
     }
 
     /// The node awaits the label from now on. It awaited none before (`awaits`), there is room for
@@ -181,7 +181,7 @@ impl Reach {
     {
         self.room.edges -= 1;
         self.marks
-            .add_wait(&mut self.graph, label.index(), node.index());
+            .add_wait(&mut self.graph, label.number(), node.number());
     }
 
     /// Makes the node, which is of this index, a root: it is marked from now on.
@@ -261,6 +261,8 @@ impl Reach {
         ensures nodes { result.0 ≡ length self.now.net.roots }
         ensures offers { result.1 ≡ length self.now.net.offers }
         ensures waits { result.2 ≡ length self.now.net.waits }
+        ensures few_nodes { result.0 < 2 ^ 32 }
+        ensures few_edges { result.1 + result.2 < 2 ^ 32 }
     {
         (
             self.graph.roots.len(),
@@ -271,7 +273,8 @@ impl Reach {
 
     /// How many labels there are.
     pub fn label_count(&self) -> usize
-        ensures { result ≡ length self.now.net.closed }
+        ensures labels { result ≡ length self.now.net.closed }
+        ensures few { result < 2 ^ 32 }
     {
         self.graph.label_count()
     }
@@ -311,7 +314,7 @@ impl Reach {
         ensures room { self.new.room ≡ record self.old.room { labels = self.old.room.labels - 1 } }
         ensures last { self.new.last ≡ self.old.last }
     {
-        let label = LabelNo::new(self.graph.closed.len());
+        let label = LabelNo::new(self.graph.closed.len() as u32);
         self.graph.add_label(closed);
         self.marks.add_label();
         self.room.labels -= 1;

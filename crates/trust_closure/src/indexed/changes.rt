@@ -82,7 +82,7 @@ pub(crate) fn reserve(
     }
     let receipts = receipts.max(spare.receipts);
     let offers = offers.max(spare.offers);
-    // Past 2^32 nodes the first growth is refused, and past 64 bits of edges the last.
+    // From 2^32 nodes on the first growth is refused, and from 2^32 edges on the last.
     pairs.try_reserve(receipts)?;
     held.try_reserve(receipts)?;
     label_index.try_reserve(receipts, receipts.saturating_add(offers))?;

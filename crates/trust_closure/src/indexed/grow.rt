@@ -93,11 +93,11 @@ fn place_receipt(
         ≤ label_index.new.edges + (length (offers_of (pair_of receipt)) + 1) }
 {
     let seeds = held.config().seeds();
-    let hint = held.hint_of_receipt(&receipt);
+    let domain_hint = held.domain_hint_of(&receipt);
     pairs.add(
         seeds,
         held.arrived(),
-        hint,
+        domain_hint,
         receipt.domain(),
         receipt.document(),
     );

@@ -52,8 +52,14 @@ fn add_seed(
     let offers = offers_of(alloc, &seed.domain, &seed.document)?;
     pairs.try_reserve(1)?;
     label_index.try_reserve(1, offers.len())?;
-    let hint = held.hint_of(&seed.domain);
-    pairs.add(earlier, held.arrived(), hint, &seed.domain, &seed.document);
+    let domain_hint = held.domain_hint(&seed.domain);
+    pairs.add(
+        earlier,
+        held.arrived(),
+        domain_hint,
+        &seed.domain,
+        &seed.document,
+    );
     let node = label_index.add_node();
     label_index.mark(node);
     offer_triples(label_index, held, node, offers.as_slice());

@@ -57,7 +57,8 @@ fn await_triple(label_index: &mut LabelIndex, held: &Held, node: NodeNo, triple:
     ensures reached { ListsReached label_index.new.net label_index.new.marked }
 {
     let label = label_of(held.config(), triple);
-    label_index.add_wait(node, label, held.is_distrusted(&triple.domain, triple.key));
+    let distrusted = held.is_distrusted(triple.domain(), triple.key());
+    label_index.add_wait(node, label, distrusted);
 }
 
 /// The node, which is the last, offers the triples, in turn, from now on.
@@ -102,7 +103,8 @@ fn offer_triple(label_index: &mut LabelIndex, held: &Held, node: NodeNo, triple:
     ensures reached { ListsReached label_index.new.net label_index.new.marked }
 {
     let label = label_of(held.config(), triple);
-    label_index.add_offer(node, label, held.is_distrusted(&triple.domain, triple.key));
+    let distrusted = held.is_distrusted(triple.domain(), triple.key());
+    label_index.add_offer(node, label, distrusted);
 }
 
 /// The label that stands for the triple.
@@ -111,9 +113,9 @@ fn label_of(config: &Config, triple: &Triple) -> Label
     ensures { IsLabelOf config.now triple.now result }
 {
     Label {
-        domain: domain_number(config, &triple.domain),
-        document: triple.document,
-        key: triple.key,
+        domain: domain_number(config, triple.domain()),
+        document: triple.document(),
+        key: triple.key(),
     }
 }
 

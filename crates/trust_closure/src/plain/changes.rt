@@ -148,11 +148,11 @@ fn place_receipt(
     ensures released_capacity { vec_capacity released.new ≡ vec_capacity released.old }
 {
     let seeds = held.config().seeds();
-    let hint = held.hint_of_receipt(&receipt);
+    let domain_hint = held.domain_hint_of(&receipt);
     pairs.add(
         seeds,
         held.arrived(),
-        hint,
+        domain_hint,
         receipt.domain(),
         receipt.document(),
     );

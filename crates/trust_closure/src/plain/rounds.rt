@@ -81,7 +81,7 @@ fn is_vouched(held: &Held, seed_offers: &[Triple], released: &[bool], receipt: &
         ↔ IsVouched held.now.records seed_offers.now held.now.arrived released.now receipt.now }
 {
     let need = receipt.need();
-    !held.is_distrusted(&need.domain, need.key)
+    !held.is_distrusted(need.domain(), need.key())
         && is_offered(seed_offers, held.arrived(), released, need)
 }
 
@@ -136,7 +136,7 @@ pub(crate) fn count_accepted(pairs: &mut Pairs, seeds: usize, released: &[bool])
     let mut count = 0;
     for node in 0..pairs.len() {
         if is_accepted_node(seeds, released, node) {
-            count += pairs.raise(&[NodeNo::new(node)]);
+            count += pairs.raise(&[NodeNo::new(node as u32)]);
         }
     }
     count

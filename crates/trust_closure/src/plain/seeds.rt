@@ -45,7 +45,13 @@ fn sow(
     let mut offers = offers_of(alloc, &seed.domain, &seed.document)?;
     pairs.try_reserve(1)?;
     seed_offers.append(&mut offers)?;
-    let hint = held.hint_of(&seed.domain);
-    pairs.add(earlier, held.arrived(), hint, &seed.domain, &seed.document);
+    let domain_hint = held.domain_hint(&seed.domain);
+    pairs.add(
+        earlier,
+        held.arrived(),
+        domain_hint,
+        &seed.domain,
+        &seed.document,
+    );
     Ok(())
 }

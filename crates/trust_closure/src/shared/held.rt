@@ -112,12 +112,12 @@ impl Held {
 
     /// The number of the receipt's domain, for guesses. It is 0 where the configuration does not
     /// have the domain.
-    pub(crate) fn hint_of_receipt(&self, receipt: &Receipt) -> u32 {
-        self.hint_of(receipt.domain())
+    pub(crate) fn domain_hint_of(&self, receipt: &Receipt) -> u32 {
+        self.domain_hint(receipt.domain())
     }
 
     /// The same of the domain.
-    pub(crate) fn hint_of(&self, domain: &TrustDomain) -> u32 {
+    pub(crate) fn domain_hint(&self, domain: &TrustDomain) -> u32 {
         let _domains = self.config.domains();
         match self.config.domain_no(domain) {
             Some(number) => number as u32,

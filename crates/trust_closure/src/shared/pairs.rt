@@ -15,7 +15,7 @@ use bundle_doc::Document;
 use closure_core::{Accepted, document_at, domain_at};
 use fed_config::Seed;
 use receipt_core::Receipt;
-use sorted_order::{Agreed, Guess, Order, Probe, Share, guess_text};
+use sorted_order::{Agreed, Guess, Order, Probe, guess_text};
 use spiffe_name::TrustDomain;
 use std::alloc::{AllocError, Global};
 use std::cmp::Ordering;
@@ -25,53 +25,32 @@ use wait_index::NodeNo;
 /// The documents of domains that the nodes have, each different one once in their order, by the
 /// number of its first node, its head; the head for each node; and for each node a count, which
 /// says of a head how many marked nodes have its document. A document is accepted where its count
-/// is not 0. Beside these stand keys by which the place of a document is guessed; no clause speaks
-/// of them.
+/// is not 0.
 #[derive(Drop)]
 pub(crate) struct Pairs {
     order: Order,
     heads: Vec<u32>,
     counts: Vec<u32>,
-    keys: Vec<PairKey>,
 }
 
-/// What tells where a document stands, but for its text: the number of its domain, and its rank,
-/// where an absent one is 0 and every other one more, but for the highest.
-#[derive(Clone, Copy, Debug)]
-pub(crate) struct PairKey {
-    domain: u32,
-    rank: u64,
+/// What tells where a document stands, but for its text: the number of its domain, of which a
+/// configuration has at most 1,024, above its rank, where an absent one is 0 and every other one
+/// more.
+fn hint_of(domain: u32, document: &Document) -> u64 {
+    let rank = document.rank().map_or(0, |rank| rank.saturating_add(1));
+    (u64::from(domain).min(1023) << 54) | front_of(rank)
 }
 
-impl PairKey {
-    fn new(domain: u32, document: &Document) -> PairKey {
-        PairKey {
-            domain,
-            rank: document.rank().map_or(0, |rank| rank.saturating_add(1)),
-        }
-    }
+/// Ranks below this one have 53 bits.
+const LONG_RANK: u64 = 1 << 53;
 
-    fn compare(&self, other: &PairKey) -> Ordering {
-        match self.domain.cmp(&other.domain) {
-            Ordering::Equal => self.rank.cmp(&other.rank),
-            unequal => unequal,
-        }
+/// The rank in 54 bits, which keep the order of ranks. Of a long one the last eleven are left out.
+fn front_of(rank: u64) -> u64 {
+    if rank < LONG_RANK {
+        rank
+    } else {
+        LONG_RANK | (rank >> 11)
     }
-
-    /// How far the key that is sought seems to lie from this one to another of the same domain.
-    fn share(&self, to: &PairKey, sought: &PairKey) -> Share {
-        let all = to.rank.saturating_sub(self.rank);
-        let of = sought.rank.saturating_sub(self.rank).min(all);
-        // So many of their last bits are left out that 32 hold the others.
-        let left_out = 32u32.saturating_sub(all.leading_zeros());
-        Share::between(0, short_of(all >> left_out), short_of(of >> left_out)).unwrap_or(
-            Share::HALF,
-        )
-    }
-}
-
-fn short_of(number: u64) -> u32 {
-    u32::try_from(number).unwrap_or(u32::MAX)
 }
 
 impl Model for Pairs {
@@ -95,22 +74,10 @@ pub(crate) struct SoughtPair<'a> {
     receipts: &'a [Receipt],
     domain: &'a TrustDomain,
     document: &'a Document,
-    keys: &'a [PairKey],
-    key: PairKey,
+    hint: u64,
 }
 
 impl<'a> SoughtPair<'a> {
-    /// How the text of the document with the number seems to stand to that of this one.
-    fn guess_by_text(&self, number: usize, agreed: Agreed) -> (bool, usize) {
-        match self.text_of(number) {
-            Some(text) => {
-                let (order, bytes) = guess_text(text, self.document.canonical(), agreed);
-                (order.is_lt(), bytes)
-            }
-            None => (false, 0),
-        }
-    }
-
     fn text_of(&self, number: usize) -> Option<&[u8]> {
         match self.seeds.get(number) {
             Some(seed) => Some(seed.document.canonical()),
@@ -123,23 +90,18 @@ impl<'a> SoughtPair<'a> {
 }
 
 impl<'a> Guess for SoughtPair<'a> {
-    fn guess(&self, number: u32, agreed: Agreed) -> (bool, usize) {
-        let Some(key) = self.keys.get(number as usize) else {
-            return (false, 0);
-        };
-        match key.compare(&self.key) {
-            Ordering::Less => (true, 0),
-            Ordering::Equal => self.guess_by_text(number as usize, agreed),
-            Ordering::Greater => (false, 0),
-        }
+    fn hint(&self) -> u64 {
+        self.hint
     }
 
-    // By the ranks, which mostly rise evenly: a domain counts its documents.
-    fn share(&self, from: u32, to: u32) -> Share {
-        let ends = (self.keys.get(from as usize), self.keys.get(to as usize));
-        match ends {
-            (Some(from), Some(to)) if from.domain == to.domain => from.share(to, &self.key),
-            _ => Share::HALF,
+    // How the text of the document with the number seems to stand to that of this one.
+    fn guess(&self, number: u32, agreed: Agreed) -> (bool, usize) {
+        match self.text_of(number as usize) {
+            Some(text) => {
+                let (order, bytes) = guess_text(text, self.document.canonical(), agreed);
+                (order.is_lt(), bytes)
+            }
+            None => (false, 0),
         }
     }
 }
@@ -210,7 +172,6 @@ impl Pairs {
             order: Order::new(alloc),
             heads: Vec::new(alloc),
             counts: Vec::new(alloc),
-            keys: Vec::new(alloc),
         }
     }
 
@@ -236,19 +197,18 @@ impl Pairs {
         self.order.try_reserve(more)?;
         self.heads.try_reserve(nodes)?;
         self.counts.try_reserve(nodes)?;
-        self.keys.try_reserve(nodes)?;
         // That there are so few stands on this call.
         let _few = self.order.len();
         Ok(())
     }
 
     /// Adds the next node, with its document, to those of these nodes. There is room for it. Its
-    /// count is 0. `hint` is the number of the domain, for guesses alone.
+    /// count is 0. `domain_hint` is the number of the domain, for guesses alone.
     pub(crate) fn add(
         &mut self,
         seeds: &[Seed],
         receipts: &[Receipt],
-        hint: u32,
+        domain_hint: u32,
         domain: &TrustDomain,
         document: &Document,
     )
@@ -262,20 +222,17 @@ impl Pairs {
         ensures capacity { self.new.capacity ≡ self.old.capacity }
     {
         let _form = document.canonical();
-        let key = PairKey::new(hint, document);
         let sought = SoughtPair {
             seeds,
             receipts,
             domain,
             document,
-            keys: self.keys.as_slice(),
-            key,
+            hint: hint_of(domain_hint, document),
         };
         let number = self.heads.len() as u32;
         let first = first_number(&mut self.order, &sought, number);
         self.heads.push_reserved(first);
         self.counts.push_reserved(0);
-        keep_key(&mut self.keys, key);
     }
 
     /// Adds one for each of these nodes to the count of its document, and returns how many
@@ -342,8 +299,8 @@ impl Pairs {
             receipts,
             domain,
             document,
-            keys: &[],
-            key: PairKey::new(0, document),
+            // It is not asked for, as nothing is guessed.
+            hint: 0,
         };
         match self.order.find(&sought) {
             Ok(place) => flag_at(&self.counts, self.order.get(place) as usize),
@@ -391,16 +348,9 @@ fn first_number(order: &mut Order, sought: &SoughtPair<'_>, number: u32) -> u32
     match order.find_by_guess(sought) {
         Ok(place) => order.get(place),
         Err(place) => {
-            order.insert(place, number);
+            order.insert_with_hint(place, number, sought.hint);
             number
         }
-    }
-}
-
-/// Keeps a key. There is room for it; without room it is left out, and only guesses are worse.
-fn keep_key(keys: &mut Vec<PairKey>, key: PairKey) {
-    if keys.len() < keys.capacity() {
-        keys.push_reserved(key);
     }
 }
 

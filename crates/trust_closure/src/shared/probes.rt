@@ -2,7 +2,7 @@
 ghost use Rattle.std.specs.Prelude.{◌≡◌};
 
 use receipt_core::Receipt;
-use sorted_order::{Agreed, ItemGuess, ItemProbe, Probe, Share, guess_text};
+use sorted_order::{Agreed, ItemGuess, ItemProbe, Probe, guess_text};
 use std::cmp::Ordering;
 
 /// A receipt by its line.
@@ -62,6 +62,11 @@ impl<'a> ItemProbe<Receipt> for OfReceipt<'a> {
 }
 
 impl<'a> ItemGuess<Receipt> for OfReceipt<'a> {
+    // Receipts are inserted without hints.
+    fn hint(&self) -> u64 {
+        0
+    }
+
     // By the texts of the documents. Receipts of one document are compared whole.
     fn guess(&self, item: &Receipt, agreed: Agreed) -> (bool, usize) {
         let sought = self.receipt.document().canonical();
@@ -69,11 +74,6 @@ impl<'a> ItemGuess<Receipt> for OfReceipt<'a> {
             (Ordering::Equal, bytes) => (item.cmp(self.receipt).is_lt(), bytes),
             (order, bytes) => (order.is_lt(), bytes),
         }
-    }
-
-    // Texts do not lie evenly.
-    fn share(&self, _from: &Receipt, _to: &Receipt) -> Share {
-        Share::HALF
     }
 }
 

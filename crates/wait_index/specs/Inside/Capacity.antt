@@ -28,14 +28,16 @@ pub record GrowsGraph (old new : Graph) : Type 0 where
   pub offers : (graph_capacity old).offers ≤ (graph_capacity new).offers
   pub waits : (graph_capacity old).waits ≤ (graph_capacity new).waits
 
--- There is room for so many nodes, labels and edges of each kind more, and the work of two passes
--- over all edges fit a word.
+-- There is room for so many nodes, labels and edges of each kind more, and their numbers have 32
+-- bits.
 pub record HasGraphRoom (g : Graph) (more_nodes more_labels more_edges : ℕ) : Type 0 where
   pub nodes : length g.roots.items + more_nodes ≤ (graph_capacity g).nodes
   pub labels : length g.closed.items + more_labels ≤ (graph_capacity g).labels
   pub offers : length g.offers.edges.items + more_edges ≤ (graph_capacity g).offers
   pub waits : length g.waits.edges.items + more_edges ≤ (graph_capacity g).waits
-  pub few : length g.offers.edges.items + length g.waits.edges.items + more_edges < 2 ^ 63
+  pub few_nodes : length g.roots.items + more_nodes < 2 ^ 32
+  pub few_labels : length g.closed.items + more_labels < 2 ^ 32
+  pub few : length g.offers.edges.items + length g.waits.edges.items + more_edges < 2 ^ 32
 
 -- the same marks, and no less room
 pub record GrowsMarks (old new : Marks) : Type 0 where

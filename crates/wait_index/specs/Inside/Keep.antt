@@ -18,12 +18,14 @@ index_of graph marks room
       last = record { fallen = last.fallen.items; kept = last.kept };
     }
 
--- All edges that can be followed are, the work of two passes over the edges fit a word, and the
+-- All edges that can be followed are, the numbers of nodes, labels and edges have 32 bits, and the
 -- vectors have the room.
 pub record IsStoredIndex (graph : Graph) (marks : Marks) (room : Room)
     (last : LastClose) : Type 0 where
   pub settled : IsSettled (net_of graph) (tally_of marks)
-  pub few : length graph.offers.edges.items + length graph.waits.edges.items + room.edges < 2 ^ 63
+  pub few : length graph.offers.edges.items + length graph.waits.edges.items + room.edges < 2 ^ 32
+  pub few_nodes : length graph.roots.items + room.nodes < 2 ^ 32
+  pub few_labels : length graph.closed.items + room.labels < 2 ^ 32
   pub nodes : length graph.roots.items + room.nodes ≤ (graph_capacity graph).nodes
   pub marked_nodes : length graph.roots.items + room.nodes ≤ (marks_capacity marks).nodes
   pub labels : length graph.closed.items + room.labels ≤ (graph_capacity graph).labels

@@ -2,6 +2,7 @@
 use Rattle.std.proofs.Common.{refl, sym, ◌∙◌, subst}
 use Rattle.std.specs.Prelude.{Contains}
 use Rattle.std.proofs.lemmas.Bool.{both_ways}
+use Rattle.receipt_core.specs.declared.distrust.Distrust.{Distrust}
 use Rattle.receipt_core.specs.declared.triple.Triple.{Triple}
 use Rattle.bundle_view.proofs.WaitingFacts.{AreSifted, sifted_none, sifted_takes, sifted_skips, sifted_all}
 use Rattle.bundle_view.proofs.trusted_receipts.list_trusted.Goals as goal
@@ -18,7 +19,8 @@ loop-receipt-preserved-then-is_distrusted g c =
     c.loop-receipt.receipt-iterator c.next.new.self c.in-Some.receipt.now c.in-Some.ensures.steps
     c.loop-receipt.invariant
     (subst (λ (t : Triple). Contains records (record { domain = t.domain; key = t.key })) c.need-need.ensures
-    (c.is_distrusted.ensures.0 c.if-is_distrusted.true))
+    (subst (λ (x : Distrust). Contains records x) (λ i. record { domain = c.domain.ensures i; key = c.key.ensures i })
+    (c.is_distrusted.ensures.0 c.if-is_distrusted.true)))
 
 pub loop-receipt-preserved : goal.loop-receipt-preserved
 loop-receipt-preserved g c =
@@ -29,8 +31,9 @@ loop-receipt-preserved g c =
     c.loop-receipt.invariant
     (λ has. both_ways c.is_distrusted.result c.if-is_distrusted.false
     (c.is_distrusted.ensures.1
+    (subst (λ (x : Distrust). Contains records x) (λ i. record { domain = sym c.domain.ensures i; key = sym c.key.ensures i })
     (subst (λ (t : Triple). Contains records (record { domain = t.domain; key = t.key }))
-    (sym c.need-need.ensures) has))))
+    (sym c.need-need.ensures) has)))))
 
 pub returns : goal.returns
 returns g c =

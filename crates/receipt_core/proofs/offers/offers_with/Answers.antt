@@ -11,9 +11,11 @@ loop-key-init c =
 pub loop-key-preserved : goal.loop-key-preserved
 loop-key-preserved c =
     let p : Pair = record { domain = c.args.domain.now; document = c.args.document.now } in
-    offers_more p c.in-Some.key c.in_ok-new.field-0 c.loop-key.key-iterator c.next.new.self c.loop-key.offers.items c.push.new.self.items
+    offers_more p c.in-Some.key c.in_ok-of_key.field-0 c.loop-key.key-iterator c.next.new.self c.loop-key.offers.items c.push.new.self.items
     (map (offer_of p) c.into_iter-key-iterator.result) c.in-Some.ensures.steps
-    (c.in_ok-new.ensures ∙ (λ i. record { domain = c.args.domain.now; document = record { 0 = c.id-id.ensures i }; key = c.in-Some.key }))
+    (c.in_ok-of_key.ensures
+    ∙ (λ i. record { domain = (c.in_ok-origin.ensures i).domain; document = (c.in_ok-origin.ensures i).document; key = c.in-Some.key })
+    ∙ (λ i. record { domain = c.args.domain.now; document = record { 0 = c.id.ensures i }; key = c.in-Some.key }))
     c.in_ok-push.ensures.items c.loop-key.invariant
 
 pub returns : goal.returns

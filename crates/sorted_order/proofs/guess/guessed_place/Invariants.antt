@@ -1,11 +1,8 @@
-use Rattle.std.proofs.Common.{◌-◌, ◌≤◌, length}
+use Rattle.std.proofs.Common.{◌-◌, ◌≤◌}
 use Rattle.sorted_order.proofs.guess.guessed_place.Given as goal
 
 abbrev pub invariant-loop-low : goal.invariant-loop-low
-invariant-loop-low g l = record {
-  order : l.low ≤ l.high;
-  within : l.high ≤ length l.numbers;
-}
+invariant-loop-low g l = l.low ≤ l.high
 
 abbrev pub decreases-loop-low : goal.decreases-loop-low
 decreases-loop-low g l = l.high - l.low

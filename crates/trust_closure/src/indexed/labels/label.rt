@@ -6,7 +6,7 @@ ghost use Rattle.trust_closure.specs.Inside.Labels.{label_cmp};
 
 use bundle_doc::DocId;
 use jwk_set::KeyId;
-use sorted_order::ItemProbe;
+use sorted_order::{Agreed, ItemGuess, ItemProbe};
 use std::cmp::Ordering;
 
 /// A key of a document of a trust domain, by the domain's number and by the ids of the document and
@@ -47,6 +47,24 @@ impl ItemProbe<Label> for SoughtLabel {
             unequal => unequal,
         }
     }
+}
+
+impl ItemGuess<Label> for SoughtLabel {
+    // The first bits of what labels are ordered by, in that order. A configuration has at most
+    // 1,024 domains.
+    fn hint(&self) -> u64 {
+        let domain = u64::from(self.label.domain).min(1023);
+        (domain << 54) | (front_of(&self.label.key.0) << 27) | front_of(&self.label.document.0)
+    }
+
+    fn guess(&self, item: &Label, _agreed: Agreed) -> (bool, usize) {
+        (self.compare(item).is_lt(), 0)
+    }
+}
+
+/// The first 27 bits of a digest.
+fn front_of(digest: &[u8; 32]) -> u64 {
+    u64::from(u32::from_be_bytes([digest[0], digest[1], digest[2], digest[3]]) >> 5)
 }
 
 // Labels of one domain are ordered by the key, and by the document only where that is the same.

@@ -8,7 +8,7 @@ ghost use Rattle.trust_closure.specs.Inside.Labels.{IsInOrder, HasNumber, AreNum
 use crate::indexed::labels::label::{Label, LabelTest, SoughtKey, SoughtLabel};
 use crate::indexed::labels::label_guesses::LabelGuesses;
 use jwk_set::KeyId;
-use sorted_order::{Arena, ItemProbe, Numbers};
+use sorted_order::{Arena, ItemGuess, ItemProbe, Numbers};
 use std::alloc::{AllocError, Global};
 use std::cmp::Ordering;
 use std::marker::Model;
@@ -150,6 +150,8 @@ impl LabelIndex {
         ensures closes { Closes self.old (T.IsMeant test.now) self.new result }
         ensures reached { ListsReached self.new.net self.new.marked }
     {
+        // The labels are fewer than 2 to the power of 32, so each number fits its 32 bits.
+        let _count = self.reach.label_count();
         list_meant(&mut self.closing, self.labels.items(), test);
         let meant = self.closing.as_slice();
         self.reach.close_labels(meant)
@@ -204,7 +206,7 @@ fn guessed_or_found(
         ≡ reach.new.room.labels }
 {
     match guessed(labels.items(), guesses, &SoughtLabel { label }) {
-        Some(number) => LabelNo::new(number as usize),
+        Some(number) => LabelNo::new(number),
         None => {
             let number = number_of(labels, reach, label, closed);
             guesses.keep(&label, number.index());
@@ -246,10 +248,11 @@ fn number_of(labels: &mut Arena<Label>, reach: &mut Reach, label: Label, closed:
         ≡ reach.new.room.labels }
 {
     let _count = labels.len();
-    match labels.find(&SoughtLabel { label }) {
-        Ok(number) => LabelNo::new(number as usize),
+    let sought = SoughtLabel { label };
+    match labels.find_by_guess(&sought) {
+        Ok(number) => LabelNo::new(number),
         Err(place) => {
-            labels.insert(place, label);
+            labels.insert_with_hint(place, label, sought.hint());
             add_label(reach, closed)
         }
     }
@@ -290,21 +293,22 @@ fn list_numbers(list: &mut Vec<LabelNo>, numbers: Numbers<'_>)
 {
     list.clear();
     for number in numbers {
-        list.push_reserved(LabelNo::new(number as usize));
+        list.push_reserved(LabelNo::new(number));
     }
 }
 
 /// Lists the numbers of the labels that are meant, in place of what the list had. There is room for
 /// each label.
 fn list_meant<T: LabelTest>(list: &mut Vec<LabelNo>, labels: &[Label], test: &T)
-    requires { length labels.now ≤ vec_capacity list.old }
+    requires room { length labels.now ≤ vec_capacity list.old }
+    requires few { length labels.now < 2 ^ 32 }
     ensures numbers { AreNumbersOf labels.now (T.IsMeant test.now) list.new.items }
     ensures room { vec_capacity list.new ≡ vec_capacity list.old }
 {
     list.clear();
     for (number, label) in labels.iter().enumerate() {
         if test.is_meant(label) {
-            list.push_reserved(LabelNo::new(number));
+            list.push_reserved(LabelNo::new(number as u32));
         }
     }
 }

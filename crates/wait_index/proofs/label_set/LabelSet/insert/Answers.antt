@@ -8,6 +8,18 @@ push_reserved-requires c =
     let s = c.args.self.now in
     omega (arith, s.items.ok.0, fewer s.items.items s.places.items c.args.label s.listed c.requires.label c.requires.absent, s.roomy)
 
+pub overflow_cast-len : goal.overflow_cast-len
+overflow_cast-len c =
+    let s = c.args.self.now in
+    omega (
+      arith,
+      c.len.ensures,
+      c.push_reserved.ensures.len,
+      s.items.ok.0,
+      fewer s.items.items s.places.items c.args.label s.listed c.requires.label c.requires.absent,
+      s.few,
+    )
+
 pub invariant_of-self-clause-listed : goal.invariant_of-self-clause-listed
 invariant_of-self-clause-listed c =
     let s = c.args.self.now in
@@ -19,3 +31,8 @@ pub invariant_of-self-clause-roomy : goal.invariant_of-self-clause-roomy
 invariant_of-self-clause-roomy c =
     let s = c.args.self.now in
     omega (arith, length-set s.places.items c.args.label c.len.result, c.push_reserved.ensures.capacity, s.roomy)
+
+pub invariant_of-self-clause-few : goal.invariant_of-self-clause-few
+invariant_of-self-clause-few c =
+    let s = c.args.self.now in
+    omega (arith, length-set s.places.items c.args.label c.len.result, s.few)

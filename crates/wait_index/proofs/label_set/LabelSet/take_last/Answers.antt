@@ -13,3 +13,8 @@ pub invariant_of-self-clause-roomy : goal.invariant_of-self-clause-roomy
 invariant_of-self-clause-roomy c =
     let s = c.args.self.now in
     omega (arith, length-set s.places.items c.index-label.result 0, c.take_last.ensures.capacity, s.roomy)
+
+pub invariant_of-self-clause-few : goal.invariant_of-self-clause-few
+invariant_of-self-clause-few c =
+    let s = c.args.self.now in
+    omega (arith, length-set s.places.items c.index-label.result 0, s.few)

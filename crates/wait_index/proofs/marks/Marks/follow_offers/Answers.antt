@@ -3,7 +3,7 @@ use Rattle.std.proofs.lemmas.List.{get_or_read}
 use Rattle.wait_index.specs.Edge.{to_at}
 use Rattle.wait_index.specs.Inside.Tally.{net_of, tally_of, Supports}
 use Rattle.wait_index.proofs.LinkFacts.{first_link, next_link, read_to}
-use Rattle.wait_index.proofs.FollowFacts.{OffersFrom-start, OffersFrom-step, Follows-visits, Follows-support}
+use Rattle.wait_index.proofs.FollowFacts.{OffersFrom-start, OffersFrom-step, OffersFrom-support, Follows-visits}
 use Rattle.wait_index.proofs.marks.Marks.follow_offers.Goals as goal
 
 pub offers-init : goal.offers-init
@@ -35,14 +35,17 @@ follow_offer-requires-clause-visits c =
 pub follow_offer-requires-clause-support : goal.follow_offer-requires-clause-support
 follow_offer-requires-clause-support c =
     let g = c.args.graph.now in
-    let within : c.offers.link - 1 < length g.offers.edges.items = omega (arith, c.offers-test.true, c.offers.invariant.0.at.within) in
-    let to = read_to g.offers.edges.items (c.offers.link - 1) c.index-in-offers.result.now within c.index-in-offers.ensures in
-    let label : c.index-in-offers.result.now.to < length g.closed.items = omega (arith, to, g.shaped.labels (c.offers.link - 1) within) in
+    let h = c.offers.invariant.0 in
+    let edge = c.offers.link - 1 in
+    let at : c.offers.link ≡ edge + 1 = omega (arith, c.offers-test.true) in
+    let within : edge < length g.offers.edges.items = omega (arith, h.at.within, at) in
+    let to = read_to g.offers.edges.items edge c.index-in-offers.result.now within c.index-in-offers.ensures in
+    let label : c.index-in-offers.result.now.to < length g.closed.items = omega (arith, to, g.shaped.labels edge within) in
     omega (
       arith,
       c.requires.few,
-      Follows-support (net_of g) (c.args.cursor + 1) c.index-node.result c.offers.link
-          (tally_of c.offers.self) c.offers.invariant.0.follows c.index-in-offers.result.now.to label,
+      OffersFrom-support (net_of g) c.args.cursor c.index-node.result edge c.offers.link (tally_of c.args.self.now)
+          (tally_of c.offers.self) h at c.index-in-offers.result.now.to to label,
     )
 
 pub offers-smaller : goal.offers-smaller

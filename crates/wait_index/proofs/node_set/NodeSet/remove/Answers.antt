@@ -82,3 +82,14 @@ invariant_of-self-clause-roomy c =
       c.swap_remove.ensures.capacity,
       s.roomy,
     )
+
+pub invariant_of-self-clause-few : goal.invariant_of-self-clause-few
+invariant_of-self-clause-few c =
+    let s = c.args.self.now in
+    let index = c.index.result.now - 1 + 1 in
+    omega (
+      arith,
+      length-set s.places.items c.index-2.result index,
+      length-set (set s.places.items c.index-2.result index) c.args.node 0,
+      s.few,
+    )

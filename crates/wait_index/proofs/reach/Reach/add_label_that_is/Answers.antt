@@ -23,6 +23,8 @@ invariant_of-self c =
     record {
       settled = rw (net, c.add_label-2.ensures.tally) (IsSettled-label (net_of r.graph) c.args.closed r.graph.shaped.labels (tally_of r.marks) k.settled);
       few = omega (arith, k.few, offers, waits);
+      few_nodes = omega (arith, k.few_nodes, roots);
+      few_labels = omega (arith, k.few_labels, closed, length_push r.graph.closed.items c.args.closed, some);
       nodes = omega (arith, k.nodes, roots, ap (λ (g : GraphCapacity). g.nodes) graph_room);
       marked_nodes = omega (arith, k.marked_nodes, roots, ap (λ (g : Capacity). g.nodes) room);
       labels = omega (arith, k.labels, closed, length_push r.graph.closed.items c.args.closed, some, ap (λ (g : GraphCapacity). g.labels) graph_room);

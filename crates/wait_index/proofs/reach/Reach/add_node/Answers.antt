@@ -23,6 +23,8 @@ invariant_of-self c =
     record {
       settled = rw (net, c.add_node-2.ensures.tally) (IsSettled-node (net_of r.graph) (tally_of r.marks) k.settled);
       few = omega (arith, k.few, offers, waits);
+      few_nodes = omega (arith, k.few_nodes, roots, length_push r.graph.roots.items false, some);
+      few_labels = omega (arith, k.few_labels, closed);
       nodes = omega (arith, k.nodes, roots, length_push r.graph.roots.items false, some, ap (λ (g : GraphCapacity). g.nodes) graph_room);
       marked_nodes = omega (arith, k.marked_nodes, roots, length_push r.graph.roots.items false, some, ap (λ (g : Capacity). g.nodes) room);
       labels = omega (arith, k.labels, closed, ap (λ (g : GraphCapacity). g.labels) graph_room);

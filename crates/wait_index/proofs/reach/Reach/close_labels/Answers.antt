@@ -24,6 +24,8 @@ invariant_of-self c =
     record {
       settled = c.close.ensures.settled;
       few = omega (arith, k.few, offers, waits);
+      few_nodes = omega (arith, k.few_nodes, roots);
+      few_labels = omega (arith, k.few_labels, closed);
       nodes = omega (arith, k.nodes, roots, ap (λ (g : GraphCapacity). g.nodes) graph_room);
       marked_nodes = omega (arith, k.marked_nodes, roots, ap (λ (g : Capacity). g.nodes) room);
       labels = omega (arith, k.labels, closed, ap (λ (g : GraphCapacity). g.labels) graph_room);

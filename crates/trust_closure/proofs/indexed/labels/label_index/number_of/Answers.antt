@@ -10,11 +10,11 @@ use Rattle.trust_closure.proofs.LabelOrderFacts.{label-exact, rising-from_in_ord
 use Rattle.trust_closure.proofs.RepresentFacts.{slice_get-push}
 use Rattle.trust_closure.proofs.indexed.labels.label_index.number_of.Goals as goal
 
-pub find-requires : goal.find-requires
-find-requires c = rising-from_in_order (in_order c.args.labels.now) c.args.label c.requires.rising
+pub find_by_guess-requires : goal.find_by_guess-requires
+find_by_guess-requires c = rising-from_in_order (in_order c.args.labels.now) c.args.label c.requires.rising
 
-pub insert-requires-clause-place : goal.insert-requires-clause-place
-insert-requires-clause-place c =
+pub insert_with_hint-requires-clause-place : goal.insert_with_hint-requires-clause-place
+insert_with_hint-requires-clause-place c =
     omega (
       arith,
       c.in-Err.ensures.within,
@@ -33,18 +33,18 @@ returns-in-Ok-clause-number c = record {
 
 pub returns-in-Err-clause-number : goal.returns-in-Err-clause-number
 returns-in-Err-clause-number c = record {
-  named = ap (λ n. slice_get c.insert.new.self.items n) (c.add_label.ensures.number ∙ c.requires.sizes)
-      ∙ ap (λ xs. slice_get xs (length c.args.labels.now.items)) c.insert.ensures.items
+  named = ap (λ n. slice_get c.insert_with_hint.new.self.items n) (c.add_label.ensures.number ∙ c.requires.sizes)
+      ∙ ap (λ xs. slice_get xs (length c.args.labels.now.items)) c.insert_with_hint.ensures.items
       ∙ slice_get-push c.args.labels.now.items c.args.label;
   grown = inr (
     missing-not_contained c.args.labels.now c.in-Err.place c.args.label c.len-count.ensures.arranged
         c.in-Err.ensures,
-    c.insert.ensures.items,
+    c.insert_with_hint.ensures.items,
     c.add_label.ensures.net,
   );
 }
 
 pub returns-in-Err-clause-rising : goal.returns-in-Err-clause-rising
 returns-in-Err-clause-rising c =
-    subst IsInOrder (sym c.insert.ensures.in_order)
+    subst IsInOrder (sym c.insert_with_hint.ensures.in_order)
     (in_order-insert (in_order c.args.labels.now) c.in-Err.place c.args.label c.requires.rising c.in-Err.ensures)
