@@ -45,30 +45,40 @@ def earlier_programs():
     return [program]
 
 
-def build_ours(name, *crates, words=(), text=b""):
-    """Builds the program programs/NAME.rt.txt, with the files of programs/NAME/ if there are any, over the crates and all
-    that they stand on, runs it once on the words and the text, and returns where it is."""
-    repo = OUT / "repo"
+def build_ours(name, *crates, words=(), text=b"", top=TOP):
+    """Builds the program programs/NAME.rt.txt of a checkout, with the files of programs/NAME/ if there are any, over the
+    crates and all that they stand on, runs it once on the words and the text, and returns where it is."""
+    repo = OUT / ("repo" if top == TOP else "repo-before")
     program = repo / "crates" / f"{name}_bench"
     shutil.rmtree(program / "src", ignore_errors=True)
     (program / "src").mkdir(parents=True)
-    lines = {line.split(":")[0]: line for line in (TOP / "crates.txt").read_text().splitlines() if ":" in line}
+    lines = {line.split(":")[0]: line for line in (top / "crates.txt").read_text().splitlines() if ":" in line}
     needed = below(lines, crates)
     own = f"{program.name}: {' '.join(needed)}\n"
     (repo / "crates.txt").write_text("".join(f"{lines[crate]}\n" for crate in needed) + own)
-    shutil.copy(TOP / "HANDLES", repo / "HANDLES")
+    shutil.copy(top / "HANDLES", repo / "HANDLES")
     if not (repo / ".git").is_dir():
         subprocess.run(["git", "init", "-q", repo], check=True)
     for crate in needed:
-        copy_crate(TOP / "crates" / crate, repo / "crates" / crate)
-    shutil.copy(BENCH / "programs" / f"{name}.rt.txt", program / "src/main.rt")
-    for file in (BENCH / "programs" / name).glob("*.rt.txt"):
+        copy_crate(top / "crates" / crate, repo / "crates" / crate)
+    shutil.copy(top / f"bench/programs/{name}.rt.txt", program / "src/main.rt")
+    for file in (top / "bench/programs" / name).glob("*.rt.txt"):
         shutil.copy(file, program / "src" / file.stem)
-    print("proving and building the crates and their benchmark", file=sys.stderr)
+    print(f"proving and building the crates of {top} and their benchmark", file=sys.stderr)
     done = subprocess.run(["rt", "run", "--", *words], cwd=program, input=text, capture_output=True)
     if done.returncode != 0:
         stop((done.stdout + done.stderr)[-4_000:].decode(errors="replace"))
     return program / "out" / program.name
+
+
+def build_with_earlier(name, *crates):
+    """Our program, and where $FEDBUNDLE_BEFORE_AT names the checkout of an earlier commit that one's: it is measured in
+    the same turns."""
+    earlier = os.environ.get("FEDBUNDLE_BEFORE_AT")
+    if earlier is not None and not Path(earlier, "crates.txt").is_file():
+        stop(f"{earlier} is no checkout: $FEDBUNDLE_BEFORE_AT names it")
+    own = build_ours(name, *crates)
+    return own, [] if earlier is None else [build_ours(name, *crates, top=Path(earlier).resolve())]
 
 
 def below(lines, crates):

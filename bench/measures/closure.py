@@ -11,7 +11,7 @@ import statistics
 import tempfile
 from pathlib import Path
 
-from building import build_ours, build_peer, run, stop
+from building import build_peer, build_with_earlier, run, stop
 
 SIZES = [4_096, 16_384, 65_536]
 DOUBLES = [16_384, 32_768, 65_536]
@@ -207,6 +207,8 @@ def measure(programs, turns, add):
     return found
 
 
+# Of which programs rows stand below one another, each beside plain Rust: ours, and the earlier one where there is one.
+ROWS = [(0, ""), (2, "before")]
 ROW = "{:<9} {:>8} | {:>6} {:>6} | {:>6} {:>6} {:>5} | {:>5} {:>5} | {:>5} {:>5} | {:>5} {:>5} {:>5} | {:>5} {:>5}"
 
 
@@ -228,18 +230,19 @@ def print_shape(programs, path, name, make, size, turns, last):
     count = write_shape(path, make, size)
     found = measure(programs, turns, lambda runs, program: runs.add_with_memory(program, path))
     taken = [min(runs.taken) / count for runs in found]
-    none, one, all_ = [
-        [min(runs.of(*places)) for runs in found]
-        for places in ((0, LEAVES), (LEAVES, 2 * LEAVES), (2 * LEAVES, 2 * LEAVES + 1))
-    ]
-    growth = [f"{now / before:.2f}" for now, before in zip(taken, last)] if last else ["", ""]
-    print(ROW.format(
-        name, count,
-        f"{taken[0]:.0f}", growth[0], f"{taken[1]:.0f}", growth[1], f"{taken[0] / taken[1]:.2f}",
-        *(f"{time / 1e3:.1f}" for time in [*none, *one]),
-        *(f"{time / count:.0f}" for time in all_), f"{all_[0] / all_[1]:.2f}",
-        *(f"{runs.held / count:.0f}" for runs in found),
-    ), flush=True)
+    grown = [f"{now / before:.2f}" for now, before in zip(taken, last)] if last else [""] * len(found)
+    for at, word in ROWS[: len(found) - 1]:
+        none, one, all_ = [
+            [min(found[of].of(*places)) for of in (at, 1)]
+            for places in ((0, LEAVES), (LEAVES, 2 * LEAVES), (2 * LEAVES, 2 * LEAVES + 1))
+        ]
+        print(ROW.format(
+            word or name, count,
+            f"{taken[at]:.0f}", grown[at], f"{taken[1]:.0f}", grown[1], f"{taken[at] / taken[1]:.2f}",
+            *(f"{time / 1e3:.1f}" for time in [*none, *one]),
+            *(f"{time / count:.0f}" for time in all_), f"{all_[0] / all_[1]:.2f}",
+            *(f"{found[of].held / count:.0f}" for of in (at, 1)),
+        ), flush=True)
     return taken
 
 
@@ -252,16 +255,23 @@ def print_many(title):
     print(MANY.format("what", "order", "receipts", "records", "ms", "ms", "", "ms", "ms", "", "ratio"), flush=True)
 
 
-def print_line(last, what, shuffles, count, records, own, other):
+def print_lines(last, what, shuffles, count, records, times):
+    """A line of print_many for each program of ours, with the times of all programs."""
+    for at, word in ROWS[: len(times) - 1]:
+        print_line(last, (what, word, shuffles), count, records, times[at], times[1])
+
+
+def print_line(last, key, count, records, own, other):
     """A line of print_many. `last` has the least times of the size before, by what was timed."""
-    before = last.get((what, shuffles))
-    last[what, shuffles] = min(own), min(other)
+    what, word, shuffles = key
+    before = last.get(key)
+    last[key] = min(own), min(other)
     cells = []
     for at, times in enumerate((own, other)):
         growth = f"{min(times) / before[at]:.2f}" if before else ""
         cells += [f"{min(times) / 1e6:.2f}", f"{statistics.median(times) / 1e6:.2f}", growth]
     order = "shuffled" if shuffles else "in order"
-    print(MANY.format(what, order, count, records, *cells, f"{min(own) / min(other):.2f}"), flush=True)
+    print(MANY.format(word or what, order, count, records, *cells, f"{min(own) / min(other):.2f}"), flush=True)
 
 
 def print_double(programs, path, turns):
@@ -272,7 +282,7 @@ def print_double(programs, path, turns):
             count = write_double(path, size, shuffles)
             found = measure(programs, turns, lambda runs, program: runs.add(program, "take", path))
             for at, what in enumerate(["reaches all, loses nothing", "reaches all, loses all"]):
-                print_line(last, what, shuffles, count, 1, *(runs.of(at, at + 1) for runs in found))
+                print_lines(last, what, shuffles, count, 1, [runs.of(at, at + 1) for runs in found])
 
 
 def print_merges(programs, path, turns):
@@ -282,7 +292,7 @@ def print_merges(programs, path, turns):
         for records in RECORDS:
             count = write_fan(path, records, shuffles)
             found = measure(programs, turns, lambda runs, program: runs.add(program, "merge", path))
-            print_line(last, "one merge", shuffles, count, records, *(runs.sums() for runs in found))
+            print_lines(last, "one merge", shuffles, count, records, [runs.sums() for runs in found])
 
 
 def print_singly(programs, path, turns, records):
@@ -290,13 +300,14 @@ def print_singly(programs, path, turns, records):
     for shuffles in (False, True):
         count = write_fan(path, records, shuffles)
         found = measure(programs, turns, lambda runs, program: runs.add(program, "take", path))
-        print_line({}, "one after another", shuffles, count, records, *(runs.sums() for runs in found))
+        print_lines({}, "one after another", shuffles, count, records, [runs.sums() for runs in found])
 
 
 def main(words):
     turns = int(words[0]) if words else 5
     parts = words[1:] or ["takes", "double", "merges", "singly"]
-    programs = [build_ours("closure", "trust_closure"), build_peer("closure")]
+    own, earlier = build_with_earlier("closure", "trust_closure")
+    programs = [own, build_peer("closure"), *earlier]
     print(f"{turns} runs of each program, in turns.")
     with tempfile.TemporaryDirectory() as folder:
         path = Path(folder) / "receipts"
@@ -310,4 +321,4 @@ def main(words):
             print_singly(programs, path, turns, SAMPLE)
         if "whole" in parts:
             print_singly(programs, path, turns, RECORDS[-1])
-    print("\nBoth programs gave the same answers on each set.")
+    print("\nAll programs gave the same answers on each set.")

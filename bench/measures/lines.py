@@ -7,7 +7,7 @@ import random
 import tempfile
 from pathlib import Path
 
-from building import build_ours, build_peer, run, stop
+from building import build_peer, build_with_earlier, run, stop
 from texts import url_text
 
 MAX_DOCUMENT = 1_048_576
@@ -109,9 +109,10 @@ def measure(programs, path, turns):
 
 def main(words):
     turns = int(words[0]) if words else 3
-    programs = [build_ours("lines", "receipt_core"), build_peer("lines"), build_peer("lines", soft=True)]
+    own, earlier = build_with_earlier("lines", "receipt_core")
+    programs = [own, build_peer("lines"), build_peer("lines", soft=True), *earlier]
     print("ns a line: receipt_core, plain Rust, plain Rust without the processor's digests, and the ratios to both;")
-    print("then the bytes that each held for a line, its text and its receipt")
+    print("then the bytes that each held for a line, its text and its receipt. The earlier program's figures stand last.")
     with tempfile.TemporaryDirectory() as folder:
         path = Path(folder) / "lines"
         for name, counts, make in CASES:

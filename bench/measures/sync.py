@@ -14,7 +14,7 @@ import threading
 import time
 from pathlib import Path
 
-from building import build_ours, build_peer, built_program, run, stop
+from building import build_peer, build_with_earlier, built_program, run, stop
 from receipts import KINDS, SIZES, write_config, write_receipts, write_snapshot
 
 HOST = "127.0.0.1"
@@ -56,6 +56,11 @@ def growth(now, before):
     return f"{now / before:.2f}" if before else ""
 
 
+def ours(programs):
+    """The places of our programs among all: today's stands before the peer, and the earlier one after it."""
+    return [0, *range(2, len(programs))]
+
+
 SNAPSHOT = "{:<7} {:>8} {:>6} | {:>7} {:>6} {:>7} {:>5} | {:>7} {:>6} {:>7} {:>6} {:>5} | {:>7} {:>7}"
 SESSION = "{:<7} {:>8} {:<9} | {:>8} {:>8} {:>8} | {:>8} {:>6} {:>8} {:>6} {:>5} | {:>9} {:>10} | {:>5}"
 
@@ -72,14 +77,16 @@ def print_snapshots(programs, folder, turns):
             path = write_receipts(folder, kind, count)
             found = measure(programs, ["snapshot"], path, turns, 2)
             wrote, read = [[best.times[at] / count for best in found] for at in (0, 1)]
-            before = before or [None] * 3
-            print(SNAPSHOT.format(
-                kind, count, found[0].same[0] // count,
-                f"{wrote[0]:.0f}", growth(wrote[0], before[0]), f"{wrote[1]:.0f}", f"{wrote[0] / wrote[1]:.2f}",
-                f"{read[0]:.0f}", growth(read[0], before[1]), f"{read[1]:.0f}", growth(read[1], before[2]),
-                f"{read[0] / read[1]:.2f}", *(f"{best.held / count:.0f}" for best in found),
-            ), flush=True)
-            before = [wrote[0], read[0], read[1]]
+            before = before or ([None] * len(found), [None] * len(found))
+            for at in ours(programs):
+                print(SNAPSHOT.format(
+                    "before" if at else kind, count, found[at].same[0] // count,
+                    f"{wrote[at]:.0f}", growth(wrote[at], before[0][at]), f"{wrote[1]:.0f}",
+                    f"{wrote[at] / wrote[1]:.2f}",
+                    f"{read[at]:.0f}", growth(read[at], before[1][at]), f"{read[1]:.0f}", growth(read[1], before[1][1]),
+                    f"{read[at] / read[1]:.2f}", *(f"{found[of].held / count:.0f}" for of in (at, 1)),
+                ), flush=True)
+            before = wrote, read
 
 
 def cases_of(count):
@@ -99,17 +106,18 @@ def print_sessions(programs, folder, turns):
         before = {}
         for count in SIZES[kind]:
             path = write_receipts(folder, kind, count)
-            ids = measure(programs[1:], ["ids"], path, turns, 1)[0].times[0]
+            ids = measure(programs[1:2], ["ids"], path, turns, 1)[0].times[0]
             for name, held in cases_of(count):
                 found = measure(programs, ["session", held], path, turns, 3)
                 whole = [best.times[1] + best.times[2] for best in found]
-                last = before.get(name, [None] * 2)
-                grown = [growth(now / 4, old) for now, old in zip(whole, last)] if last[0] else ["", ""]
-                print(SESSION.format(
-                    kind, count, name, *(f"{took / 1e3:.0f}" for took in found[0].times),
-                    f"{whole[0] / 1e3:.0f}", grown[0], f"{whole[1] / 1e3:.0f}", grown[1],
-                    f"{whole[0] / whole[1]:.2f}", found[0].same[1], found[0].same[2], f"{whole[0] / ids:.1f}",
-                ), flush=True)
+                last = before.get(name)
+                grown = [growth(now / 4, old) for now, old in zip(whole, last)] if last else [""] * len(found)
+                for at in ours(programs):
+                    print(SESSION.format(
+                        "before" if at else kind, count, name, *(f"{took / 1e3:.0f}" for took in found[at].times),
+                        f"{whole[at] / 1e3:.0f}", grown[at], f"{whole[1] / 1e3:.0f}", grown[1],
+                        f"{whole[at] / whole[1]:.2f}", found[at].same[1], found[at].same[2], f"{whole[at] / ids:.1f}",
+                    ), flush=True)
                 before[name] = whole
 
 
@@ -318,7 +326,8 @@ def main(words):
     print(f"Least times of {turns} runs of each program, in turns.\n")
     with tempfile.TemporaryDirectory(dir=os.environ.get("TMPDIR")) as folder:
         if "memory" in parts:
-            programs = [build_ours("sync", "replica_sync", "trust_closure"), peer]
+            own, earlier = build_with_earlier("sync", "replica_sync", "trust_closure")
+            programs = [own, peer, *earlier]
             print_snapshots(programs, Path(folder), turns)
             print_sessions(programs, Path(folder), turns)
         if "loopback" in parts:
