@@ -81,6 +81,12 @@ def build_with_earlier(name, *crates):
     return own, [] if earlier is None else [build_ours(name, *crates, top=Path(earlier).resolve())]
 
 
+def own_rows(programs):
+    """The places of our programs among all, and the word before their rows: today's stands first, the peer second, and the
+    program of an earlier commit third, where there is one."""
+    return [(0, ""), (2, "before")][: len(programs) - 1]
+
+
 def below(lines, crates):
     """The crates and those of the repository that they stand on, each once."""
     found = list(crates)

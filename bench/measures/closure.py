@@ -11,7 +11,7 @@ import statistics
 import tempfile
 from pathlib import Path
 
-from building import build_peer, build_with_earlier, run, stop
+from building import build_peer, build_with_earlier, own_rows, run, stop
 
 SIZES = [4_096, 16_384, 65_536]
 DOUBLES = [16_384, 32_768, 65_536]
@@ -207,8 +207,6 @@ def measure(programs, turns, add):
     return found
 
 
-# Of which programs rows stand below one another, each beside plain Rust: ours, and the earlier one where there is one.
-ROWS = [(0, ""), (2, "before")]
 ROW = "{:<9} {:>8} | {:>6} {:>6} | {:>6} {:>6} {:>5} | {:>5} {:>5} | {:>5} {:>5} | {:>5} {:>5} {:>5} | {:>5} {:>5}"
 
 
@@ -231,7 +229,7 @@ def print_shape(programs, path, name, make, size, turns, last):
     found = measure(programs, turns, lambda runs, program: runs.add_with_memory(program, path))
     taken = [min(runs.taken) / count for runs in found]
     grown = [f"{now / before:.2f}" for now, before in zip(taken, last)] if last else [""] * len(found)
-    for at, word in ROWS[: len(found) - 1]:
+    for at, word in own_rows(programs):
         none, one, all_ = [
             [min(found[of].of(*places)) for of in (at, 1)]
             for places in ((0, LEAVES), (LEAVES, 2 * LEAVES), (2 * LEAVES, 2 * LEAVES + 1))
@@ -257,7 +255,7 @@ def print_many(title):
 
 def print_lines(last, what, shuffles, count, records, times):
     """A line of print_many for each program of ours, with the times of all programs."""
-    for at, word in ROWS[: len(times) - 1]:
+    for at, word in own_rows(times):
         print_line(last, (what, word, shuffles), count, records, times[at], times[1])
 
 

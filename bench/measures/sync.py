@@ -14,7 +14,7 @@ import threading
 import time
 from pathlib import Path
 
-from building import build_peer, build_with_earlier, built_program, run, stop
+from building import build_peer, build_with_earlier, built_program, own_rows, run, stop
 from receipts import KINDS, SIZES, write_config, write_receipts, write_snapshot
 
 HOST = "127.0.0.1"
@@ -56,11 +56,6 @@ def growth(now, before):
     return f"{now / before:.2f}" if before else ""
 
 
-def ours(programs):
-    """The places of our programs among all: today's stands before the peer, and the earlier one after it."""
-    return [0, *range(2, len(programs))]
-
-
 SNAPSHOT = "{:<7} {:>8} {:>6} | {:>7} {:>6} {:>7} {:>5} | {:>7} {:>6} {:>7} {:>6} {:>5} | {:>7} {:>7}"
 SESSION = "{:<7} {:>8} {:<9} | {:>8} {:>8} {:>8} | {:>8} {:>6} {:>8} {:>6} {:>5} | {:>9} {:>10} | {:>5}"
 
@@ -78,9 +73,9 @@ def print_snapshots(programs, folder, turns):
             found = measure(programs, ["snapshot"], path, turns, 2)
             wrote, read = [[best.times[at] / count for best in found] for at in (0, 1)]
             before = before or ([None] * len(found), [None] * len(found))
-            for at in ours(programs):
+            for at, word in own_rows(programs):
                 print(SNAPSHOT.format(
-                    "before" if at else kind, count, found[at].same[0] // count,
+                    word or kind, count, found[at].same[0] // count,
                     f"{wrote[at]:.0f}", growth(wrote[at], before[0][at]), f"{wrote[1]:.0f}",
                     f"{wrote[at] / wrote[1]:.2f}",
                     f"{read[at]:.0f}", growth(read[at], before[1][at]), f"{read[1]:.0f}", growth(read[1], before[1][1]),
@@ -112,9 +107,9 @@ def print_sessions(programs, folder, turns):
                 whole = [best.times[1] + best.times[2] for best in found]
                 last = before.get(name)
                 grown = [growth(now / 4, old) for now, old in zip(whole, last)] if last else [""] * len(found)
-                for at in ours(programs):
+                for at, word in own_rows(programs):
                     print(SESSION.format(
-                        "before" if at else kind, count, name, *(f"{took / 1e3:.0f}" for took in found[at].times),
+                        word or kind, count, name, *(f"{took / 1e3:.0f}" for took in found[at].times),
                         f"{whole[at] / 1e3:.0f}", grown[at], f"{whole[1] / 1e3:.0f}", grown[1],
                         f"{whole[at] / whole[1]:.2f}", found[at].same[1], found[at].same[2], f"{whole[at] / ids:.1f}",
                     ), flush=True)

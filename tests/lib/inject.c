@@ -13,7 +13,7 @@
  *                  before, after   the process is killed by SIGKILL before this call, or behind it
  *   REFUSE_ERROR   the number of the error that a refused call of the system sets; memory always sets ENOMEM
  *   REFUSE_SECONDS after so many seconds SIGALRM ends the process
- *   REFUSE_TOLD    a file of at least sizeof(struct told) bytes, in which the library tells what it saw, also where the
+ *   REFUSE_TOLD    a file of at least sizeof(struct told) bytes, into which the library writes what it saw, also where the
  *                  process is killed
  *
  * `calls` has the program say itself what is refused, by names that it looks up in the environment:
@@ -49,7 +49,7 @@ static const char *const NAMES[] = {"alloc", "open",  "read",   "write",  "sync"
 enum how { ONCE, LASTING, PIECE, PIECES, NOTHING, BEFORE, AFTER };
 static const char *const HOWS[] = {"once", "lasting", "piece", "pieces", "nothing", "before", "after"};
 
-/* What is told: how often each kind was called, `system` last; whether the call that is meant came; of that call its
+/* The report: how often each kind was called, `system` last; whether the call that is meant came; of that call its
  * descriptor, -1 where it has none, and its name; and the names of the first calls of the system, in order, each
  * followed by a space. `harness.py` reads it. */
 struct told {
@@ -112,7 +112,7 @@ static void add_to_order(const char *name) {
     length += more;
 }
 
-/* Counts a call, and tells what is to be done with it. */
+/* Counts a call, and returns what is to be done with it. */
 static enum answer judge(enum kind of, const char *name, int descriptor) {
     uint64_t nth = __atomic_add_fetch(&told->calls[of], 1, __ATOMIC_SEQ_CST);
     uint64_t mth = of == ALLOC ? 0 : __atomic_add_fetch(&told->calls[SYSTEM], 1, __ATOMIC_SEQ_CST);
