@@ -13,6 +13,7 @@ mod RepresentFacts
 mod EdgeFacts
 mod LabelOrderFacts
 mod ClosedLabelFacts
+mod ChainFacts
 -- The closure over an index
 mod VouchingFacts
 mod ReachedFacts

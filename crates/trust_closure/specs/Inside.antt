@@ -6,6 +6,7 @@ pub mod NodeCounts
 pub mod Pairs
 pub mod Merge
 pub mod NodeSpecs
+pub mod Chains
 pub mod Labels
 pub mod NetOf
 pub mod Indexed

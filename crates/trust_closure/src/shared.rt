@@ -5,5 +5,6 @@ mod document_counts;
 pub(crate) mod held;
 pub(crate) mod pairs;
 mod probes;
+mod receipt_hint;
 pub(crate) mod records;
 pub(crate) mod union;

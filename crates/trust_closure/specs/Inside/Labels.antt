@@ -1,7 +1,7 @@
 -- Labels in order, and what a caller sees of a net of them
 use Rattle.std.specs.Prelude.{◌≡◌, ◌↔◌, ◌⊎◌, ℕ, ◌+◌, ◌-◌, ◌*◌, ◌<◌, ◌≤◌, List, [], ◌∷◌, ◌++◌, Bool}
 use Rattle.std.specs.Prelude.{true, false, length, min, take, All, AllPairs, Contains, slice_get}
-use Rattle.std.specs.Prelude.{slice_index_or, Some}
+use Rattle.std.specs.Prelude.{slice_index_or, Some, vec_capacity}
 use Rattle.std.specs.declared.cmp.Ordering.{Ordering}
 use Rattle.std.specs.declared.cmp.Ordering.TheVariants.{Less}
 use Rattle.std.specs.Ordering.{nat_cmp, ordering_then}
@@ -13,22 +13,27 @@ use Rattle.wait_index.specs.Net.{Net, is_closed, ListsReached, with_node, with_l
 use Rattle.wait_index.specs.Net.{with_wait, with_root, has_wait, visits_of, edges_at, ClosesIn}
 use Rattle.wait_index.specs.Net.{HasReachOf, TellsFallen}
 use Rattle.trust_closure.specs.declared.indexed.labels.label.Label.{Label}
+use Rattle.trust_closure.specs.declared.indexed.labels.key_chains.KeyChains.{KeyChains}
+use Rattle.trust_closure.specs.Inside.Chains.{AreChained}
 
--- labels are ordered by domain number, key id and document id, so those of a key stand together
+-- labels are ordered by domain number, document id and key id, so those of a document stand
+-- together
 abbrev pub label_cmp : Label → Label → Ordering
 label_cmp a b =
     ordering_then (nat_cmp a.domain b.domain)
-    (ordering_then (slice_cmp nat_cmp a.key.0 b.key.0)
-    (slice_cmp nat_cmp a.document.0 b.document.0))
-
--- how a label stands to those of a key in a domain
-abbrev pub cmp_to_key : ℕ → KeyId → Label → Ordering
-cmp_to_key domain key label =
-    ordering_then (nat_cmp label.domain domain) (slice_cmp nat_cmp label.key.0 key.0)
+    (ordering_then (slice_cmp nat_cmp a.document.0 b.document.0)
+    (slice_cmp nat_cmp a.key.0 b.key.0))
 
 -- each stands before those after it
 abbrev pub IsInOrder : List Label → Type 0
 IsInOrder labels = AllPairs (λ a b. label_cmp a b ≡ Less) labels
+
+-- Labels are found in their order, and those of a key by its chain. Where there is room for a
+-- label, there are buckets.
+pub record IsLabelTable (stock : ArenaView Label) (chains : KeyChains) : Type 0 where
+  pub rising : IsInOrder (in_order stock)
+  pub chained : AreChained stock.items chains.newest.items chains.earlier.items
+  pub begun : 0 < vec_capacity chains.earlier → 0 < length chains.newest.items
 
 -- what each label stands for, the net, the marked nodes, what the last close did, and for how many
 -- nodes, and for how many edges with new labels, there is room
@@ -56,10 +61,9 @@ label_view_of stock index listed = record {
   edges = labelled_edges_room stock index listed;
 }
 
--- Labels are found in their order, the net has one label for each, the marked nodes are the reached
--- ones, and each label has room in the list of those to be closed.
+-- The net has one label for each, the marked nodes are the reached ones, and each label has room in
+-- the list of those to be closed.
 pub record IsLabelIndex (stock : ArenaView Label) (index : Index) (listed : ℕ) : Type 0 where
-  pub rising : IsInOrder (in_order stock)
   pub sizes : length index.net.closed ≡ length stock.items
   pub reached : ListsReached index.net index.marked
   pub closing : length stock.items ≤ listed

@@ -5,9 +5,10 @@
 //! nodes are to be (`Represents`): one node for each, and just the edges that its offers and its
 //! need ask for. The lemma of each call is in `proofs/RepresentFacts`; `proofs/EdgeFacts` goes
 //! between edges and nodes.
+mod key_chains;
 mod label;
-mod label_guesses;
 mod label_index;
+mod label_table;
 
 pub(crate) use label::{Label, LabelTest};
 pub(crate) use label_index::LabelIndex;

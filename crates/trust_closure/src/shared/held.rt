@@ -14,6 +14,7 @@ ghost use Rattle.receipt_core.specs.Limits.{receipt_limit, record_limit};
 
 use crate::indexed::labels::{Label, LabelTest};
 use crate::shared::probes::{InBucket, OfReceipt, PlaceInBuckets};
+use crate::shared::receipt_hint::receipt_hint;
 use crate::shared::records::{Insertion, Records};
 use closure_core::{
     Distrusts, MOST_RECEIPTS, NoMemory, Receipts, Record, TakeError, check_fit, record_of,
@@ -103,7 +104,8 @@ impl Held {
         if let Err(why) = check_fit(&self.config, receipt) {
             return Err(why);
         }
-        match self.receipts.find_by_guess(&OfReceipt::new(receipt)) {
+        let sought = OfReceipt::new(self.receipts.items(), receipt);
+        match self.receipts.find_by_guess(&sought) {
             Ok(_) => Ok(Lookup::Present),
             Err(_) if self.receipts.len() >= MOST_RECEIPTS => Err(TakeError::Full),
             Err(place) => Ok(Lookup::Absent(place)),
@@ -158,15 +160,16 @@ impl Held {
           held = with_receipt receipt self.old.held;
         } }
     {
+        let hint = receipt_hint(self.receipts.items(), &receipt);
         match &mut self.buckets {
             Some(buckets) => {
                 let receipt = receipt.keep_id();
                 let spot = buckets.before(&PlaceInBuckets::new(self.receipts.items(), &receipt));
-                let number = self.receipts.insert(place, receipt);
+                let number = self.receipts.insert_with_hint(place, receipt, hint);
                 buckets.insert(spot, number);
             }
             None => {
-                self.receipts.insert(place, receipt);
+                self.receipts.insert_with_hint(place, receipt, hint);
             }
         }
     }
@@ -193,7 +196,7 @@ impl Held {
         ensures { IsTrue result ↔ Contains self.now.held receipt.now }
     {
         let _form = receipt.domain();
-        let sought = OfReceipt::new(receipt);
+        let sought = OfReceipt::new(self.receipts.items(), receipt);
         self.receipts.find_by_guess(&sought).is_ok()
     }
 

@@ -33,19 +33,19 @@ pub(crate) struct Pairs {
     counts: Vec<u32>,
 }
 
-/// What tells where a document stands, but for its text: the number of its domain, of which a
-/// configuration has at most 1,024, above its rank, where an absent one is 0 and every other one
+/// By what documents are ordered, but for their texts: the number of the domain, of which a
+/// configuration has at most 1,024, above the rank, where an absent one is 0 and every other one
 /// more.
 fn hint_of(domain: u32, document: &Document) -> u64 {
     let rank = document.rank().map_or(0, |rank| rank.saturating_add(1));
-    (u64::from(domain).min(1023) << 54) | front_of(rank)
+    (u64::from(domain).min(1023) << 54) | short_rank(rank)
 }
 
 /// Ranks below this one have 53 bits.
 const LONG_RANK: u64 = 1 << 53;
 
 /// The rank in 54 bits, which keep the order of ranks. Of a long one the last eleven are left out.
-fn front_of(rank: u64) -> u64 {
+fn short_rank(rank: u64) -> u64 {
     if rank < LONG_RANK {
         rank
     } else {

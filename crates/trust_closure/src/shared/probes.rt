@@ -1,6 +1,7 @@
 //! What is sought among receipts.
 ghost use Rattle.std.specs.Prelude.{◌≡◌};
 
+use crate::shared::receipt_hint::receipt_hint;
 use receipt_core::Receipt;
 use sorted_order::{Agreed, ItemGuess, ItemProbe, Probe, guess_text};
 use std::cmp::Ordering;
@@ -9,6 +10,7 @@ use std::cmp::Ordering;
 #[derive(Drop)]
 pub(crate) struct OfReceipt<'a> {
     receipt: &'a Receipt,
+    hint: u64,
 }
 
 /// The place of a receipt among numbers of receipts in the order of buckets.
@@ -26,10 +28,14 @@ pub(crate) struct InBucket<'a> {
 }
 
 impl<'a> OfReceipt<'a> {
-    pub(crate) fn new(receipt: &'a Receipt) -> Self
+    /// Seeks the receipt among those that are held, whose hints are [`receipt_hint`]'s.
+    pub(crate) fn new(held: &[Receipt], receipt: &'a Receipt) -> Self
         ensures { result.receipt.now ≡ receipt.now }
     {
-        OfReceipt { receipt }
+        OfReceipt {
+            receipt,
+            hint: receipt_hint(held, receipt),
+        }
     }
 }
 
@@ -62,9 +68,8 @@ impl<'a> ItemProbe<Receipt> for OfReceipt<'a> {
 }
 
 impl<'a> ItemGuess<Receipt> for OfReceipt<'a> {
-    // Receipts are inserted without hints.
     fn hint(&self) -> u64 {
-        0
+        self.hint
     }
 
     // By the texts of the documents. Receipts of one document are compared whole.

@@ -1,16 +1,13 @@
 //! A net whose labels are found by what they stand for.
 ghost use Rattle.std.specs.Prelude.{◌≡◌, ◌+◌, ◌-◌, ◌^◌, ◌<◌, ◌≤◌, false, [], length, vec_capacity};
-ghost use Rattle.std.specs.Prelude.{IsOk, OnOk, IfSome, Some, slice_get};
-ghost use Rattle.sorted_order.specs.ArenaView.{in_order};
+ghost use Rattle.std.specs.Prelude.{IsOk, OnOk};
 ghost use Rattle.wait_index.specs.Net.{ListsReached, has_wait, with_label};
-ghost use Rattle.trust_closure.specs.Inside.Labels.{IsInOrder, HasNumber, AreNumbersOf};
+ghost use Rattle.trust_closure.specs.Inside.Labels.{HasNumber, AreNumbersOf};
 
-use crate::indexed::labels::label::{Label, LabelTest, SoughtKey, SoughtLabel};
-use crate::indexed::labels::label_guesses::LabelGuesses;
+use crate::indexed::labels::label::{Label, LabelTest};
+use crate::indexed::labels::label_table::LabelTable;
 use jwk_set::KeyId;
-use sorted_order::{Arena, ItemGuess, ItemProbe, Numbers};
 use std::alloc::{AllocError, Global};
-use std::cmp::Ordering;
 use std::marker::Model;
 use wait_index::{LabelNo, NodeNo, Reach};
 
@@ -18,14 +15,11 @@ use wait_index::{LabelNo, NodeNo, Reach};
 /// stand for.
 #[derive(Drop)]
 pub(crate) struct LabelIndex {
-    labels: Arena<Label>,
+    labels: LabelTable,
     reach: Reach,
 
     /// The labels that a close closes. There is room for each label, so a close takes no memory.
     closing: Vec<LabelNo>,
-
-    /// Guesses of the labels' numbers, of which no clause speaks.
-    guesses: LabelGuesses,
 }
 
 impl Model for LabelIndex {
@@ -57,10 +51,9 @@ impl LabelIndex {
         } }
     {
         LabelIndex {
-            labels: Arena::new(alloc),
+            labels: LabelTable::new(alloc),
             reach: Reach::new(alloc),
             closing: Vec::new(alloc),
-            guesses: LabelGuesses::new(alloc),
         }
     }
 
@@ -79,7 +72,8 @@ impl LabelIndex {
         if nodes <= spare_nodes && edges <= spare_edges {
             return Ok(());
         }
-        self.guesses.try_reserve(self.labels.items(), edges)?;
+        // That the labels are fewer than 2 to the power of 32 stands on this call.
+        let _count = self.reach.label_count();
         self.labels.try_reserve(edges)?;
         reserve_list(&mut self.closing, self.labels.len(), edges)?;
         self.reach.try_reserve(nodes, edges, edges)?;
@@ -112,8 +106,7 @@ impl LabelIndex {
         ensures offers { Offers self.old node label closed self.new }
         ensures reached { ListsReached self.new.net self.new.marked }
     {
-        let (labels, reach) = (&mut self.labels, &mut self.reach);
-        let number = guessed_or_found(labels, reach, &mut self.guesses, label, closed);
+        let number = number_of(&mut self.labels, &mut self.reach, label, closed);
         self.reach.add_offer(node, number);
     }
 
@@ -127,8 +120,7 @@ impl LabelIndex {
         ensures awaits { Awaits self.old node label closed self.new }
         ensures reached { ListsReached self.new.net self.new.marked }
     {
-        let (labels, reach) = (&mut self.labels, &mut self.reach);
-        let number = guessed_or_found(labels, reach, &mut self.guesses, label, closed);
+        let number = newest_or_number_of(&mut self.labels, &mut self.reach, label, closed);
         self.reach.add_wait(number, node);
     }
 
@@ -138,9 +130,7 @@ impl LabelIndex {
         ensures closes { Closes self.old (IsOfKey domain key) self.new result }
         ensures reached { ListsReached self.new.net self.new.marked }
     {
-        // They are one run of the order, so that no label is walked over that is not closed.
-        let numbers = self.labels.numbers_matching(&SoughtKey { domain, key });
-        list_numbers(&mut self.closing, numbers);
+        self.labels.list_key(&mut self.closing, domain, &key);
         self.reach.close_labels(&self.closing)
     }
 
@@ -179,22 +169,20 @@ impl LabelIndex {
     }
 }
 
-/// The same as [`number_of`], by a guess where that holds.
-fn guessed_or_found(
-    labels: &mut Arena<Label>,
+/// The same as [`number_of`]. In a chain of bundles what is awaited is the newest label of its key,
+/// so it looks at that first.
+fn newest_or_number_of(
+    labels: &mut LabelTable,
     reach: &mut Reach,
-    guesses: &mut LabelGuesses,
     label: Label,
     closed: bool,
 ) -> LabelNo
-    requires rising { IsInOrder (in_order labels.old) }
     requires sizes { length reach.old.net.closed ≡ length labels.old.items }
     requires reached { ListsReached reach.old.net reach.old.marked }
     requires items { length labels.old.items < labels.old.capacity }
     requires room { 0 < reach.old.room.labels }
     ensures number { HasNumber labels.old.items reach.old.net label closed labels.new.items
         reach.new.net result }
-    ensures rising { IsInOrder (in_order labels.new) }
     ensures sizes { length reach.new.net.closed ≡ length labels.new.items }
     ensures reached { ListsReached reach.new.net reach.new.marked }
     ensures marked { reach.new.marked ≡ reach.old.marked }
@@ -205,38 +193,20 @@ fn guessed_or_found(
     ensures labels { reach.old.room.labels - (length labels.new.items - length labels.old.items)
         ≡ reach.new.room.labels }
 {
-    match guessed(labels.items(), guesses, &SoughtLabel { label }) {
+    match labels.find_newest(label) {
         Some(number) => LabelNo::new(number),
-        None => {
-            let number = number_of(labels, reach, label, closed);
-            guesses.keep(&label, number.index());
-            number
-        }
-    }
-}
-
-/// The number of the label, if the guess holds.
-fn guessed(labels: &[Label], guesses: &LabelGuesses, sought: &SoughtLabel) -> Option<u32>
-    ensures { IfSome result (λ number. slice_get labels.now number ≡ Some sought.now.label) }
-{
-    let number = guesses.number_of(&sought.label)?;
-    let found = labels.get(number as usize)?;
-    match sought.compare(found) {
-        Ordering::Equal => Some(number),
-        _ => None,
+        None => number_of(labels, reach, label, closed),
     }
 }
 
 /// The number of the label, which is added where it is new, closed or not. There is room for it.
-fn number_of(labels: &mut Arena<Label>, reach: &mut Reach, label: Label, closed: bool) -> LabelNo
-    requires rising { IsInOrder (in_order labels.old) }
+fn number_of(labels: &mut LabelTable, reach: &mut Reach, label: Label, closed: bool) -> LabelNo
     requires sizes { length reach.old.net.closed ≡ length labels.old.items }
     requires reached { ListsReached reach.old.net reach.old.marked }
     requires items { length labels.old.items < labels.old.capacity }
     requires room { 0 < reach.old.room.labels }
     ensures number { HasNumber labels.old.items reach.old.net label closed labels.new.items
         reach.new.net result }
-    ensures rising { IsInOrder (in_order labels.new) }
     ensures sizes { length reach.new.net.closed ≡ length labels.new.items }
     ensures reached { ListsReached reach.new.net reach.new.marked }
     ensures marked { reach.new.marked ≡ reach.old.marked }
@@ -247,13 +217,15 @@ fn number_of(labels: &mut Arena<Label>, reach: &mut Reach, label: Label, closed:
     ensures labels { reach.old.room.labels - (length labels.new.items - length labels.old.items)
         ≡ reach.new.room.labels }
 {
-    let _count = labels.len();
-    let sought = SoughtLabel { label };
-    match labels.find_by_guess(&sought) {
+    let _arranged = labels.len();
+    match labels.find(label) {
         Ok(number) => LabelNo::new(number),
         Err(place) => {
-            labels.insert_with_hint(place, label, sought.hint());
-            add_label(reach, closed)
+            let number = add_label(reach, closed);
+            // That the labels are fewer than 2 to the power of 32 stands on this call.
+            let _count = reach.label_count();
+            labels.insert(place, label);
+            number
         }
     }
 }
@@ -283,18 +255,6 @@ fn reserve_list(list: &mut Vec<LabelNo>, labels: usize, more: usize) -> Result<(
 {
     list.clear();
     list.try_reserve(labels.saturating_add(more))
-}
-
-/// Lists the numbers, in place of what the list had. There is room for each of them.
-fn list_numbers(list: &mut Vec<LabelNo>, numbers: Numbers<'_>)
-    requires { length numbers ≤ vec_capacity list.old }
-    ensures numbers { list.new.items ≡ numbers.entry }
-    ensures room { vec_capacity list.new ≡ vec_capacity list.old }
-{
-    list.clear();
-    for number in numbers {
-        list.push_reserved(LabelNo::new(number));
-    }
 }
 
 /// Lists the numbers of the labels that are meant, in place of what the list had. There is room for

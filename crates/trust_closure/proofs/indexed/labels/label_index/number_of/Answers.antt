@@ -1,27 +1,11 @@
--- A label is found where it is, and comes into its place where it is missing.
-use Rattle.std.proofs.Common.{length, Some, inl, inr, arith, refl, sym, ap, ◌∙◌, subst}
+-- A label is found where it is, and is added where it is missing.
+use Rattle.std.proofs.Common.{length, Some, inl, inr, refl, ap, ◌∙◌}
 use Rattle.std.specs.Prelude.{slice_get}
 use Rattle.std.proofs.lemmas.Option.{slice_get-get_or}
-use Rattle.sorted_order.specs.ArenaView.{in_order}
-use Rattle.sorted_order.proofs.PickedFacts.{length-picked}
 use Rattle.trust_closure.specs.declared.indexed.labels.label.Label.{Label}
-use Rattle.trust_closure.specs.Inside.Labels.{IsInOrder}
-use Rattle.trust_closure.proofs.LabelOrderFacts.{label-exact, rising-from_in_order, in_order-insert, missing-not_contained}
+use Rattle.trust_closure.proofs.LabelOrderFacts.{label-exact, missing-not_contained}
 use Rattle.trust_closure.proofs.RepresentFacts.{slice_get-push}
 use Rattle.trust_closure.proofs.indexed.labels.label_index.number_of.Goals as goal
-
-pub find_by_guess-requires : goal.find_by_guess-requires
-find_by_guess-requires c = rising-from_in_order (in_order c.args.labels.now) c.args.label c.requires.rising
-
-pub insert_with_hint-requires-clause-place : goal.insert_with_hint-requires-clause-place
-insert_with_hint-requires-clause-place c =
-    omega (
-      arith,
-      c.in-Err.ensures.within,
-      length-picked c.args.labels.now.items c.args.labels.now.order
-          c.len-count.ensures.arranged.within,
-      c.len-count.ensures.arranged.counted,
-    )
 
 pub returns-in-Ok-clause-number : goal.returns-in-Ok-clause-number
 returns-in-Ok-clause-number c = record {
@@ -33,18 +17,13 @@ returns-in-Ok-clause-number c = record {
 
 pub returns-in-Err-clause-number : goal.returns-in-Err-clause-number
 returns-in-Err-clause-number c = record {
-  named = ap (λ n. slice_get c.insert_with_hint.new.self.items n) (c.add_label.ensures.number ∙ c.requires.sizes)
-      ∙ ap (λ xs. slice_get xs (length c.args.labels.now.items)) c.insert_with_hint.ensures.items
+  named = ap (λ n. slice_get c.insert.new.self.items n) (c.add_label-number.ensures.number ∙ c.requires.sizes)
+      ∙ ap (λ xs. slice_get xs (length c.args.labels.now.items)) c.insert.ensures.items
       ∙ slice_get-push c.args.labels.now.items c.args.label;
   grown = inr (
-    missing-not_contained c.args.labels.now c.in-Err.place c.args.label c.len-count.ensures.arranged
-        c.in-Err.ensures,
-    c.insert_with_hint.ensures.items,
-    c.add_label.ensures.net,
+    missing-not_contained c.args.labels.now c.in-Err.place c.args.label
+        c.len-arranged.ensures.arranged c.in-Err.ensures,
+    c.insert.ensures.items,
+    c.add_label-number.ensures.net,
   );
 }
-
-pub returns-in-Err-clause-rising : goal.returns-in-Err-clause-rising
-returns-in-Err-clause-rising c =
-    subst IsInOrder (sym c.insert_with_hint.ensures.in_order)
-    (in_order-insert (in_order c.args.labels.now) c.in-Err.place c.args.label c.requires.rising c.in-Err.ensures)

@@ -19,14 +19,14 @@ Fits h r = IsFitting h.config r
 
 pub find_by_guess-requires : goal.find_by_guess-requires
 find_by_guess-requires c = record {
-  rising = subst (λ (r : Receipt). IsNonDecreasingBy (λ s. ordering_index (receipt_cmp s r)) (in_order c.self.inside.receipts)) (sym c.new.ensures)
+  rising = subst (λ (r : Receipt). IsNonDecreasingBy (λ s. ordering_index (receipt_cmp s r)) (in_order c.self.inside.receipts)) (sym c.new-sought.ensures)
       (sought receipt_total (in_order c.self.inside.receipts) c.args.receipt.now c.self.invariant.rising);
 }
 
 pub returns-in-Ok : goal.returns-in-Ok
 returns-in-Ok c =
     let found : IsNumber (λ s. receipt_cmp s c.args.receipt.now) c.self.inside.receipts c.in-Ok.field-0 =
-    subst (λ (r : Receipt). IsNumber (λ s. receipt_cmp s r) c.self.inside.receipts c.in-Ok.field-0) c.new.ensures c.in-Ok.ensures in
+    subst (λ (r : Receipt). IsNumber (λ s. receipt_cmp s r) c.self.inside.receipts c.in-Ok.field-0) c.new-sought.ensures c.in-Ok.ensures in
     subst (λ (h : HeldReceipts). Contains h.held c.args.receipt.now) c.self.view_is
     (found_held c.self.inside.receipts c.args.receipt.now c.in-Ok.field-0 c.self.invariant.receipts
     c.check_fit.ensures.form found)
@@ -46,7 +46,7 @@ pub returns-in-Err-find_by_guess : goal.returns-in-Err-find_by_guess
 returns-in-Err-find_by_guess c =
     let missing : IsMissing (λ s. receipt_cmp s c.args.receipt.now) (in_order c.self.inside.receipts) c.in-Err-find_by_guess.field-0 =
     subst (λ (r : Receipt). IsMissing (λ s. receipt_cmp s r) (in_order c.self.inside.receipts) c.in-Err-find_by_guess.field-0)
-    c.new.ensures c.in-Err-find_by_guess.ensures in
+    c.new-sought.ensures c.in-Err-find_by_guess.ensures in
     let size : length (in_order c.self.inside.receipts) ≡ length c.self.inside.receipts.items =
     length_in_order c.self.inside.receipts c.self.invariant.arranged in
     let full : 65536 ≤ length (in_order c.self.inside.receipts) = omega arith in
@@ -61,7 +61,7 @@ pub returns-in-Err-2 : goal.returns-in-Err-2
 returns-in-Err-2 c =
     let missing : IsMissing (λ s. receipt_cmp s c.args.receipt.now) (in_order c.self.inside.receipts) c.in-Err-find_by_guess.field-0 =
     subst (λ (r : Receipt). IsMissing (λ s. receipt_cmp s r) (in_order c.self.inside.receipts) c.in-Err-find_by_guess.field-0)
-    c.new.ensures c.in-Err-find_by_guess.ensures in
+    c.new-sought.ensures c.in-Err-find_by_guess.ensures in
     let size : length (in_order c.self.inside.receipts) ≡ length c.self.inside.receipts.items =
     length_in_order c.self.inside.receipts c.self.invariant.arranged in
     let few : length (in_order c.self.inside.receipts) < 65536 = omega arith in

@@ -10,7 +10,6 @@ use Rattle.trust_closure.proofs.indexed.labels.label_index.LabelIndex.close_wher
 
 pub invariant_of-self : goal.invariant_of-self
 invariant_of-self g c = record {
-  rising = c.self.invariant.rising;
   sizes = ap (λ (net : Net). length net.closed) c.close_labels.ensures.net
       ∙ length-all_set c.as_slice-meant.result.now c.self.inside.reach.net.closed
       ∙ c.self.invariant.sizes;
