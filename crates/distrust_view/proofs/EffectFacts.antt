@@ -62,12 +62,12 @@ pub adds_all : (change : DistrustChange) (domain : List ℕ) (before after : Opt
     → AreFallen change.old change.new domain fallen → IsCurrent change.old domain before → IsCurrent change.new domain after
     → is_concerned change.given domain before after ≡ true → out ≡ old ++ flat_map (fall_line domain) fallen
     → new ≡ out ++ current_text change.new.records (effect_of domain before after fallen) → AddsEffect change domain old new
-adds_all change domain before after fallen old out new are was is told first now = record {
+adds_all change domain before after fallen old out new are was is concerned first now = record {
   effect = effect_of domain before after fallen;
   domain_is = refl;
   is = record { before = was; after = is; fallen = are };
   now = now ∙ ap (λ t. t ++ current_text change.new.records (effect_of domain before after fallen)) first
       ∙ append_assoc old (flat_map (fall_line domain) fallen) (current_text change.new.records (effect_of domain before after fallen))
       ∙ ap (λ b. old ++ (flat_map (fall_line domain) fallen ++ cond b (current_text change.new.records (effect_of domain before after fallen)) []))
-      (sym told);
+      (sym concerned);
 }
