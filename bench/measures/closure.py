@@ -1,7 +1,7 @@
 """Measures `trust_closure` beside plain Rust that gives the same answers, both built here, run in turn.
 
 words: [TURNS [PART..]]    TURNS is how often each program takes each set; 5 if left out
-                           PART is one of: takes double merges singly whole; all but the last if left out
+                           PART is one of: takes double merges singly alike whole; all but the last if left out
 """
 import base64
 import hashlib
@@ -50,13 +50,20 @@ def document(sequence, *certificates):
 
 def receipt(text, voucher, certificate):
     """The line of a document's receipt, under a key of another document."""
-    key = hashlib.sha256(certificate).hexdigest()
+    return receipt_under(text, voucher, hashlib.sha256(certificate).hexdigest())
+
+
+def receipt_under(text, voucher, key):
     voucher = hashlib.sha256(f"{DOMAIN}\n{voucher}".encode()).hexdigest()
     return f'{{"doc":{text},"domain":"{DOMAIN}","endpoint":"{ENDPOINT}","key":"{key}","voucher":"{voucher}"}}'
 
 
 def record(certificate):
-    return f'{{"distrust":"{hashlib.sha256(certificate).hexdigest()}","domain":"{DOMAIN}"}}'
+    return record_of(hashlib.sha256(certificate).hexdigest())
+
+
+def record_of(key):
+    return f'{{"distrust":"{key}","domain":"{DOMAIN}"}}'
 
 
 # The configured document of takes, and one document under each of its rare keys, which nothing else is under.
@@ -128,8 +135,12 @@ def both_ways(last, sequences):
 
 def write(path, seed, receipts, certificates):
     """The configuration with its one document, the receipts, and a record of distrust for each certificate."""
+    write_with(path, seed, receipts, map(record, certificates))
+
+
+def write_with(path, seed, receipts, records):
     config = {"relationships": [RELATIONSHIP], "seeds": [{"bundle": json.loads(seed), "domain": DOMAIN}]}
-    path.write_text("".join(f"{line}\n" for line in [json.dumps(config), *receipts, *map(record, certificates)]))
+    path.write_text("".join(f"{line}\n" for line in [json.dumps(config), *receipts, *records]))
 
 
 def write_shape(path, make, count):
@@ -160,6 +171,15 @@ def write_fan(path, records, shuffles):
     if shuffles:
         random.Random(left).shuffle(receipts)
     write(path, seed, receipts, FAN[1 : records + 1])
+    return len(receipts)
+
+
+def write_alike(path, count, records):
+    """Receipts under keys that were made up, whose ids begin alike, and records of some of these keys. Nothing is accepted
+    by them."""
+    keys = ["0123456789abcdef" + hashlib.sha256(b"made up %d" % number).hexdigest()[16:] for number in range(count)]
+    receipts = [receipt_under(document(2 + number, COMMON), SEED, key) for number, key in enumerate(keys)]
+    write_with(path, SEED, receipts, [record_of(key) for key in keys[:: count // records][:records]])
     return len(receipts)
 
 
@@ -301,9 +321,19 @@ def print_singly(programs, path, turns, records):
         print_lines({}, "one after another", shuffles, count, records, [runs.sums() for runs in found])
 
 
+def print_alike(programs, path, turns, records):
+    print_many("Receipts under made-up keys whose ids begin alike, and records of some of these, each distrusted on its own.")
+    last = {}
+    for size in SIZES:
+        count = write_alike(path, size, records)
+        found = measure(programs, turns, lambda runs, program: runs.add(program, "take", path))
+        print_lines(last, "takes", False, count, 0, [runs.taken for runs in found])
+        print_lines(last, "one after another", False, count, records, [runs.sums() for runs in found])
+
+
 def main(words):
     turns = int(words[0]) if words else 5
-    parts = words[1:] or ["takes", "double", "merges", "singly"]
+    parts = words[1:] or ["takes", "double", "merges", "singly", "alike"]
     own, earlier = build_with_earlier("closure", "trust_closure")
     programs = [own, build_peer("closure"), *earlier]
     print(f"{turns} runs of each program, in turns.")
@@ -317,6 +347,8 @@ def main(words):
             print_merges(programs, path, turns)
         if "singly" in parts:
             print_singly(programs, path, turns, SAMPLE)
+        if "alike" in parts:
+            print_alike(programs, path, turns, SAMPLE)
         if "whole" in parts:
             print_singly(programs, path, turns, RECORDS[-1])
     print("\nAll programs gave the same answers on each set.")
