@@ -104,6 +104,22 @@ def shuffled(count):
     return lines
 
 
+def wide(count):
+    """As `shuffled`, with forty keys in each document: the common one, and one of 64 sets of others."""
+    random_ = random.Random(count)
+    sets = [[COMMON, *(random_.randbytes(16) for _ in range(39))] for _ in range(64)]
+    documents = [(SEED, [COMMON])]
+    lines = []
+    for sequence in range(2, count + 1):
+        keys = sets[sequence % 64]
+        text = document(sequence, *keys)
+        voucher, offered = random_.choice(documents)
+        lines.append(receipt(text, voucher, random_.choice(offered)))
+        documents.append((text, keys))
+    random_.shuffle(lines)
+    return lines
+
+
 def rings(count):
     """Rings of documents, each under the key of the one before it in its ring, and at last one way into each."""
     entries = []
@@ -115,12 +131,14 @@ def rings(count):
     yield from entries
 
 
+# Each shape with its sizes. Receipts of forty keys take some 17 KB each in memory.
 SHAPES = [
-    ("chain", forward),
-    ("reversed", reverse),
-    ("star", star),
-    ("shuffled", shuffled),
-    ("rings", rings),
+    ("chain", forward, SIZES),
+    ("reversed", reverse, SIZES),
+    ("star", star, SIZES),
+    ("shuffled", shuffled, SIZES),
+    ("rings", rings, SIZES),
+    ("wide", wide, SIZES[:2]),
 ]
 
 
@@ -238,9 +256,9 @@ def print_takes(programs, path, turns):
     print(ROW.format(*heads))
     heads = ["ns", "growth", "ns", "growth", "ratio", "us", "us", "us", "us", "ns", "ns", "ratio", "bytes", "bytes"]
     print(ROW.format("shape", "receipts", *heads), flush=True)
-    for name, make in SHAPES:
+    for name, make, sizes in SHAPES:
         last = None
-        for size in SIZES:
+        for size in sizes:
             last = print_shape(programs, path, name, make, size, turns, last)
 
 
