@@ -23,6 +23,14 @@ use Rattle.bundle_doc.proofs.EntryFacts.{canonical_text-parts}
 own_text : (t front rest : List ℕ) → t ≡ front ++ rest → take (length t - length rest) t ≡ front
 own_text t front rest e = rw e (take_at front rest (length (front ++ rest) - length rest) (omega (arith, length-append front rest)))
 
+-- an authority that was read is that of its own text alone
+pub ReadsAuthority-alone : (text rest own : List ℕ) (a : Authority) → ReadsAuthority text a rest
+    → own ≡ take (length text - length rest) text → ReadsAuthority own a []
+ReadsAuthority-alone text rest own a reads cut = record {
+  whole = cut ∙ own_text text (authority_text a) rest reads.whole ∙ sym (append-nil (authority_text a));
+  form = reads.form;
+}
+
 -- an authority that was read, with a text above the last one, is the next one
 pub ReadsNext-read : (text t b rest last : List ℕ) (later : Bool) (a : Authority) (o : Ordering) → b ≡ t
     → text ≡ comma_if later ++ t → ReadsAuthority t a rest

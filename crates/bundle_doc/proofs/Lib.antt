@@ -6,3 +6,4 @@ pub mod CanonicalAuthorityFacts
 pub mod CanonicalReaderFacts
 pub mod HexFacts
 mod StandardFacts
+mod HashedFacts

@@ -4,3 +4,4 @@ pub mod Refusal
 -- for private clauses
 pub mod Entries
 pub mod CanonicalReader
+pub mod Hashed

@@ -37,7 +37,7 @@ pub(crate) fn copies_of(
 {
     let mut copies = Vec::with_capacity(alloc, authorities.len())?;
     for authority in authorities {
-        copies.push(authority.try_clone(alloc)?)?;
+        copies.push(authority.try_clone()?)?;
     }
     Ok(copies)
 }

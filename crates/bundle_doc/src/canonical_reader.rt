@@ -9,8 +9,10 @@ ghost use Rattle.serde_json.specs.Written.{comma_if};
 ghost use Rattle.bundle_doc.specs.CanonicalReader.{ReadsBundle, ReadsKeys, ReadsNext, ReadsNumbers};
 ghost use Rattle.bundle_doc.specs.Entries.{FitsWord};
 
-use crate::canonical_authority::{GivesUp, after, read_authority};
+use crate::canonical_authority::{GivesUp, after};
 use crate::document_numbers::write_numbers;
+use crate::known_authorities::{KnownAuthority, read_known};
+use crate::text_places::Places;
 use jwk_set::Authority;
 use std::alloc::{AllocError, Global};
 use std::cmp::Ordering;
@@ -24,22 +26,30 @@ pub(crate) struct DocumentFields {
 }
 
 /// The parts of a canonical text, where it is one that this reader takes.
-pub(crate) fn read_parts(alloc: Global, text: &str) -> Result<Option<DocumentFields>, AllocError>
+pub(crate) fn read_parts(
+    alloc: Global,
+    text: &str,
+    known: &mut Places<KnownAuthority>,
+) -> Result<Option<DocumentFields>, AllocError>
     ensures { IfOk result (λ o. IfSome o
         (λ p. ReadsBundle text.now p.authorities.items p.hint p.rank)) }
 {
-    match read_bundle(alloc, text) {
+    match read_bundle(alloc, text, known) {
         Ok(parts) => Ok(Some(parts)),
         Err(GivesUp::Form) => Ok(None),
         Err(GivesUp::NoMemory) => Err(AllocError),
     }
 }
 
-fn read_bundle(alloc: Global, text: &str) -> Result<DocumentFields, GivesUp>
+fn read_bundle(
+    alloc: Global,
+    text: &str,
+    known: &mut Places<KnownAuthority>,
+) -> Result<DocumentFields, GivesUp>
     ensures { IfOk result (λ p. ReadsBundle text.now p.authorities.items p.hint p.rank) }
 {
     let keys = after(text, "{\"keys\":[")?;
-    let (authorities, rest) = read_keys(alloc, keys)?;
+    let (authorities, rest) = read_keys(alloc, keys, known)?;
     let (hint, rank) = read_numbers(alloc, rest)?;
     Ok(DocumentFields {
         authorities,
@@ -49,14 +59,24 @@ fn read_bundle(alloc: Global, text: &str) -> Result<DocumentFields, GivesUp>
 }
 
 /// The authorities up to the closing bracket, each above the one before it, and what follows.
-fn read_keys<'a>(alloc: Global, text: &'a str) -> Result<(Vec<Authority>, &'a str), GivesUp>
+fn read_keys<'a>(
+    alloc: Global,
+    text: &'a str,
+    known: &mut Places<KnownAuthority>,
+) -> Result<(Vec<Authority>, &'a str), GivesUp>
     ensures { IfOk result (λ r. ReadsKeys text.now r.0.items r.1.now) }
 {
     let mut authorities = Vec::new(alloc);
     let mut rest = text;
     let mut last = &text.as_bytes()[..0];
     while !rest.starts_with(']') {
-        let (authority, own, behind) = read_next(alloc, rest, !authorities.is_empty(), last)?;
+        let (authority, own, behind) = read_next(
+            alloc,
+            rest,
+            !authorities.is_empty(),
+            last,
+            known,
+        )?;
         authorities.push(authority)?;
         last = own;
         rest = behind;
@@ -70,11 +90,12 @@ fn read_next<'a>(
     text: &'a str,
     later: bool,
     last: &[u8],
+    known: &mut Places<KnownAuthority>,
 ) -> Result<(Authority, &'a [u8], &'a str), GivesUp>
     ensures { IfOk result (λ r. ReadsNext text.now later last.now r.0 r.1.now r.2.now) }
 {
     let text = past_comma(text, later)?;
-    let (authority, rest) = read_authority(alloc, text)?;
+    let (authority, rest) = read_known(alloc, text, known)?;
     let own = &text.as_bytes()[..text.len() - rest.len()];
     match last.cmp(own) {
         Ordering::Less => Ok((authority, own, rest)),

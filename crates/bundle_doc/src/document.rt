@@ -12,9 +12,10 @@ use crate::contents::Contents;
 use crate::document_numbers::{put_number, write_numbers};
 use crate::elements::write_elements;
 use crate::error::DocError;
+use crate::known_beginnings::{digest_known, digest_of};
+use crate::known_documents::KnownDocuments;
 use jwk_set::{Authority, KeyId};
 use serde_json::Value;
-use sha2::{Digest, Sha256};
 use spiffe_name::TrustDomain;
 use std::alloc::{AllocError, Global};
 use std::collections::BTreeMap;
@@ -107,11 +108,30 @@ impl Document {
     pub fn read_canonical(alloc: Global, bytes: &[u8]) -> Result<Option<Document>, AllocError>
         ensures { IfOk result (λ o. IfSome o (λ d. IsStoredDocument d bytes.now)) }
     {
-        let text = match str::from_utf8(bytes) {
-            Ok(text) if text.len() <= MAX_DOCUMENT_BYTES => text,
-            _ => return Ok(None),
-        };
-        let Some(mut parts) = read_parts(alloc, text)? else {
+        match str::from_utf8(bytes) {
+            Ok(text) => {
+                Document::read_canonical_with(alloc, text, &mut KnownDocuments::none(alloc))
+            }
+            Err(_) => Ok(None),
+        }
+    }
+
+    /// Reads a canonical text as [`Document::read_canonical`] does, where authorities are known:
+    /// one that came before is not read again, and the documents share it.
+    ///
+    /// # Errors
+    /// Memory ran out.
+    pub fn read_canonical_with(
+        alloc: Global,
+        text: &str,
+        known: &mut KnownDocuments,
+    ) -> Result<Option<Document>, AllocError>
+        ensures { IfOk result (λ o. IfSome o (λ d. IsStoredDocument d text.now)) }
+    {
+        if text.len() > MAX_DOCUMENT_BYTES {
+            return Ok(None);
+        }
+        let Some(mut parts) = read_parts(alloc, text, &mut known.authorities)? else {
             return Ok(None);
         };
         // Many documents are kept for long, and a list of two has room for four.
@@ -188,11 +208,24 @@ impl Document {
     pub fn id(&self, domain: &TrustDomain) -> DocId
         ensures { result.0 ≡ doc_id_of domain.now self.now }
     {
-        let mut hasher = Sha256::new();
-        hasher.update(domain.as_str());
-        hasher.update(b"\n");
-        hasher.update(self.canonical.as_str());
-        DocId(hasher.finalize())
+        DocId(digest_of(domain, self.canonical.as_bytes()))
+    }
+
+    /// The id of the document as one of this domain, where beginnings of documents are known: one
+    /// that came before is not hashed again.
+    ///
+    /// # Errors
+    /// Memory ran out.
+    pub fn id_with(
+        &self,
+        alloc: Global,
+        domain: &TrustDomain,
+        known: &mut KnownDocuments,
+    ) -> Result<DocId, AllocError>
+        ensures { IfOk result (λ id. id.0 ≡ doc_id_of domain.now self.now) }
+    {
+        let text = self.canonical.as_bytes();
+        Ok(DocId(digest_known(alloc, domain, text, &mut known.beginnings)?))
     }
 
     /// The sequence number, `spiffe_sequence` (SPIFFE Trust Domain and Bundle, section 4.1.1),

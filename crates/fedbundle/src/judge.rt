@@ -15,7 +15,7 @@ use crate::complaint::{LineFault, complain};
 use crate::run_error::RunError;
 use byte_lines::{Line, LineBuf, Sink, Source};
 use closure_core::{Closure, TakeError};
-use receipt_core::{KnownDigests, LineError, Receipt};
+use receipt_core::{KnownParts, LineError, Receipt};
 use std::alloc::Global;
 
 /// Takes every receipt that fits, and complains of each other line and of a rest that no line feed
@@ -43,7 +43,7 @@ pub(crate) fn take_lines<C: Closure, R: Source, E: Sink>(
         × (E.has_failed complaints.new ≡ E.has_failed complaints.old) }
 {
     let mut lines = LineBuf::new(alloc);
-    let mut known = KnownDigests::new(alloc);
+    let mut known = KnownParts::new(alloc);
     let mut number = 0u64;
     let mut count = 0u64;
     'lines: loop {
@@ -70,7 +70,7 @@ pub(crate) fn take_lines<C: Closure, R: Source, E: Sink>(
 fn take_text<C: Closure, E: Sink>(
     alloc: Global,
     closure: &mut C,
-    known: &mut KnownDigests,
+    known: &mut KnownParts,
     complaints: &mut E,
     number: u64,
     text: &[u8],
@@ -93,7 +93,7 @@ fn take_text<C: Closure, E: Sink>(
 fn judge<C: Closure>(
     alloc: Global,
     closure: &mut C,
-    known: &mut KnownDigests,
+    known: &mut KnownParts,
     text: &[u8],
 ) -> Result<Option<LineFault>, RunError>
     ensures { MatchResult result (JudgesText (C.state closure.old) text.now (C.state closure.new))

@@ -64,7 +64,7 @@ fn add_copy(
     authority: &Authority,
     answers: &mut Answers,
 ) -> Result<(), AllocError> {
-    let copy = authority.try_clone(alloc)?;
+    let copy = authority.try_clone()?;
     if copy != *authority {
         answers.add("copied", "unequal\n")?;
     }
@@ -135,7 +135,7 @@ pub(crate) fn read_url_text(
     match UrlText::read(alloc, text)? {
         Some(read) => {
             tell_text(script, read.as_str(), answer)?;
-            tell_equal(read.try_clone(alloc)? == read, answer)
+            tell_equal(read.try_clone()? == read, answer)
         }
         None => answer.push_str("none\n"),
     }
@@ -151,7 +151,7 @@ pub(crate) fn read_non_empty_text(
     match NonEmptyText::read(alloc, text)? {
         Some(read) => {
             tell_text(script, read.as_str(), answer)?;
-            tell_equal(read.try_clone(alloc)? == read, answer)
+            tell_equal(read.try_clone()? == read, answer)
         }
         None => answer.push_str("none\n"),
     }
@@ -179,7 +179,7 @@ fn tell_certificate(
     script.show(certificate.as_bytes(), answer)?;
     answer.push_str("\n")?;
     tell_encoded(alloc, script, certificate, answer)?;
-    tell_equal(certificate.try_clone(alloc)? == *certificate, answer)
+    tell_equal(certificate.try_clone()? == *certificate, answer)
 }
 
 fn tell_encoded(

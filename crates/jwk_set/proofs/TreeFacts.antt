@@ -4,7 +4,7 @@ use Rattle.json.specs.Token.{begin_object}
 use Rattle.json.specs.Print.{print}
 use Rattle.json.specs.Tree.{json_tokens}
 use Rattle.json.specs.Written.{Written}
-use Rattle.serde_json.specs.Written.{outline, compact_text}
+use Rattle.serde_json.specs.Written.{outline}
 use Rattle.serde_json.proofs.Texts.{print-outline}
 use Rattle.jwk_set.specs.Element.{IsElement, IsAuthority, tree_of, element_text}
 use Rattle.jwk_set.specs.Written.{AppendsTokens, member_tokens}

@@ -53,22 +53,22 @@ pub enum Authority {
 pub struct KeyId(pub [u8; 32]);
 
 impl PublicKey {
-    /// A key that is equal to this one.
+    /// A key that is equal to this one. Both share their texts, so it takes no memory.
     ///
     /// # Errors
-    /// Memory ran out.
-    pub fn try_clone(&self, alloc: Global) -> Result<PublicKey, AllocError>
+    /// As many keys share the texts as can be counted, which no memory can hold.
+    pub fn try_clone(&self) -> Result<PublicKey, AllocError>
         ensures { IfOk result (λ key. key ≡ self.now) }
     {
         match self {
             PublicKey::Rsa { n, e } => Ok(PublicKey::Rsa {
-                n: n.try_clone(alloc)?,
-                e: e.try_clone(alloc)?,
+                n: n.try_clone()?,
+                e: e.try_clone()?,
             }),
             PublicKey::Ec { crv, x, y } => Ok(PublicKey::Ec {
-                crv: crv.try_clone(alloc)?,
-                x: x.try_clone(alloc)?,
-                y: y.try_clone(alloc)?,
+                crv: crv.try_clone()?,
+                x: x.try_clone()?,
+                y: y.try_clone()?,
             }),
         }
     }
@@ -109,21 +109,22 @@ impl Authority {
         }
     }
 
-    /// An authority that is equal to this one.
+    /// An authority that is equal to this one. Both share their texts and their certificate, so it
+    /// takes no memory.
     ///
     /// # Errors
-    /// Memory ran out.
-    pub fn try_clone(&self, alloc: Global) -> Result<Authority, AllocError>
+    /// As many authorities share these as can be counted, which no memory can hold.
+    pub fn try_clone(&self) -> Result<Authority, AllocError>
         ensures { IfOk result (λ authority. authority ≡ self.now) }
     {
         match self {
             Authority::X509 { key, der } => Ok(Authority::X509 {
-                key: key.try_clone(alloc)?,
-                der: der.try_clone(alloc)?,
+                key: key.try_clone()?,
+                der: der.try_clone()?,
             }),
             Authority::Jwt { kid, key } => Ok(Authority::Jwt {
-                kid: kid.try_clone(alloc)?,
-                key: key.try_clone(alloc)?,
+                kid: kid.try_clone()?,
+                key: key.try_clone()?,
             }),
         }
     }

@@ -4,13 +4,15 @@ ghost use Rattle.jwk_set.specs.Inside.KeptText.{bytes_of};
 
 use arrayvec::ArrayString;
 use std::alloc::{AllocError, Global};
+use std::sync::Arc;
 
 /// A text that is kept. One of at most 8 bytes, as most exponents and names of curves are, lies in
-/// the value itself, and any other behind a pointer, so that each value takes 24 bytes.
+/// the value itself, and any other behind a pointer, where its copies share it. So each value takes
+/// 24 bytes.
 #[derive(Debug, Drop)]
 pub(crate) enum KeptText {
     Short(ArrayString<8>),
-    Long(Box<String>),
+    Long(Arc<String, Global>),
 }
 
 impl KeptText {
@@ -26,8 +28,21 @@ impl KeptText {
             Ok(short) => Ok(KeptText::Short(short)),
             Err(_) => {
                 let long = String::from_str(alloc, text)?;
-                Ok(KeptText::Long(Box::new(alloc, long)?))
+                Ok(KeptText::Long(Arc::new(alloc, long)?))
             }
+        }
+    }
+
+    /// The same text once more, which takes no memory.
+    ///
+    /// # Errors
+    /// As many values share the text as can be counted, which no memory can hold.
+    pub(crate) fn shared(&self) -> Result<KeptText, AllocError>
+        ensures { IfOk result (λ kept. bytes_of kept ≡ bytes_of self.now) }
+    {
+        match self {
+            KeptText::Short(text) => Ok(KeptText::Short(text.clone()?)),
+            KeptText::Long(text) => Ok(KeptText::Long(Arc::try_clone(text)?)),
         }
     }
 

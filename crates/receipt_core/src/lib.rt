@@ -9,7 +9,7 @@
 mod chain;
 mod distrust;
 mod given_records;
-mod known_digests;
+mod known_parts;
 pub mod laws;
 mod line;
 mod line_error;
@@ -27,7 +27,7 @@ pub use byte_lines::{
 };
 pub use chain::check_chain;
 pub use distrust::Distrust;
-pub use known_digests::KnownDigests;
+pub use known_parts::KnownParts;
 pub use line_error::LineError;
 pub use line_reader::MAX_LINE_BYTES;
 pub use offers::offers_of;

@@ -8,7 +8,7 @@ ghost use Rattle.receipt_core.specs.Line.{IsLine, IsNoJson, IsNoLine, RefusesRec
 ghost use Rattle.receipt_core.specs.Line.{SaysReceipt, Unless};
 ghost use Rattle.receipt_core.specs.Parts.{pieces};
 
-use crate::known_digests::KnownDigests;
+use crate::known_parts::KnownParts;
 use crate::line_error::LineError;
 use crate::members::{
     digest_of, domain_of, endpoint_of, read_digest, read_document, read_domain, read_endpoint,
@@ -27,11 +27,11 @@ pub const MAX_LINE_BYTES: usize = 8_388_608;
 // digests of 64 digits, and 56 between them.
 const MAX_RECEIPT_LINE_BYTES: usize = 1_051_063;
 
-// The receipt of a line, where digests are known.
+// The receipt of a line, where parts are known.
 pub(crate) fn read_receipt(
     alloc: Global,
     bytes: &[u8],
-    known: &mut KnownDigests,
+    known: &mut KnownParts,
 ) -> Result<Receipt, LineError>
     ensures { MatchResult result (IsLine bytes.now) (RefusesReceiptLine bytes.now) }
 {
@@ -61,7 +61,7 @@ struct Pieces<'a> {
 pub(crate) fn read_directly(
     alloc: Global,
     bytes: &[u8],
-    known: &mut KnownDigests,
+    known: &mut KnownParts,
 ) -> Result<Option<Receipt>, AllocError>
     ensures { IfOk result (λ o. IfSome o (IsLine bytes.now)) }
 {
@@ -115,7 +115,7 @@ fn split_last<'a>(text: &'a str, label: &str) -> Option<(&'a str, &'a str)>
 fn read_pieces(
     alloc: Global,
     parts: &Pieces<'_>,
-    known: &mut KnownDigests,
+    known: &mut KnownParts,
 ) -> Result<Option<Receipt>, AllocError>
     ensures { IfOk result (λ o. IfSome o
         (IsLine (pieces parts.now.document.now parts.now.domain.now parts.now.endpoint.now
@@ -130,7 +130,8 @@ fn read_pieces(
     let Some(endpoint) = endpoint_of(alloc, parts.endpoint)? else {
         return Ok(None);
     };
-    let Some(document) = Document::read_canonical(alloc, parts.document.as_bytes())? else {
+    let Some(document) = Document::read_canonical_with(alloc, parts.document, &mut known.documents)?
+    else {
         return Ok(None);
     };
     let receipt = Receipt::new_with(

@@ -3,7 +3,7 @@ ghost use Rattle.std.specs.Prelude.{◌≡◌, IfOk, OnOk};
 ghost use Rattle.jwk_set.specs.Element.{key_id_of};
 ghost use Rattle.receipt_core.specs.Receipt.{key_ids, offers_of, with_key_id};
 
-use crate::known_digests::KnownDigests;
+use crate::known_parts::KnownParts;
 use crate::triple::{Origin, Triple};
 use bundle_doc::Document;
 use jwk_set::{Authority, KeyId};
@@ -24,15 +24,15 @@ pub fn offers_of(
     ensures { IfOk result (λ offers. offers.items
         ≡ offers_of (record { domain = domain.now; document = document.now })) }
 {
-    offers_with(alloc, domain, document, &mut KnownDigests::none(alloc))
+    offers_with(alloc, domain, document, &mut KnownParts::none(alloc))
 }
 
-// The same, where digests of certificates are known.
+// The same, where parts are known.
 pub(crate) fn offers_with(
     alloc: Global,
     domain: &TrustDomain,
     document: &Document,
-    known: &mut KnownDigests,
+    known: &mut KnownParts,
 ) -> Result<Vec<Triple>, AllocError>
     ensures { IfOk result (λ offers. offers.items
         ≡ offers_of (record { domain = domain.now; document = document.now })) }
@@ -42,7 +42,8 @@ pub(crate) fn offers_with(
     if keys.is_empty() {
         return Ok(offers);
     }
-    let origin = Origin::shared(alloc, domain, document.id(domain))?;
+    let id = document.id_with(alloc, domain, &mut known.documents)?;
+    let origin = Origin::shared(alloc, domain, id)?;
     for key in keys {
         offers.push(Triple::of_key(&origin, key)?)?;
     }
@@ -55,7 +56,7 @@ pub(crate) fn copies_of(alloc: Global, offers: &[Triple]) -> Result<Vec<Triple>,
 {
     let mut copies = Vec::with_capacity(alloc, offers.len())?;
     for offer in offers {
-        copies.push(offer.try_clone(alloc)?)?;
+        copies.push(offer.try_clone()?)?;
     }
     Ok(copies)
 }
@@ -64,7 +65,7 @@ pub(crate) fn copies_of(alloc: Global, offers: &[Triple]) -> Result<Vec<Triple>,
 fn key_ids(
     alloc: Global,
     authorities: &[Authority],
-    known: &mut KnownDigests,
+    known: &mut KnownParts,
 ) -> Result<BTreeSet<KeyId>, AllocError>
     ensures { IfOk result (λ keys. keys.keys ≡ key_ids authorities.now) }
 {
@@ -78,7 +79,7 @@ fn key_ids(
 fn add_key_id(
     keys: &mut BTreeSet<KeyId>,
     authority: &Authority,
-    known: &mut KnownDigests,
+    known: &mut KnownParts,
 ) -> Result<(), AllocError>
     ensures { OnOk result (keys.new.keys ≡ with_key_id (key_id_of authority.now) keys.old.keys) }
 {
@@ -89,11 +90,11 @@ fn add_key_id(
 }
 
 // The id of the authority's key, if it has one.
-fn key_id_with(authority: &Authority, known: &mut KnownDigests) -> Option<KeyId>
+fn key_id_with(authority: &Authority, known: &mut KnownParts) -> Option<KeyId>
     ensures { result ≡ key_id_of authority.now }
 {
     match authority {
-        Authority::X509 { der, .. } => Some(KeyId(known.digest(der.as_bytes()))),
+        Authority::X509 { der, .. } => Some(KeyId(known.digest(der))),
         Authority::Jwt { .. } => None,
     }
 }

@@ -8,7 +8,7 @@ ghost use Rattle.receipt_core.specs.Order.{same_receipt, receipt_total, receipt_
 ghost use Rattle.receipt_core.specs.Line.{IsLine, RefusesReceiptLine};
 ghost use Rattle.receipt_core.specs.Parts.{IsKeptReceipt, parts_cmp, rest_cmp};
 
-use crate::known_digests::KnownDigests;
+use crate::known_parts::KnownParts;
 use crate::line::{form_of_parts, id_of, write_receipt};
 use crate::line_error::LineError;
 use crate::line_reader::{read_directly, read_receipt};
@@ -90,11 +90,11 @@ impl Receipt {
               key = key;
             }) }
     {
-        let mut known = KnownDigests::none(alloc);
+        let mut known = KnownParts::none(alloc);
         Receipt::new_with(alloc, domain, endpoint, document, voucher, key, &mut known)
     }
 
-    // The same, where digests are known.
+    // The same, where parts are known.
     pub(crate) fn new_with(
         alloc: Global,
         domain: TrustDomain,
@@ -102,7 +102,7 @@ impl Receipt {
         document: Document,
         voucher: DocId,
         key: KeyId,
-        known: &mut KnownDigests,
+        known: &mut KnownParts,
     ) -> Result<Receipt, AllocError>
         ensures { IfOk result (λ r. r
             ≡ record {
@@ -144,18 +144,19 @@ impl Receipt {
     pub fn read_line(alloc: Global, bytes: &[u8]) -> Result<Receipt, LineError>
         ensures { MatchResult result (IsLine bytes.now) (RefusesReceiptLine bytes.now) }
     {
-        read_receipt(alloc, bytes, &mut KnownDigests::none(alloc))
+        read_receipt(alloc, bytes, &mut KnownParts::none(alloc))
     }
 
-    /// Reads a line as [`Receipt::read_line`] does, where digests of certificates are known: one
-    /// that came in a line before is not hashed again.
+    /// Reads a line as [`Receipt::read_line`] does, where parts of lines are known: an authority, a
+    /// certificate or the beginning of a document that came in a line before is not read or hashed
+    /// again, and the receipts share what the authority takes.
     ///
     /// # Errors
     /// As those of [`Receipt::read_line`].
     pub fn read_line_with(
         alloc: Global,
         bytes: &[u8],
-        known: &mut KnownDigests,
+        known: &mut KnownParts,
     ) -> Result<Receipt, LineError>
         ensures { MatchResult result (IsLine bytes.now) (RefusesReceiptLine bytes.now) }
     {
@@ -170,7 +171,7 @@ impl Receipt {
     pub fn read_directly(alloc: Global, bytes: &[u8]) -> Result<Option<Receipt>, AllocError>
         ensures { IfOk result (λ o. IfSome o (IsLine bytes.now)) }
     {
-        read_directly(alloc, bytes, &mut KnownDigests::none(alloc))
+        read_directly(alloc, bytes, &mut KnownParts::none(alloc))
     }
 
     /// The line, without a line feed.
@@ -291,7 +292,7 @@ impl Receipt {
             voucher: self.voucher,
             key: self.key,
             id: self.id,
-            need: self.need.try_clone(alloc)?,
+            need: self.need.try_clone()?,
             offers: copies_of(alloc, self.offers.as_slice())?,
         })
     }

@@ -95,7 +95,7 @@ impl Triple {
     ///
     /// # Errors
     /// As many triples share the names as can be counted, which no memory can hold.
-    pub fn try_clone(&self, _alloc: Global) -> Result<Triple, AllocError>
+    pub fn try_clone(&self) -> Result<Triple, AllocError>
         ensures { IfOk result (λ t. t ≡ self.now) }
     {
         Triple::of_key(&self.origin, self.key)

@@ -9,7 +9,7 @@ ghost use Rattle.replica_sync.specs.Inside.EntrySteps.{TakesEntry, TakesEntryTex
 ghost use Rattle.replica_sync.specs.Inside.EntrySteps.{HasRefusedEntry, HasRefusedLine};
 
 use closure_core::{Closure, Distrusted, TakeError, Taken};
-use receipt_core::{Distrust, KnownDigests, LineError, Receipt};
+use receipt_core::{Distrust, KnownParts, LineError, Receipt};
 use replica_core::{Entry, SyncError};
 use std::alloc::Global;
 use std::cmp::Ordering;
@@ -31,7 +31,7 @@ pub enum Wanted {
 pub(crate) fn take_line<C: Closure>(
     alloc: Global,
     closure: &mut C,
-    known: &mut KnownDigests,
+    known: &mut KnownParts,
     wanted: Wanted,
     last: &[u8],
     number: u64,
@@ -72,7 +72,7 @@ pub fn next_entry(
 {
     next_entry_with(
         alloc,
-        &mut KnownDigests::none(alloc),
+        &mut KnownParts::none(alloc),
         wanted,
         last,
         number,
@@ -83,7 +83,7 @@ pub fn next_entry(
 /// The same, where digests are known.
 pub(crate) fn next_entry_with(
     alloc: Global,
-    known: &mut KnownDigests,
+    known: &mut KnownParts,
     wanted: Wanted,
     last: &[u8],
     number: u64,
@@ -151,7 +151,7 @@ fn take_record<C: Closure>(closure: &mut C, distrust: &Distrust) -> Result<u64, 
 
 fn read_entry(
     alloc: Global,
-    known: &mut KnownDigests,
+    known: &mut KnownParts,
     wanted: Wanted,
     text: &[u8],
 ) -> Result<Entry, LineError>
@@ -173,7 +173,7 @@ fn read_record(alloc: Global, text: &[u8]) -> Result<Entry, LineError>
     Ok(Entry::Record(Distrust::read_line(alloc, text)?))
 }
 
-fn read_receipt(alloc: Global, known: &mut KnownDigests, text: &[u8]) -> Result<Entry, LineError>
+fn read_receipt(alloc: Global, known: &mut KnownParts, text: &[u8]) -> Result<Entry, LineError>
     ensures { MatchResult result (IsEntry Wanted.Receipts text.now) (RefusesReceipt text.now) }
 {
     Ok(Entry::Receipt(Receipt::read_line_with(alloc, text, known)?))

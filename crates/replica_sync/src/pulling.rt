@@ -16,7 +16,7 @@ use crate::have_writer::write_have;
 use crate::taking::{Place, take_give};
 use byte_lines::{LineBuf, Sink, Source};
 use closure_core::Closure;
-use receipt_core::KnownDigests;
+use receipt_core::KnownParts;
 use replica_core::{SyncError, have};
 use std::alloc::Global;
 use thiserror::Error;
@@ -102,7 +102,7 @@ fn pull_all<C: Closure, R: Source, W: Sink>(
     let mut place = Place {
         read: 0,
         last: Vec::new(alloc),
-        known: KnownDigests::new(alloc),
+        known: KnownParts::new(alloc),
     };
     'buckets: for bucket in 0..256u16 {
         pull_bucket(

@@ -19,7 +19,7 @@ use crate::line_bytes::set_last;
 use byte_lines::{Line, LineBuf, Source};
 use closure_core::Closure;
 use fed_config::Config;
-use receipt_core::KnownDigests;
+use receipt_core::KnownParts;
 use replica_core::SyncError;
 use std::alloc::{AllocError, Global};
 
@@ -81,7 +81,7 @@ fn read_held<C: Closure, R: Source>(
     ensures fault { R.has_failed source.new ≡ (is_io result || R.has_failed source.old) }
 {
     let mut last = Vec::new(alloc);
-    let mut known = KnownDigests::new(alloc);
+    let mut known = KnownParts::new(alloc);
     let mut number = 2;
     'lines: while read_next(
         alloc, format, closure, &mut known, &mut last, number, lines, source,
@@ -97,7 +97,7 @@ fn read_next<C: Closure, R: Source>(
     alloc: Global,
     format: Format,
     closure: &mut C,
-    known: &mut KnownDigests,
+    known: &mut KnownParts,
     last: &mut Vec<u8>,
     number: u64,
     lines: &mut LineBuf,
@@ -135,7 +135,7 @@ fn judge<C: Closure>(
     alloc: Global,
     format: Format,
     closure: &mut C,
-    known: &mut KnownDigests,
+    known: &mut KnownParts,
     last: &mut Vec<u8>,
     number: u64,
     text: &[u8],

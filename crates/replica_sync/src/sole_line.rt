@@ -14,7 +14,7 @@ use crate::have_reader::{own_have, versioned_have};
 use crate::header::{format_of, write_header};
 use closure_core::Closure;
 use fed_config::Config;
-use receipt_core::KnownDigests;
+use receipt_core::KnownParts;
 use replica_core::{Have, SyncError};
 use std::alloc::{AllocError, Global};
 
@@ -39,7 +39,7 @@ pub fn take_sole_line<C: Closure>(
         (HasRefusedSoleLine (C.state closure.old).meaning
         (record { number = number; text = text.now }) (C.state closure.new).meaning) }
 {
-    let mut none = KnownDigests::none(alloc);
+    let mut none = KnownParts::none(alloc);
     take_line(
         alloc,
         closure,

@@ -12,7 +12,7 @@ use crate::entry_line::{Wanted, take_line};
 use crate::give_header_reader::{Expected, Head, next_head};
 use byte_lines::{Line, LineBuf, Source};
 use closure_core::Closure;
-use receipt_core::KnownDigests;
+use receipt_core::KnownParts;
 use replica_core::SyncError;
 use std::alloc::Global;
 
@@ -23,7 +23,7 @@ use std::alloc::Global;
 pub(crate) struct Place {
     pub(crate) read: u64,
     pub(crate) last: Vec<u8>,
-    pub(crate) known: KnownDigests,
+    pub(crate) known: KnownParts,
 }
 
 /// Takes the answer about the bucket, which the stream is to have next.

@@ -2,7 +2,6 @@ use Rattle.std.proofs.Common.{sym, subst}
 use Rattle.receipt_core.proofs.ReadFacts.{IsLine-pieces}
 use Rattle.receipt_core.specs.Line.{IsLine}
 use Rattle.receipt_core.specs.Parts.{pieces}
-use Rattle.bundle_doc.specs.Bundle.{IsStoredDocument}
 use Rattle.receipt_core.proofs.line_reader.read_pieces.Goals as goal
 
 pub returns : goal.returns
@@ -17,4 +16,4 @@ returns c =
     (sym c.in_ok-receipt.ensures)
     (IsLine-pieces c.in-Some-3.document c.in-Some.domain c.in-Some-2.endpoint c.in-Some-Some.key c.in-Some-Some.voucher
     c.args.parts.now.document.now c.args.parts.now.domain.now c.args.parts.now.endpoint.now c.args.parts.now.key.now c.args.parts.now.voucher.now
-    (subst (IsStoredDocument c.in-Some-3.document) c.as_bytes.ensures.value document) domain endpoint key voucher)
+    document domain endpoint key voucher)

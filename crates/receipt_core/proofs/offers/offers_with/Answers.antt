@@ -15,7 +15,7 @@ loop-key-preserved c =
     (map (offer_of p) c.into_iter-key-iterator.result) c.in-Some.ensures.steps
     (c.in_ok-of_key.ensures
     ∙ (λ i. record { domain = (c.in_ok-origin.ensures i).domain; document = (c.in_ok-origin.ensures i).document; key = c.in-Some.key })
-    ∙ (λ i. record { domain = c.args.domain.now; document = record { 0 = c.id.ensures i }; key = c.in-Some.key }))
+    ∙ (λ i. record { domain = c.args.domain.now; document = record { 0 = c.in_ok-id.ensures i }; key = c.in-Some.key }))
     c.in_ok-push.ensures.items c.loop-key.invariant
 
 pub returns : goal.returns

@@ -1,0 +1,150 @@
+//! Places for what came before, each found by what lies at one part of a text.
+ghost use Rattle.std.specs.Prelude.{◌<◌};
+
+use std::alloc::Global;
+
+// How many places there are.
+const PLACES: usize = 4_096;
+
+// An odd number without a pattern in its bits, whose products spread over their upper bits.
+const SPREAD: u64 = 0x9e37_79b9_7f4a_7c15;
+
+/// Places for values that came before. There are none until something is to be kept, and none at
+/// all where nothing is.
+#[derive(Drop)]
+pub(crate) struct Places<T> {
+    places: Vec<Place<T>>,
+    keeps_more: bool,
+}
+
+/// A place: a value, what tells its text, and what tells the last text that came and was not kept.
+#[derive(Drop)]
+struct Place<T> {
+    kept: Option<Box<T>>,
+    tag: u32,
+    other_tag: u32,
+}
+
+impl<T: Drop> Places<T> {
+    /// Places that are made once something is to be kept. It takes no memory.
+    pub(crate) fn new(alloc: Global) -> Self {
+        Places {
+            places: Vec::new(alloc),
+            keeps_more: true,
+        }
+    }
+
+    /// No places.
+    pub(crate) fn none(alloc: Global) -> Self {
+        Places {
+            places: Vec::new(alloc),
+            keeps_more: false,
+        }
+    }
+
+    /// What is kept in the place of the text, where it seems to be of this text.
+    pub(crate) fn known(&mut self, text: &[u8]) -> Option<&mut T> {
+        if self.places.is_empty() {
+            return None;
+        }
+        let number = number_of(text);
+        let place = place_of(number, self.places.len());
+        self.places[place].known(tag_of(number))
+    }
+
+    /// Whether a value is to be kept for the text, which has to come twice for that: to keep one
+    /// takes nearly as long as to read it.
+    pub(crate) fn keeps(&mut self, alloc: Global, text: &[u8]) -> bool {
+        if self.keeps_more {
+            self.keeps_more = false;
+            self.places = empty_places(alloc);
+        }
+        if self.places.is_empty() {
+            return false;
+        }
+        let number = number_of(text);
+        let place = place_of(number, self.places.len());
+        self.places[place].comes_again(tag_of(number))
+    }
+
+    /// Keeps a value for the text, in place of what was there.
+    pub(crate) fn keep(&mut self, text: &[u8], value: Box<T>) {
+        if self.places.is_empty() {
+            return;
+        }
+        let number = number_of(text);
+        let place = place_of(number, self.places.len());
+        self.places[place].keep(tag_of(number), value);
+    }
+}
+
+impl<T: Drop> Place<T> {
+    fn known(&mut self, tag: u32) -> Option<&mut T> {
+        match &mut self.kept {
+            Some(kept) if tag == self.tag => Some(&mut **kept),
+            _ => None,
+        }
+    }
+
+    // Whether the last text that was not kept has this tag, as the next one has.
+    fn comes_again(&mut self, tag: u32) -> bool {
+        let again = tag == self.other_tag;
+        self.other_tag = tag;
+        again
+    }
+
+    fn keep(&mut self, tag: u32, value: Box<T>) {
+        self.tag = tag;
+        self.kept = Some(value);
+    }
+}
+
+// Empty places, as far as there is memory.
+fn empty_places<T: Drop>(alloc: Global) -> Vec<Place<T>> {
+    let mut places = Vec::new(alloc);
+    for _ in 0..PLACES {
+        let place = Place {
+            kept: None,
+            tag: 0,
+            other_tag: 0,
+        };
+        // Without memory there are fewer places.
+        if places.push(place).is_err() {
+            return places;
+        }
+    }
+    places
+}
+
+// The place of a text among so many.
+fn place_of(number: u64, places: usize) -> usize
+    requires { 0 < places }
+    ensures { result < places }
+{
+    (number % places as u64) as usize
+}
+
+fn tag_of(number: u64) -> u32 {
+    (number >> 32) as u32
+}
+
+// A number that tells a text. In that of an authority, and in that of a document, which begins with
+// ten other bytes, the key comes first, and most of what tells it begins before byte 64.
+fn number_of(text: &[u8]) -> u64 {
+    let front = spread(word_at(text, 24), word_at(text, 32));
+    let back = spread(word_at(text, 48), word_at(text, 56));
+    let number = spread(front, spread(word_at(text, 40), back));
+    number ^ (number >> 32)
+}
+
+fn spread(first: u64, second: u64) -> u64 {
+    (first ^ second.wrapping_mul(SPREAD).rotate_left(29)).wrapping_mul(SPREAD)
+}
+
+// Eight bytes from this place on, or zero where the text ends before.
+fn word_at(text: &[u8], at: usize) -> u64 {
+    match text.get(at..).and_then(|rest| rest.first_chunk::<8>()) {
+        Some(word) => u64::from_le_bytes(*word),
+        None => 0,
+    }
+}
