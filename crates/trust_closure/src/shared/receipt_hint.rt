@@ -8,11 +8,19 @@ use std::cmp::Ordering;
 const MIDDLE: u64 = 1 << 63;
 
 /// Where texts agree on more bytes than this, it counts as this many.
-const MOST_AGREED: u64 = (1 << 23) - 1;
+const MOST_AGREED: u64 = (1 << 17) - 1;
 
-/// A number that rises with the order of receipts: by the byte at which the document's text leaves
-/// that of the first receipt that was held, and then by the five bytes from there on. The first
-/// bytes of a text say little, since most texts begin alike.
+/// The bits below those of the bytes that agree: four bytes of seven bits each, and the number.
+const AGREED_SHIFT: u32 = 46;
+
+/// The bits of the number: below 11 to the power of 5.
+const NUMBER_BITS: u32 = 18;
+
+/// A number that rises with the order of receipts, for most of them: by the byte at which the
+/// document's text leaves that of the first receipt that was held, then by the four bytes from
+/// there on, and then by the number at the text's end. The first bytes of a text say little, since
+/// most texts begin alike. Texts that leave the first one alike have mostly the same keys, so what
+/// tells them is their sequence number.
 pub(crate) fn receipt_hint(held: &[Receipt], receipt: &Receipt) -> u64 {
     match held.first() {
         Some(first) => hint_beside(first.document().canonical(), receipt.document().canonical()),
@@ -27,21 +35,40 @@ fn hint_beside(first: &[u8], text: &[u8]) -> u64 {
     };
     let (order, place) = guess_text(text, first, nothing);
     let agreed = (place as u64).min(MOST_AGREED);
-    let bytes = bytes_from(text, place);
+    let behind = (bytes_from(text, place) << NUMBER_BITS) | number_of(text);
     match order {
         // Of the texts before the first one, those that leave it later stand nearer to it.
-        Ordering::Less => (agreed << 40) | bytes,
+        Ordering::Less => (agreed << AGREED_SHIFT) | behind,
         Ordering::Equal => MIDDLE,
-        Ordering::Greater => MIDDLE | ((MOST_AGREED - agreed) << 40) | bytes,
+        Ordering::Greater => MIDDLE | ((MOST_AGREED - agreed) << AGREED_SHIFT) | behind,
     }
 }
 
-/// The five bytes from the place on, as a number. Past the end they are 0.
+/// The four bytes from the place on, as a number. Past the end they are 0, and each that is not
+/// ASCII counts as 127.
 fn bytes_from(text: &[u8], place: usize) -> u64 {
     let mut number = 0;
-    for offset in 0..5_usize {
+    for offset in 0..4_usize {
         let byte = text.get(place.saturating_add(offset)).copied();
-        number = (number << 8) | u64::from(byte.unwrap_or(0));
+        number = (number << 7) | u64::from(byte.unwrap_or(0).min(127));
+    }
+    number
+}
+
+/// The first five digits behind the last colon, as a number that rises with their order as texts:
+/// where they end counts as more than each digit.
+fn number_of(text: &[u8]) -> u64 {
+    let colon = match text.iter().rposition(|byte| *byte == b':') {
+        Some(place) => place,
+        None => text.len(),
+    };
+    let mut number = 0_u64;
+    for offset in 1..6_usize {
+        let digit = match text.get(colon.saturating_add(offset)) {
+            Some(byte) => byte.wrapping_sub(b'0').min(10),
+            None => 10,
+        };
+        number = number.wrapping_mul(11).wrapping_add(u64::from(digit));
     }
     number
 }
