@@ -12,6 +12,7 @@ words: [RUNS [SIZE..]]      RUNS is the number of timed runs of each program on 
                             sizes are 4096, 16384 and 65536 receipts, if none is given
 """
 import base64
+import functools
 import hashlib
 import json
 import random
@@ -46,26 +47,60 @@ class Documents:
     """Documents that differ in their sequence, and take their elements in turn from a few."""
 
     def __init__(self, random_, make):
-        self.sets = []
-        for _ in range(64):
-            elements = dict(make(random_))
-            self.sets.append((",".join(sorted(elements)), [elements[text] for text in sorted(elements)]))
+        self.sets = [joined(make(random_)) for _ in range(64)]
+
+    def elements(self, number):
+        return self.sets[number % 64]
 
     def text(self, number):
-        return f'{{"keys":[{self.sets[number % 64][0]}],"spiffe_sequence":{number}}}'
+        return f'{{"keys":[{self.elements(number)[0]}],"spiffe_sequence":{number}}}'
 
     def id(self, number):
         return hashlib.sha256(f"{DOMAIN}\n{self.text(number)}".encode()).hexdigest()
 
     def key(self, number):
-        return self.sets[number % 64][1][0]
+        return self.elements(number)[1][0]
 
 
+class Apart(Documents):
+    """Documents that have no element in common."""
+
+    def __init__(self, random_, make):
+        self.seed, self.make = random_.random(), make
+
+    @functools.lru_cache(maxsize=4)
+    def elements(self, number):
+        return joined(self.make(random.Random(f"{self.seed} {number}")))
+
+
+class Rolled(Documents):
+    """Documents each of which has one of its elements in common with the one before, and the other with the next."""
+
+    def __init__(self, random_, make):
+        self.seed, self.make = random_.random(), make
+
+    @functools.lru_cache(maxsize=4)
+    def elements(self, number):
+        both = [self.make(random.Random(f"{self.seed} {at}"))[0] for at in (number, number + 1)]
+        return joined(both)
+
+
+def joined(elements):
+    """The text of the elements in order, and their key ids."""
+    elements = dict(elements)
+    return ",".join(sorted(elements)), [elements[text] for text in sorted(elements)]
+
+
+# What a bundle is made of, and how bundles share it.
 MAKES = {
-    "realistic": lambda r: [rsa(r, 256, 880), ec(r, 500)],
-    "tiny": lambda r: [rsa(r, 3, 8)],
-    "forty keys": lambda r: [rsa(r, 3, 8) for _ in range(40)],
+    "realistic": (Documents, lambda r: [rsa(r, 256, 880), ec(r, 500)]),
+    "tiny": (Documents, lambda r: [rsa(r, 3, 8)]),
+    "forty keys": (Documents, lambda r: [rsa(r, 3, 8) for _ in range(40)]),
+    "rolled": (Rolled, lambda r: [rsa(r, 256, 880)]),
+    "apart": (Apart, lambda r: [rsa(r, 256, 880), ec(r, 500)]),
 }
+# Those that stand in these shapes alone.
+FEW_SHAPES = {"forty keys": ["chain", "tree shuffled"], "rolled": ["chain"], "apart": ["chain", "tree shuffled"]}
 
 
 # Shapes: which document vouches for each of the documents 1, 2, .., and in what order the receipts come. Document 0 is
@@ -100,13 +135,12 @@ SHAPES = {"chain": chain, "chain reversed": reversed_chain, "star": star, "tree 
 
 
 def streams(sizes):
-    for bundles, make in MAKES.items():
-        for shape, receipts in SHAPES.items():
-            if bundles == "forty keys" and shape not in ("chain", "tree shuffled"):
-                continue
+    for bundles, (documents_of, make) in MAKES.items():
+        for shape in FEW_SHAPES.get(bundles, SHAPES):
+            receipts = SHAPES[shape]
             for size in sizes:
                 random_ = random.Random(size)
-                documents = Documents(random_, make)
+                documents = documents_of(random_, make)
                 if size * (len(documents.text(size)) + 300) <= MOST_BYTES:
                     yield bundles, shape, size, documents, receipts(size, random_)
 
