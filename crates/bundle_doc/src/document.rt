@@ -117,7 +117,7 @@ impl Document {
     }
 
     /// Reads a canonical text as [`Document::read_canonical`] does, where authorities are known:
-    /// one that came before is not read again, and the documents share it.
+    /// one that came twice before is not read again, and the documents share it.
     ///
     /// # Errors
     /// Memory ran out.
@@ -212,7 +212,7 @@ impl Document {
     }
 
     /// The id of the document as one of this domain, where beginnings of documents are known: one
-    /// that came before is not hashed again.
+    /// that came twice before is not hashed again.
     ///
     /// # Errors
     /// Memory ran out.

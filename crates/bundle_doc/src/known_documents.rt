@@ -5,9 +5,9 @@ use crate::text_places::Places;
 use std::alloc::Global;
 
 /// What is known of documents that came before, for those who read many: their authorities, and the
-/// state of the hash function after their beginnings. An authority whose text comes again is
+/// state of the hash function after their beginnings. An authority whose text came twice is
 /// compared, byte by byte, and not read again, and the documents share what it takes. A beginning
-/// that comes again is compared and not hashed again.
+/// that came twice is compared and not hashed again.
 ///
 /// At most 4,096 authorities are kept with their texts, none of more than 4,096 bytes, and at most
 /// 4,096 beginnings of at most 4,096 bytes. So they take at most some 30 MiB each. The first bytes

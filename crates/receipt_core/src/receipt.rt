@@ -147,9 +147,10 @@ impl Receipt {
         read_receipt(alloc, bytes, &mut KnownParts::none(alloc))
     }
 
-    /// Reads a line as [`Receipt::read_line`] does, where parts of lines are known: an authority, a
-    /// certificate or the beginning of a document that came in a line before is not read or hashed
-    /// again, and the receipts share what the authority takes.
+    /// Reads a line as [`Receipt::read_line`] does, where parts of lines are known: a certificate
+    /// that came in a line before is not hashed again, and an authority or the beginning of a
+    /// document that came twice is neither read nor hashed. The receipts share what the authority
+    /// takes.
     ///
     /// # Errors
     /// As those of [`Receipt::read_line`].

@@ -32,7 +32,7 @@ impl Rest {
         self.bytes.extend_from_slice(bytes)
     }
 
-    /// So many of the bytes that are left were taken.
+    /// This many of the bytes that are left were taken.
     pub(crate) fn took(&mut self, count: usize) {
         self.used = self.used.saturating_add(count);
         if self.is_empty() {

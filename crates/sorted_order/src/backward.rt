@@ -30,7 +30,7 @@ impl<'a> Model for Backward<'a> {
 }
 
 impl<'a> Backward<'a> {
-    /// So many of the numbers here and in the blocks.
+    /// This many of the numbers here and in the blocks.
     pub(crate) fn new(here: &'a [u32], blocks: &'a [Block], left: usize) -> Self
         requires filled { AreHalfFull blocks.now }
         requires within { left ≤ length (here.now ++ concat blocks.now) }
