@@ -39,6 +39,15 @@ pub record IsGathered (elements : Items) (es : List Entry) : Type 0 where
 abbrev pub FitsWord : Option ℕ → Type 0
 FitsWord o = IfSome o (λ n. n < 2 ^ 64)
 
+-- the value is an object with elements and these two numbers
+pub record HasNumbers (tree : Data) (rank hint : Option ℕ) : Type 0 where
+  pub keys : Items
+  pub has_keys : HasKeys tree keys
+  pub has_rank : HasNumberMember tree (codes "spiffe_sequence") rank
+  pub has_hint : HasNumberMember tree (codes "spiffe_refresh_hint") hint
+  pub rank_fits : FitsWord rank
+  pub hint_fits : FitsWord hint
+
 -- what the value says of a document
 pub record IsContents (tree : Data) (es : List Entry) (rank hint : Option ℕ) : Type 0 where
   pub keys : Items

@@ -2,6 +2,7 @@
 //! are in order, and each is there once.
 ghost use Rattle.std.specs.Prelude.{◌≡◌, ◌++◌, IfOk, OnOk, not, option_map, string_bytes};
 ghost use Rattle.std.specs.List.Sorted.{IsStrictlySortedBy};
+ghost use Rattle.serde_json.specs.Find.{as_array, get};
 ghost use Rattle.serde_json.specs.View.{view, items_view};
 ghost use Rattle.serde_json.specs.Written.{comma_if};
 ghost use Rattle.jwk_set.specs.Forms.{FindsMember};
@@ -23,6 +24,46 @@ pub(crate) fn elements_of(value: &Value) -> Option<&Vec<Value>>
         (HasKeys (view value.now)) }
 {
     value.get("keys")?.as_array()
+}
+
+/// The same elements, of a value that is given up.
+pub(crate) fn taken_elements(value: Value) -> Option<Vec<Value>>
+    ensures { FindsMember (option_map (λ v. items_view v.items) result) (HasKeys (view value)) }
+{
+    taken_items(taken_member(value, "keys")?)
+}
+
+fn taken_member(value: Value, name: &str) -> Option<Value>
+    ensures { option_map view result ≡ get name.now (view value) }
+{
+    match value {
+        Value::Object(mut members) => members.remove(name),
+        _ => None,
+    }
+}
+
+fn taken_items(value: Value) -> Option<Vec<Value>>
+    ensures { option_map (λ v. items_view v.items) result ≡ as_array (view value) }
+{
+    match value {
+        Value::Array(items) => Some(items),
+        _ => None,
+    }
+}
+
+/// The authorities that the elements say, each under its text. An element is given up once it is
+/// read.
+pub(crate) fn gather_taken(
+    alloc: Global,
+    elements: Vec<Value>,
+) -> Result<BTreeMap<String, Authority>, AllocError>
+    ensures { IfOk result (λ m. IsGathered (items_view elements.items) m.entries) }
+{
+    let mut found = BTreeMap::new(alloc);
+    for element in elements {
+        add_element(alloc, &mut found, &element)?;
+    }
+    Ok(found)
 }
 
 /// The authorities that the elements say, each under its text.

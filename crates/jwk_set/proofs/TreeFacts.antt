@@ -1,16 +1,15 @@
 -- The element that is written for an authority, and its text.
-use Rattle.std.proofs.Common.{◌≡◌, [], ◌∷◌, ◌++◌, refl, ap, ap₂, ◌∙◌}
-use Rattle.json.specs.Token.{begin_object}
-use Rattle.json.specs.Print.{print}
-use Rattle.json.specs.Tree.{json_tokens}
-use Rattle.json.specs.Written.{Written}
-use Rattle.serde_json.specs.Written.{outline}
-use Rattle.serde_json.proofs.Texts.{print-outline}
+use Rattle.std.proofs.Common.{◌≡◌, ℕ, List, refl, append_assoc}
+use Rattle.base64.specs.Engines.{standard}
+use Rattle.base64.specs.GeneralPurpose.{encode_of}
+use Rattle.json.specs.Print.{escape, escape_byte}
 use Rattle.jwk_set.specs.Element.{IsElement, IsAuthority, tree_of, element_text}
-use Rattle.jwk_set.specs.Written.{AppendsTokens, member_tokens}
+use Rattle.jwk_set.specs.Forms.{IsCertificate, IsUrlText}
+use Rattle.jwk_set.specs.Written.{jwt_ec_text, jwt_rsa_text, x509_ec_text, x509_rsa_text}
 use Rattle.jwk_set.specs.declared.authority.PublicKey.TheVariants.{Rsa, Ec}
 use Rattle.jwk_set.specs.declared.authority.Authority.{Authority}
 use Rattle.jwk_set.specs.declared.authority.Authority.TheVariants.{X509, Jwt}
+use Rattle.jwk_set.proofs.EscapeFacts.{escape_base64, escape_url}
 
 -- the element of an authority says that authority, as `laws::elements` says
 pub IsElement-tree_of : (a : Authority) → IsAuthority a → IsElement (tree_of a) a
@@ -21,15 +20,34 @@ IsElement-tree_of (Jwt kid (Ec crv x y)) h = (refl, (refl, refl, refl, refl), re
 
 -- ---- its text
 
--- the tokens that are written are those of the element
-tokens-tree_of : (a : Authority) → begin_object ∷ member_tokens a ≡ json_tokens (outline (tree_of a))
-tokens-tree_of (X509 (Rsa n e) der) = refl
-tokens-tree_of (X509 (Ec crv x y) der) = refl
-tokens-tree_of (Jwt kid (Rsa n e)) = refl
-tokens-tree_of (Jwt kid (Ec crv x y)) = refl
+-- the parts that are written, where the texts between quotation marks need no escape
+rsa_parts : (n e der : List ℕ) → escape n ≡ n → escape e ≡ e → escape (encode_of standard der) ≡ encode_of standard der
+    → x509_rsa_text n e der ≡ element_text (X509 (Rsa n e) der)
+unfolding escape_byte
+rsa_parts n e der p q r = simp (p, q, r, append_assoc)
 
--- what `write_text` appends to an open bracket is the text of the element
-pub print-text_of : (a : Authority) (opened new : Written) → opened.before ≡ [] → opened.tokens ≡ begin_object ∷ []
-    → AppendsTokens opened new (member_tokens a) → new.before ++ print new.tokens ≡ element_text a
-print-text_of a opened new empty begun adds =
-    ap₂ (λ b ts. b ++ print ts) (adds.before ∙ empty) (adds.tokens ∙ ap (λ ts. ts ++ member_tokens a) begun ∙ tokens-tree_of a) ∙ print-outline (tree_of a)
+ec_parts : (crv x y der : List ℕ) → escape x ≡ x → escape y ≡ y → escape (encode_of standard der) ≡ encode_of standard der
+    → x509_ec_text crv x y der ≡ element_text (X509 (Ec crv x y) der)
+unfolding escape_byte
+ec_parts crv x y der p q r = simp (p, q, r, append_assoc)
+
+jwt_rsa_parts : (kid n e : List ℕ) → escape n ≡ n → escape e ≡ e → jwt_rsa_text kid n e ≡ element_text (Jwt kid (Rsa n e))
+unfolding escape_byte
+jwt_rsa_parts kid n e p q = simp (p, q, append_assoc)
+
+jwt_ec_parts : (kid crv x y : List ℕ) → escape x ≡ x → escape y ≡ y → jwt_ec_text kid crv x y ≡ element_text (Jwt kid (Ec crv x y))
+unfolding escape_byte
+jwt_ec_parts kid crv x y p q = simp (p, q, append_assoc)
+
+-- and so of members in their forms
+pub x509_rsa-written : (n e der : List ℕ) → IsUrlText n → IsUrlText e → IsCertificate der → x509_rsa_text n e der ≡ element_text (X509 (Rsa n e) der)
+x509_rsa-written n e der p q r = rsa_parts n e der (escape_url n p) (escape_url e q) (escape_base64 der r)
+
+pub x509_ec-written : (crv x y der : List ℕ) → IsUrlText x → IsUrlText y → IsCertificate der → x509_ec_text crv x y der ≡ element_text (X509 (Ec crv x y) der)
+x509_ec-written crv x y der p q r = ec_parts crv x y der (escape_url x p) (escape_url y q) (escape_base64 der r)
+
+pub jwt_rsa-written : (kid n e : List ℕ) → IsUrlText n → IsUrlText e → jwt_rsa_text kid n e ≡ element_text (Jwt kid (Rsa n e))
+jwt_rsa-written kid n e p q = jwt_rsa_parts kid n e (escape_url n p) (escape_url e q)
+
+pub jwt_ec-written : (kid crv x y : List ℕ) → IsUrlText x → IsUrlText y → jwt_ec_text kid crv x y ≡ element_text (Jwt kid (Ec crv x y))
+jwt_ec-written kid crv x y p q = jwt_ec_parts kid crv x y (escape_url x p) (escape_url y q)

@@ -1,5 +1,7 @@
 //! The forms of an authority's members, each a type of its own: a value that exists is in its form.
-ghost use Rattle.std.specs.Prelude.{◌≡◌, ℕ, List, ◌↔◌, IsTrue, IfOk, nat_eq, string_bytes};
+ghost use Rattle.std.specs.Prelude.{◌≡◌, ◌++◌, ℕ, List, ◌↔◌, IsTrue, IfOk, OnOk, nat_eq};
+ghost use Rattle.std.specs.Prelude.{string_bytes};
+ghost use Rattle.std.specs.List.{AllPass};
 ghost use Rattle.std.specs.Cmp.{partial_equiv_from_equiv};
 ghost use Rattle.std.specs.Cmp.Lexicographic.{pointwise, nat_list_eq_equiv};
 ghost use Rattle.base64.specs.Engines.{standard};
@@ -196,6 +198,15 @@ impl Certificate {
         STANDARD.encode(alloc, self.der.as_slice())
     }
 
+    /// Adds the base64 of the certificate.
+    pub(crate) fn push_base64(&self, out: &mut String) -> Result<(), AllocError>
+        ensures text { OnOk result (string_bytes out.new ≡ string_bytes out.old
+            ++ encode_of standard self.now) }
+        ensures form { IsCertificate self.now }
+    {
+        STANDARD.encode_string(self.der.as_slice(), out)
+    }
+
     /// The bytes of the certificate.
     pub fn as_bytes(&self) -> &[u8]
         ensures bytes { result.now ≡ self.now }
@@ -234,7 +245,18 @@ impl Eq for Certificate {
 fn is_url_text(text: &[u8]) -> bool
     ensures { IsTrue result ↔ IsUrlText text.now }
 {
-    !text.is_empty() && text.len() % 4 != 1 && text.iter().all(|b| is_url_symbol(*b))
+    !text.is_empty() && text.len() % 4 != 1 && are_url_symbols(text)
+}
+
+// Each byte is tested, also after one that is no symbol: so the processor tests many at once.
+fn are_url_symbols(text: &[u8]) -> bool
+    ensures { IsTrue result ↔ AllPass url_symbol text.now }
+{
+    let mut passed = true;
+    for b in text {
+        passed &= is_url_symbol(*b);
+    }
+    passed
 }
 
 fn is_url_symbol(b: u8) -> bool

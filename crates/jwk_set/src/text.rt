@@ -1,13 +1,16 @@
-//! The text of an authority's element, written token by token, member by member in the order of
-//! their names. `specs/Written.antt` has the tokens, for private clauses.
-ghost use Rattle.std.specs.Prelude.{◌≡◌, [], ◌∷◌, codes, IfOk, OnOk, string_bytes};
-ghost use Rattle.json.specs.Token.{key, string};
+//! The text of an authority's element, member by member in the order of their names: the texts of
+//! its members, and between them what each element of its kind has.
+ghost use Rattle.std.specs.Prelude.{◌≡◌, ◌++◌, ◌↔◌, IfOk, IsTrue, OnOk, string_bytes};
+ghost use Rattle.std.specs.List.{AllPass};
+ghost use Rattle.json.specs.Print.{quoted};
 ghost use Rattle.jwk_set.specs.Element.{element_text};
-ghost use Rattle.jwk_set.specs.Written.{AppendsTokens, chain_tokens, ec_tokens, key_of, kid_tokens};
-ghost use Rattle.jwk_set.specs.Written.{member_tokens, rsa_tokens, text_tokens, use_tokens};
+ghost use Rattle.jwk_set.specs.Json.{is_unescaped};
+ghost use Rattle.jwk_set.specs.declared.authority.Authority.TheVariants.{Jwt, X509};
+ghost use Rattle.jwk_set.specs.declared.authority.PublicKey.TheVariants.{Ec, Rsa};
 
 use crate::authority::{Authority, PublicKey};
-use json::Writer;
+use crate::forms::{Certificate, NonEmptyText, UrlText};
+use serde_json::Value;
 use std::alloc::{AllocError, Global};
 
 /// What an element has beside the texts of its members, or a little more.
@@ -16,32 +19,9 @@ const FIXED_BYTES: usize = 80;
 pub(crate) fn write_text(alloc: Global, authority: &Authority) -> Result<String, AllocError>
     ensures { IfOk result (λ t. string_bytes t ≡ element_text authority.now) }
 {
-    let mut out = Writer::new(Vec::with_capacity(alloc, length_of(authority))?);
-    out.begin_object()?;
-    write_members(alloc, &mut out, authority)?;
-    match String::from_utf8(out.into_inner()) {
-        Ok(text) => Ok(text),
-        Err(_) => unreachable!(),
-    }
-}
-
-fn write_members(alloc: Global, out: &mut Writer, authority: &Authority) -> Result<(), AllocError>
-    ensures { OnOk result (AppendsTokens out.old out.new (member_tokens authority.now)) }
-{
-    match key_of(authority) {
-        PublicKey::Rsa { n, e } => write_rsa(alloc, out, authority, n.as_str(), e.as_str()),
-        PublicKey::Ec { crv, x, y } => {
-            write_ec(alloc, out, authority, crv.as_str(), x.as_str(), y.as_str())
-        }
-    }
-}
-
-fn key_of(authority: &Authority) -> &PublicKey
-    ensures { result.now ≡ key_of authority.now }
-{
-    match authority {
-        Authority::X509 { key, .. } | Authority::Jwt { key, .. } => key,
-    }
+    let mut out = String::with_capacity(alloc, length_of(authority))?;
+    push_authority(alloc, &mut out, authority)?;
+    Ok(out)
 }
 
 /// About how long the text is, so that it grows once: less only by what is escaped in it.
@@ -61,81 +41,152 @@ fn length_of(authority: &Authority) -> usize {
     role.saturating_add(key).saturating_add(FIXED_BYTES)
 }
 
-fn write_rsa(
+fn key_of(authority: &Authority) -> &PublicKey {
+    match authority {
+        Authority::X509 { key, .. } | Authority::Jwt { key, .. } => key,
+    }
+}
+
+fn push_authority(alloc: Global, out: &mut String, authority: &Authority) -> Result<(), AllocError>
+    ensures { OnOk result (string_bytes out.new ≡ string_bytes out.old
+        ++ element_text authority.now) }
+{
+    match authority {
+        Authority::X509 { key, der } => push_x509(alloc, out, key, der),
+        Authority::Jwt { kid, key } => push_jwt(alloc, out, kid, key),
+    }
+}
+
+fn push_x509(
     alloc: Global,
-    out: &mut Writer,
-    authority: &Authority,
-    n: &str,
-    e: &str,
+    out: &mut String,
+    key: &PublicKey,
+    der: &Certificate,
 ) -> Result<(), AllocError>
-    ensures { OnOk result (AppendsTokens out.old out.new (rsa_tokens authority.now n.now e.now)) }
+    ensures { OnOk result (string_bytes out.new ≡ string_bytes out.old
+        ++ element_text (X509 key.now der.now)) }
 {
-    write_member(out, "e", e)?;
-    write_kid(out, authority)?;
-    write_member(out, "kty", "RSA")?;
-    write_member(out, "n", n)?;
-    write_use(out, authority)?;
-    write_chain(alloc, out, authority)?;
-    out.end_object()
+    match key {
+        PublicKey::Rsa { n, e } => push_x509_rsa(out, n, e, der),
+        PublicKey::Ec { crv, x, y } => push_x509_ec(alloc, out, crv, x, y, der),
+    }
 }
 
-fn write_ec(
+fn push_jwt(
     alloc: Global,
-    out: &mut Writer,
-    authority: &Authority,
-    crv: &str,
-    x: &str,
-    y: &str,
+    out: &mut String,
+    kid: &NonEmptyText,
+    key: &PublicKey,
 ) -> Result<(), AllocError>
-    ensures { OnOk result (AppendsTokens out.old out.new
-        (ec_tokens authority.now crv.now x.now y.now)) }
+    ensures { OnOk result (string_bytes out.new ≡ string_bytes out.old
+        ++ element_text (Jwt kid.now key.now)) }
 {
-    write_member(out, "crv", crv)?;
-    write_kid(out, authority)?;
-    write_member(out, "kty", "EC")?;
-    write_use(out, authority)?;
-    write_member(out, "x", x)?;
-    write_chain(alloc, out, authority)?;
-    write_member(out, "y", y)?;
-    out.end_object()
-}
-
-fn write_kid(out: &mut Writer, authority: &Authority) -> Result<(), AllocError>
-    ensures { OnOk result (AppendsTokens out.old out.new (kid_tokens authority.now)) }
-{
-    match authority {
-        Authority::X509 { .. } => Ok(()),
-        Authority::Jwt { kid, .. } => write_member(out, "kid", kid.as_str()),
+    match key {
+        PublicKey::Rsa { n, e } => push_jwt_rsa(alloc, out, kid, n, e),
+        PublicKey::Ec { crv, x, y } => push_jwt_ec(alloc, out, kid, crv, x, y),
     }
 }
 
-fn write_use(out: &mut Writer, authority: &Authority) -> Result<(), AllocError>
-    ensures { OnOk result (AppendsTokens out.old out.new (use_tokens authority.now)) }
+fn push_x509_rsa(
+    out: &mut String,
+    n: &UrlText,
+    e: &UrlText,
+    der: &Certificate,
+) -> Result<(), AllocError>
+    ensures { OnOk result (string_bytes out.new ≡ string_bytes out.old
+        ++ element_text (X509 (Rsa n.now e.now) der.now)) }
 {
-    match authority {
-        Authority::X509 { .. } => write_member(out, "use", "x509-svid"),
-        Authority::Jwt { .. } => write_member(out, "use", "jwt-svid"),
-    }
+    out.push_str("{\"e\":\"")?;
+    out.push_str(e.as_str())?;
+    out.push_str("\",\"kty\":\"RSA\",\"n\":\"")?;
+    out.push_str(n.as_str())?;
+    out.push_str("\",\"use\":\"x509-svid\",\"x5c\":[\"")?;
+    der.push_base64(out)?;
+    out.push_str("\"]}")?;
+    Ok(())
 }
 
-fn write_chain(alloc: Global, out: &mut Writer, authority: &Authority) -> Result<(), AllocError>
-    ensures { OnOk result (AppendsTokens out.old out.new (chain_tokens authority.now)) }
+fn push_x509_ec(
+    alloc: Global,
+    out: &mut String,
+    crv: &NonEmptyText,
+    x: &UrlText,
+    y: &UrlText,
+    der: &Certificate,
+) -> Result<(), AllocError>
+    ensures { OnOk result (string_bytes out.new ≡ string_bytes out.old
+        ++ element_text (X509 (Ec crv.now x.now y.now) der.now)) }
 {
-    match authority {
-        Authority::X509 { der, .. } => {
-            let text = der.encode(alloc)?;
-            out.key("x5c")?;
-            out.begin_array()?;
-            out.string(text.as_str())?;
-            out.end_array()
-        }
-        Authority::Jwt { .. } => Ok(()),
-    }
+    push_string(alloc, out, "{\"crv\":", crv.as_str())?;
+    out.push_str(",\"kty\":\"EC\",\"use\":\"x509-svid\",\"x\":\"")?;
+    out.push_str(x.as_str())?;
+    out.push_str("\",\"x5c\":[\"")?;
+    der.push_base64(out)?;
+    out.push_str("\"],\"y\":\"")?;
+    out.push_str(y.as_str())?;
+    out.push_str("\"}")?;
+    Ok(())
 }
 
-fn write_member(out: &mut Writer, name: &str, text: &str) -> Result<(), AllocError>
-    ensures { OnOk result (AppendsTokens out.old out.new (text_tokens name.now text.now)) }
+fn push_jwt_rsa(
+    alloc: Global,
+    out: &mut String,
+    kid: &NonEmptyText,
+    n: &UrlText,
+    e: &UrlText,
+) -> Result<(), AllocError>
+    ensures { OnOk result (string_bytes out.new ≡ string_bytes out.old
+        ++ element_text (Jwt kid.now (Rsa n.now e.now))) }
 {
-    out.key(name)?;
-    out.string(text)
+    out.push_str("{\"e\":\"")?;
+    out.push_str(e.as_str())?;
+    push_string(alloc, out, "\",\"kid\":", kid.as_str())?;
+    out.push_str(",\"kty\":\"RSA\",\"n\":\"")?;
+    out.push_str(n.as_str())?;
+    out.push_str("\",\"use\":\"jwt-svid\"}")?;
+    Ok(())
+}
+
+fn push_jwt_ec(
+    alloc: Global,
+    out: &mut String,
+    kid: &NonEmptyText,
+    crv: &NonEmptyText,
+    x: &UrlText,
+    y: &UrlText,
+) -> Result<(), AllocError>
+    ensures { OnOk result (string_bytes out.new ≡ string_bytes out.old
+        ++ element_text (Jwt kid.now (Ec crv.now x.now y.now))) }
+{
+    push_string(alloc, out, "{\"crv\":", crv.as_str())?;
+    push_string(alloc, out, ",\"kid\":", kid.as_str())?;
+    out.push_str(",\"kty\":\"EC\",\"use\":\"jwt-svid\",\"x\":\"")?;
+    out.push_str(x.as_str())?;
+    out.push_str("\",\"y\":\"")?;
+    out.push_str(y.as_str())?;
+    out.push_str("\"}")?;
+    Ok(())
+}
+
+/// Adds the text as a JSON string, after its label.
+fn push_string(alloc: Global, out: &mut String, label: &str, text: &str) -> Result<(), AllocError>
+    ensures { OnOk result (string_bytes out.new ≡ string_bytes out.old
+        ++ (label.now ++ quoted text.now)) }
+{
+    out.push_str(label)?;
+    if !is_plain(text.as_bytes()) {
+        let string = Value::String(String::from_str(alloc, text)?).to_string(alloc)?;
+        return out.push_str(string.as_str());
+    }
+    out.push_str("\"")?;
+    out.push_str(text)?;
+    out.push_str("\"")?;
+    Ok(())
+}
+
+/// Whether the text stands in a JSON string as it is.
+fn is_plain(text: &[u8]) -> bool
+    ensures { IsTrue result ↔ AllPass is_unescaped text.now }
+{
+    text.iter().all(|b| *b != b'"' && *b != b'\\' && *b >= b' ')
 }

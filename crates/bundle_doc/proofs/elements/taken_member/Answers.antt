@@ -1,0 +1,9 @@
+use Rattle.std.proofs.Common.{ap, ◌∙◌, option_map}
+use Rattle.serde_json.specs.View.{view}
+use Rattle.serde_json.proofs.Views.{view-Object, view-lookup}
+use Rattle.bundle_doc.proofs.elements.taken_member.Goals as goal
+
+pub returns-in-Object : goal.returns-in-Object
+returns-in-Object c =
+    rw (c.in-Object.is, view-Object c.in-Object.members)
+    (ap (option_map view) c.remove.ensures.value ∙ view-lookup c.args.name.now c.in-Object.members.entries)
