@@ -1,24 +1,44 @@
 -- What a command answers where its source gave no bytes.
-use Rattle.std.proofs.Common.{◌≡◌, inl, Err, refl, List, ℕ, arith}
+use Rattle.std.proofs.Common.{◌≡◌, inl, inr, Ok, Err, Result, refl, List, ℕ, arith}
 use Rattle.receipt_core.specs.Acceptance.{Meaning}
 use Rattle.byte_lines.specs.declared.error.DeviceError.{DeviceError}
 use Rattle.byte_lines.specs.declared.error.DeviceError.TheVariants.{Io as SourceFailed}
 use Rattle.byte_lines.specs.declared.error.DeviceError.TheVariants.{NoMemory as NoMemoryForBytes}
 use Rattle.closure_core.specs.Changes.{HeldAndRoom, IsUnchanged}
-use Rattle.fedbundle.specs.CommandRun.{CommandRun, DeviceRun, HasFailed, WritesNothing, run_of, state_run}
-use Rattle.fedbundle.specs.Canon.{RunsCanon}
+use Rattle.fedbundle.specs.CommandRun.{CommandRun, DeviceRun, HasFailed, Reads, WritesNothing, run_of, state_run}
+use Rattle.fedbundle.specs.Canon.{RunsCanon, RunsCanonOn}
 use Rattle.fedbundle.specs.Errors.{of_read}
 use Rattle.fedbundle.specs.Explain.{ExplanationCall, RunsExplain}
 use Rattle.fedbundle.specs.Observe.{Fetched, RefusesToMake, RunsObserve}
 use Rattle.fedbundle.specs.declared.option_texts.OutputForm.{OutputForm}
 use Rattle.fedbundle.specs.declared.error.CommandError.{CommandError}
-use Rattle.fedbundle.specs.declared.error.CommandError.TheVariants.{Io, NoMemory, Observe}
+use Rattle.fedbundle.specs.declared.error.CommandError.TheVariants.{Config, Document, Full, Io, Journal, Name}
+use Rattle.fedbundle.specs.declared.error.CommandError.TheVariants.{NoMemory, Observe, Poll, Pull, Sync, Take}
 
 -- Where the source failed or memory ran out, nothing was written: the promise of `canon` at both.
 pub canon_unread : (run : CommandRun) (domain : List ℕ) (form : OutputForm) (e : DeviceError) → (e ≡ SourceFailed → HasFailed run.source)
     → WritesNothing run.sink → RunsCanon run domain form (Err (of_read e))
 canon_unread run domain form SourceFailed failed same = inl (failed refl, same)
 canon_unread run domain form NoMemoryForBytes failed same = same
+
+-- Where the source gave these bytes, what `canon` does to its sink on them is what it does.
+pub canon_read : (run : CommandRun) (bytes domain : List ℕ) (form : OutputForm) (r : Result (Unit {0}) CommandError) → Reads run.source bytes
+    → RunsCanonOn bytes run.sink domain form r → RunsCanon run domain form r
+canon_read run bytes domain form (Ok u) read (d, is, written) =
+    record { document = d; read = record { bytes = bytes; read = read; is = is }; written = written }
+canon_read run bytes domain form (Err Io) read (d, is, cut) = inr (record { document = d; read = record { bytes = bytes; read = read; is = is }; cut = cut })
+canon_read run bytes domain form (Err NoMemory) read h = h
+canon_read run bytes domain form (Err (Document why)) read (cause, unwritten) =
+    record { bytes = bytes; read = read; cause = cause; unwritten = unwritten }
+canon_read run bytes domain form (Err (Name e)) read h = absurd h
+canon_read run bytes domain form (Err (Config e)) read h = absurd h
+canon_read run bytes domain form (Err (Take e)) read h = absurd h
+canon_read run bytes domain form (Err (Observe e)) read h = absurd h
+canon_read run bytes domain form (Err (Poll e)) read h = absurd h
+canon_read run bytes domain form (Err (Sync e)) read h = absurd h
+canon_read run bytes domain form (Err (Journal e)) read h = absurd h
+canon_read run bytes domain form (Err (Pull e)) read h = absurd h
+canon_read run bytes domain form (Err Full) read h = absurd h
 
 -- the same of `explain`
 pub explain_unread : (run : CommandRun) (m : Meaning) (call : ExplanationCall) (e : DeviceError)

@@ -5,8 +5,10 @@ use Rattle.hex.specs.Hex.{encode_lower}
 use Rattle.jwk_set.specs.declared.authority.Authority.{Authority}
 use Rattle.jwk_set.specs.declared.authority.KeyId.{KeyId}
 use Rattle.jwk_set.specs.Element.{key_id_of}
-use Rattle.bundle_doc.specs.Bundle.{Bundle, canonical_text, doc_id_of}
-use Rattle.fedbundle.specs.CommandRun.{CommandRun, ReadsDocument, RefusesDocument, PrintsText}
+use Rattle.bundle_doc.specs.Bundle.{Bundle, IsDocument, canonical_text, doc_id_of}
+use Rattle.bundle_doc.specs.Refusal.{RefusesBytes}
+use Rattle.fedbundle.specs.CommandRun.{CommandRun, DeviceRun, ReadsDocument, RefusesDocument}
+use Rattle.fedbundle.specs.CommandRun.{PrintsText}
 use Rattle.fedbundle.specs.CommandRun.{WritesNothing, CutsOff, FailsToRead}
 use Rattle.bundle_json.specs.DocumentJson.{document_json}
 use Rattle.fedbundle.specs.declared.option_texts.OutputForm.{OutputForm}
@@ -62,3 +64,16 @@ RunsCanon run domain form (Err Io) = FailsToRead run ⊎ CutsCanon run domain fo
 RunsCanon run domain form (Err NoMemory) = WritesNothing run.sink
 RunsCanon run domain form (Err (Document why)) = RefusesDocument run why
 RunsCanon run domain form (Err _) = ⊥
+
+-- The same of bytes that were read already: by the answer, the text of the document was written;
+-- the sink failed; nothing was written, as memory ran out or the bytes are no document.
+abbrev pub RunsCanonOn : List ℕ → DeviceRun → List ℕ → OutputForm
+    → Result (Unit {0}) CommandError → Type 0
+RunsCanonOn bytes sink domain form (Ok _) = (document : Bundle) × IsDocument bytes document
+    × PrintsText sink (canon_in form domain document)
+RunsCanonOn bytes sink domain form (Err Io) = (document : Bundle) × IsDocument bytes document
+    × CutsOff sink (canon_in form domain document)
+RunsCanonOn bytes sink domain form (Err NoMemory) = WritesNothing sink
+RunsCanonOn bytes sink domain form (Err (Document why)) = RefusesBytes bytes why
+    × WritesNothing sink
+RunsCanonOn bytes sink domain form (Err _) = ⊥

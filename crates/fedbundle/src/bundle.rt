@@ -7,6 +7,7 @@ ghost use Rattle.fedbundle.specs.CurrentBundle.{RunsBundle, RunsBundlePem, bundl
 ghost use Rattle.pem_text.specs.Pem.{certificates_pem};
 
 use crate::error::CommandError;
+use crate::two_parts::write_both;
 use bundle_doc::Document;
 use bundle_view::current;
 use byte_lines::{Fault, Sink, write_all};
@@ -77,7 +78,5 @@ fn write_document<W: Sink>(document: &Document, sink: &mut W) -> Result<(), Faul
         (bundle_text document.now) }
     ensures io { IsErr result → W.has_failed sink.new ≡ true }
 {
-    byte_lines::laws::pieces();
-    write_all(sink, document.canonical())?;
-    write_all(sink, b"\n")
+    write_both(sink, document.canonical(), b"\n")
 }

@@ -1,16 +1,18 @@
 //! `canon`: a bundle document as it was fetched, printed in its canonical form with its ids.
 ghost use Rattle.std.specs.Prelude.{◌≡◌, ◌++◌, IfOk, IsErrOf, OnOk};
-ghost use Rattle.fedbundle.specs.Canon.{RunsCanon, canon_in, canon_text, digest_line, key_line};
-ghost use Rattle.fedbundle.specs.Canon.{key_lines};
+ghost use Rattle.fedbundle.specs.Canon.{RunsCanon, RunsCanonOn, canon_in, canon_text, digest_line};
+ghost use Rattle.fedbundle.specs.Canon.{key_line, key_lines};
 ghost use Rattle.fedbundle.specs.CommandRun.{device_run, run_of};
 ghost use Rattle.fedbundle.specs.declared.error.CommandError.TheVariants.{Io};
+ghost use Rattle.bundle_doc.specs.Bundle.{canonical_text};
 ghost use Rattle.jwk_set.specs.Element.{key_id_of};
 
 use crate::error::CommandError;
 use crate::option_texts::OutputForm;
+use crate::two_parts::write_both;
 use bundle_doc::{Document, MAX_DOCUMENT_BYTES};
 use bundle_json::document_json;
-use byte_lines::{Sink, Source, push_digits, read_up_to, write_all};
+use byte_lines::{Sink, Source, push_digits, read_up_to};
 use jwk_set::Authority;
 use spiffe_name::TrustDomain;
 use std::alloc::{AllocError, Global};
@@ -43,30 +45,60 @@ pub fn run_canon<R: Source, W: Sink>(
         × (W.has_failed sink.new ≡ W.has_failed sink.old) }
 {
     let bytes = read_up_to(alloc, source, MAX_DOCUMENT_BYTES + 1)?;
-    let document = Document::read(alloc, bytes.as_slice())?;
-    let text = canon_in(alloc, form, domain, &document)?;
-    write_all(sink, text.as_slice())?;
+    run_canon_bytes(alloc, domain, form, bytes.as_slice(), sink)
+}
+
+/// Writes the same of bytes that were read already.
+///
+/// # Errors
+/// `Document` where the bytes are no document, `NoMemory` where memory ran out: then nothing was
+/// written. `Io` where the sink failed, which then holds a beginning of the text.
+pub fn run_canon_bytes<W: Sink>(
+    alloc: Global,
+    domain: &TrustDomain,
+    form: OutputForm,
+    bytes: &[u8],
+    sink: &mut W,
+) -> Result<(), CommandError>
+    ensures runs { RunsCanonOn bytes.now (device_run W.contents W.has_failed sink.old sink.new)
+        domain.now form result }
+
+    // A fault of the sink is not passed over, or reported as another error.
+    ensures sound { (IsErrOf result Io → ⊥) → (W.has_failed sink.new ≡ W.has_failed sink.old) }
+{
+    let document = Document::read(alloc, bytes)?;
+    let (canonical, rest) = parts_in(alloc, form, domain, &document)?;
+    write_both(sink, canonical, rest.as_slice())?;
     Ok(())
 }
 
-fn canon_in(
+// The text in two parts. In a text the first one is the document's own, so it is not copied.
+fn parts_in<'a>(
     alloc: Global,
     form: OutputForm,
     domain: &TrustDomain,
-    document: &Document,
-) -> Result<Vec<u8>, AllocError>
-    ensures { IfOk result (λ text. text.items ≡ canon_in form domain.now document.now) }
+    document: &'a Document,
+) -> Result<(&'a [u8], Vec<u8>), AllocError>
+    ensures { IfOk result (λ r. r.0.now ++ r.1.items ≡ canon_in form domain.now document.now) }
 {
     match form {
-        OutputForm::Text => render(alloc, domain, document),
-        OutputForm::Json => document_json(alloc, domain, document),
+        OutputForm::Text => {
+            let ids = ids_of(alloc, domain, document)?;
+            Ok((document.canonical(), ids))
+        }
+        OutputForm::Json => {
+            let json = document_json(alloc, domain, document)?;
+            Ok((&[], json))
+        }
     }
 }
 
-fn render(alloc: Global, domain: &TrustDomain, document: &Document) -> Result<Vec<u8>, AllocError>
-    ensures { IfOk result (λ text. text.items ≡ canon_text domain.now document.now) }
+// What follows the canonical text.
+fn ids_of(alloc: Global, domain: &TrustDomain, document: &Document) -> Result<Vec<u8>, AllocError>
+    ensures { IfOk result (λ text. canonical_text document.now ++ text.items
+        ≡ canon_text domain.now document.now) }
 {
-    let mut out = Vec::from_slice(alloc, document.canonical())?;
+    let mut out = Vec::new(alloc);
     out.push(b'\n')?;
     push_digest(&mut out, b"id ", &document.id(domain).0)?;
     push_keys(&mut out, document.authorities())?;

@@ -28,10 +28,11 @@ mod run_error;
 mod serve;
 mod sessions;
 mod state;
+mod two_parts;
 mod words;
 
 pub use bundle::{run_bundle, run_bundle_pem};
-pub use canon::run_canon;
+pub use canon::{run_canon, run_canon_bytes};
 pub use chain_text::ExplanationForm;
 pub use command_name::{CommandName, OptionName};
 pub use counts::write_counted;

@@ -8,11 +8,10 @@ use crate::{
     at_replica, changing, command_line, exchange, lacking, options, printing, reasons, showing,
     staying,
 };
-use byte_lines::FromRead;
 use fed_config::Config;
 use fedbundle::{
     Call, CommandError, CommandName, Exit, OptionName, OutputForm, WordsError, given, manner_of,
-    read_output_form, read_words, run_canon, run_report_into, wanted,
+    read_output_form, read_words, run_canon_bytes, run_report_into, wanted,
 };
 use spiffe_name::TrustDomain;
 use trust_closure::{Closure, IndexedClosure};
@@ -113,13 +112,7 @@ fn canon_of(
     form: OutputForm,
     bytes: &[u8],
 ) -> Result<u8, Exit> {
-    run_canon(
-        rt.alloc(),
-        domain,
-        form,
-        &mut FromRead::new(bytes),
-        &mut output(rt),
-    )?;
+    run_canon_bytes(rt.alloc(), domain, form, bytes, &mut output(rt))?;
     Ok(0)
 }
 

@@ -1,6 +1,7 @@
 use Rattle.std.proofs.Common.{◌∙◌, ap, refl, Err, Vec, Global, ℕ}
 use Rattle.std.proofs.lemmas.Result.{err_from_is_err_and}
-use Rattle.fedbundle.proofs.CommandFacts.{canon_unread}
+use Rattle.fedbundle.specs.CommandRun.{device_run, run_of}
+use Rattle.fedbundle.proofs.CommandFacts.{canon_read, canon_unread}
 use Rattle.fedbundle.proofs.DeviceFacts.{read_sound}
 use Rattle.fedbundle.proofs.canon.run_canon.Goals as goal
 
@@ -14,12 +15,9 @@ returns-in_err-bytes-clause-runs g c =
     let exit = err_from_is_err_and c.from_residual.result c.from_residual.ensures.1 in
     rw (exit.1, exit.2) (canon_unread _ _ _ c.in_err-bytes.field-0.0 (λ io. c.in_err-bytes.ensures.io (ap Err io)) refl)
 
-pub returns-in_err-document-clause-runs : goal.returns-in_err-document-clause-runs
-returns-in_err-document-clause-runs g c =
-    let exit = err_from_is_err_and c.from_residual-in_err-document.result c.from_residual-in_err-document.ensures.1 in
-    rw (exit.1, exit.2) (record {
-      bytes = c.in_ok-bytes.bytes.items;
-      read = c.in_ok-bytes.ensures.bytes;
-      cause = rw c.as_slice.ensures.value at c.in_err-document.ensures;
-      unwritten = refl;
-    })
+pub returns-clause-runs : goal.returns-clause-runs
+returns-clause-runs g c =
+    let source = device_run g.R.Source.remaining g.R.Source.has_failed c.args.source.now c.read_up_to.new.source in
+    let sink = device_run g.W.Sink.contents g.W.Sink.has_failed c.args.sink.now c.run_canon_bytes.new.sink in
+    canon_read (run_of source sink) c.in_ok-bytes.bytes.items c.args.domain.now c.args.form c.run_canon_bytes.result c.in_ok-bytes.ensures.bytes
+    (rw c.as_slice.ensures.value at c.run_canon_bytes.ensures.runs)

@@ -1,4 +1,4 @@
-use Rattle.std.proofs.Common.{◌≡◌, ◌||◌, ◌∙◌, ap}
+use Rattle.std.proofs.Common.{◌||◌, ◌∙◌, ap}
 use Rattle.fedbundle.proofs.DeviceFacts.{snapshot_fault}
 use Rattle.fedbundle.proofs.migrate.print_snapshot.Goals as goal
 

@@ -1,4 +1,4 @@
-use Rattle.std.proofs.Common.{◌≡◌, refl}
+use Rattle.std.proofs.Common.{refl}
 use Rattle.std.proofs.lemmas.Result.{err_from_is_err_and}
 use Rattle.fedbundle.proofs.MigrateFacts.{stopped, cut}
 use Rattle.fedbundle.proofs.migrate.run_migrate.Goals as goal
