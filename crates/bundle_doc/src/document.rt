@@ -45,10 +45,10 @@ pub struct DocId(pub [u8; 32]);
 /// No clause speaks of these; the figures are measured. A document keeps its authorities and its
 /// canonical text, which is made with its length. What reading takes beside these is mostly the
 /// tree that `serde_json` builds of the whole text, with some allocations for each object in it. So
-/// a text of 1 MiB takes some 6 MB where it is one large certificate, some 25 MB where it is many
+/// a text of 1 MiB takes some 6 MB where it is one large certificate, some 20 MB where it is many
 /// small authorities, 135 MB where it is nothing but elements `{"":0}`, and 186 MB, the most that
-/// was seen, where objects nest 124 deep. The tree is given up before the canonical text is
-/// written. The work grows as n log n in the number n of elements.
+/// was seen, where objects nest 124 deep. Of a text each element of the tree is given up once it is
+/// read. The work grows as n log n in the number n of elements.
 #[derive(Debug, Drop)]
 pub struct Document {
     authorities: Vec<Authority>,

@@ -17,12 +17,16 @@ pub(crate) struct Places<T> {
     keeps_more: bool,
 }
 
-/// A place: a value, what tells its text, and what tells the last text that came and was not kept.
+/// A place: a value, what tells its text, and what tells a text that came and was not kept. Texts
+/// that want one place in turn would drive out each other. So a value that was found since another
+/// text wanted its place stays, and a text is given up only for the second other one that comes.
 #[derive(Drop)]
 struct Place<T> {
     kept: Option<Box<T>>,
     tag: u32,
     other_tag: u32,
+    was_found: bool,
+    is_doubted: bool,
 }
 
 impl<T: Drop> Places<T> {
@@ -80,22 +84,34 @@ impl<T: Drop> Places<T> {
 
 impl<T: Drop> Place<T> {
     fn known(&mut self, tag: u32) -> Option<&mut T> {
+        if tag != self.tag {
+            return None;
+        }
+        self.was_found = true;
         match &mut self.kept {
-            Some(kept) if tag == self.tag => Some(&mut **kept),
-            _ => None,
+            Some(kept) => Some(&mut **kept),
+            None => None,
         }
     }
 
-    // Whether the last text that was not kept has this tag, as the next one has.
+    // Whether the text with this tag came before, and may have the place now.
     fn comes_again(&mut self, tag: u32) -> bool {
-        let again = tag == self.other_tag;
-        self.other_tag = tag;
-        again
+        if tag == self.other_tag {
+            let stays = self.was_found;
+            self.was_found = false;
+            return !stays;
+        }
+        if self.is_doubted {
+            self.other_tag = tag;
+        }
+        self.is_doubted = !self.is_doubted;
+        false
     }
 
     fn keep(&mut self, tag: u32, value: Box<T>) {
         self.tag = tag;
         self.kept = Some(value);
+        self.was_found = false;
     }
 }
 
@@ -107,6 +123,8 @@ fn empty_places<T: Drop>(alloc: Global) -> Vec<Place<T>> {
             kept: None,
             tag: 0,
             other_tag: 0,
+            was_found: false,
+            is_doubted: true,
         };
         // Without memory there are fewer places.
         if places.push(place).is_err() {
