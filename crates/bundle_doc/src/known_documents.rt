@@ -10,8 +10,8 @@ use std::alloc::Global;
 /// that came twice is compared and not hashed again.
 ///
 /// At most 4,096 authorities are kept with their texts, none of more than 4,096 bytes, and at most
-/// 4,096 beginnings of at most 4,096 bytes. So they take at most some 30 MiB each. The first bytes
-/// of a text tell its place, and what was there before is forgotten. No result depends on what is
+/// 4,096 beginnings of at most 4,096 bytes. So they take at most some 30 MiB each. A few bytes of a
+/// text tell its place, and of texts that want one place one is kept. No result depends on what is
 /// kept.
 #[derive(Drop)]
 pub struct KnownDocuments {
