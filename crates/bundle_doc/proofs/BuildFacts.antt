@@ -72,8 +72,8 @@ module _ (tree : Data) (es : List Entry) (rank hint : Option ℕ) (contents : Is
     keys = contents.keys;
     has_keys = contents.has_keys;
     authorities = λ a. subst (λ l. (Has l a → Says contents.keys a) × (Says contents.keys a → Has l a)) (sym is.authorities) (contents.gathered.authorities a);
-    rank = subst (HasNumberMember tree (codes "spiffe_sequence")) (sym is.same_rank) contents.has_rank;
-    hint = subst (HasNumberMember tree (codes "spiffe_refresh_hint")) (sym is.same_hint) contents.has_hint;
+    rank = subst (HasNumberMember tree (codes "spiffe_sequence")) (sym is.same_rank) contents.numbers.has_rank;
+    hint = subst (HasNumberMember tree (codes "spiffe_refresh_hint")) (sym is.same_hint) contents.numbers.has_hint;
     is = is.is;
   }
 
@@ -86,7 +86,7 @@ module _ (tree : Data) (es : List Entry) (rank hint : Option ℕ) (contents : Is
   RefusesTree-contents BadSequence h = absurd h
   RefusesTree-contents BadRefreshHint h = absurd h
   RefusesTree-contents CanonicalTooLong h = (h.0, Means-contents h.0 h.1, h.2)
-  RefusesTree-contents NoMemory h = ((contents.keys, contents.has_keys), (rank, contents.has_rank), (hint, contents.has_hint))
+  RefusesTree-contents NoMemory h = ((contents.keys, contents.has_keys), (rank, contents.numbers.has_rank), (hint, contents.numbers.has_hint))
 
 -- ---- from the contents of bytes
 

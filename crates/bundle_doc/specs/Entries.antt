@@ -53,10 +53,7 @@ pub record IsContents (tree : Data) (es : List Entry) (rank hint : Option ℕ) :
   pub keys : Items
   pub has_keys : HasKeys tree keys
   pub gathered : IsGathered keys es
-  pub has_rank : HasNumberMember tree (codes "spiffe_sequence") rank
-  pub has_hint : HasNumberMember tree (codes "spiffe_refresh_hint") hint
-  pub rank_fits : FitsWord rank
-  pub hint_fits : FitsWord hint
+  pub numbers : HasNumbers tree rank hint
 
 -- what the bytes say of a document
 pub record IsContentsOfText (bytes : List ℕ) (es : List Entry) (rank hint : Option ℕ) : Type 0 where

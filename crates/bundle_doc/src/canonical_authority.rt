@@ -1,6 +1,6 @@
 //! Authorities read from their canonical texts, with no JSON tree between. Each function says which
 //! part of the text it read and what is left, on `Ok` alone.
-ghost use Rattle.std.specs.Prelude.{◌≡◌, ◌++◌, ◌↔◌, IfOk, IsTrue, MatchOption, Ok};
+ghost use Rattle.std.specs.Prelude.{◌≡◌, ◌++◌, IfOk, MatchOption, Ok};
 ghost use Rattle.std.specs.List.{AllPass};
 ghost use Rattle.base64.specs.Engines.{standard};
 ghost use Rattle.base64.specs.GeneralPurpose.{encode_of};
@@ -9,7 +9,7 @@ ghost use Rattle.jwk_set.specs.Forms.{IsCertificate, IsNonEmptyText, IsUrlText};
 ghost use Rattle.jwk_set.specs.Json.{is_unescaped};
 ghost use Rattle.bundle_doc.specs.CanonicalReader.{ReadsAuthority, ReadsText, SplitsPlain};
 
-use jwk_set::{Authority, Certificate, NonEmptyText, PublicKey, UrlText};
+use jwk_set::{Authority, Certificate, NonEmptyText, PublicKey, UrlText, is_plain, is_plain_byte};
 use memchr::memchr;
 use std::alloc::{AllocError, AllocFailed, Global};
 
@@ -197,7 +197,7 @@ fn first_stop(text: &[u8]) -> Option<usize>
         (FirstFails is_unescaped text.now) }
 {
     if let Some(place) = memchr(b'"', text) {
-        if are_unescaped(&text[..place]) {
+        if is_plain(&text[..place]) {
             return Some(place);
         }
     }
@@ -209,22 +209,5 @@ fn first_escaped(text: &[u8]) -> Option<usize>
     ensures { MatchOption result (AllPass is_unescaped text.now)
         (FirstFails is_unescaped text.now) }
 {
-    text.iter().position(|byte| !is_unescaped(*byte))
-}
-
-/// Each byte is tested, also after one that fails: so the processor tests many at once.
-fn are_unescaped(text: &[u8]) -> bool
-    ensures { IsTrue result ↔ AllPass is_unescaped text.now }
-{
-    let mut passed = true;
-    for byte in text {
-        passed &= is_unescaped(*byte);
-    }
-    passed
-}
-
-fn is_unescaped(byte: u8) -> bool
-    ensures { result ≡ is_unescaped byte }
-{
-    (byte != b'"') & (byte != b'\\') & (byte >= b' ')
+    text.iter().position(|byte| !is_plain_byte(*byte))
 }

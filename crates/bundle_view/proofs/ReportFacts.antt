@@ -17,7 +17,7 @@ use Rattle.bundle_view.specs.Conflicts.{AreConflicts, ReportedConflict, reported
 use Rattle.bundle_view.specs.Inside.Groups.{AddsConflicts}
 use Rattle.bundle_view.specs.Inside.Sections.{HasReportHead, AddsSection, HasSections}
 use Rattle.bundle_view.specs.Report.{Section, IsSection, IsReport, report_text, head_text, section_text, current_line}
-use Rattle.bundle_view.specs.Report.{accepted_line, conflict_line, distrust_line, records_of, document_text}
+use Rattle.bundle_view.specs.Report.{accepted_line, conflict_line, reported_distrust_line, records_of, document_text}
 use Rattle.bundle_view.specs.Report.{sequence_text}
 use Rattle.closure_core.proofs.ContainsFacts.{contains_first, contains_later}
 use Rattle.bundle_view.proofs.RisingListFacts.{same_list, joined}
@@ -125,13 +125,13 @@ section_made : (records : List Distrust) (s : Section) (o x y z u v : List ℕ)
     → x ≡ o ++ (codes "domain " ++ (s.domain ++ codes "\n")) → y ≡ x ++ current_line s.domain s.current
     → z ≡ y ++ flat_map (accepted_line s.domain) s.accepted
     → u ≡ z ++ flat_map conflict_line (map (reported_conflict s.domain) s.conflicts)
-    → v ≡ u ++ flat_map distrust_line (records_of s.domain records)
+    → v ≡ u ++ flat_map reported_distrust_line (records_of s.domain records)
     → v ≡ o ++ section_text records s
 section_made records s o x y z u v p q r a b =
     joined o (codes "domain " ++ (s.domain ++ codes "\n")) _ x v p
     (joined x (current_line s.domain s.current) _ y v q
     (joined y (flat_map (accepted_line s.domain) s.accepted) _ z v r
-    (joined z (flat_map conflict_line (map (reported_conflict s.domain) s.conflicts)) (flat_map distrust_line (records_of s.domain records)) u v a b)))
+    (joined z (flat_map conflict_line (map (reported_conflict s.domain) s.conflicts)) (flat_map reported_distrust_line (records_of s.domain records)) u v a b)))
     ∙ ap (λ t. o ++ t) (append_assoc (codes "domain ") (s.domain ++ codes "\n") _ ∙ ap (λ t. codes "domain " ++ t) (append_assoc s.domain (codes "\n") _))
 
 -- what `push_section` writes is the section of the domain
@@ -139,7 +139,7 @@ pub section_added : (m : Meaning) (domain : List ℕ) (documents : List Bundle) 
     (none found : List ReportedConflict) (o x y z u v : List ℕ)
     → IsAcceptedList m domain documents → IsCurrent m domain current → none ≡ [] → AddsConflicts domain documents none found
     → x ≡ o ++ (codes "domain " ++ (domain ++ codes "\n")) → y ≡ x ++ current_line domain current → z ≡ y ++ flat_map (accepted_line domain) documents
-    → u ≡ z ++ flat_map conflict_line found → v ≡ u ++ flat_map distrust_line (records_of domain m.records) → AddsSection m domain o v
+    → u ≡ z ++ flat_map conflict_line found → v ≡ u ++ flat_map reported_distrust_line (records_of domain m.records) → AddsSection m domain o v
 section_added m domain documents current none found o x y z u v list is_current empty adds p q r a b =
     let s : Section = record { domain = domain; current = current; accepted = documents; conflicts = adds.clashes } in
     let told_all : found ≡ map (reported_conflict domain) adds.clashes = adds.now ∙ ap (λ t. t ++ map (reported_conflict domain) adds.clashes) empty in

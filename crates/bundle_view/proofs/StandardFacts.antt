@@ -10,7 +10,7 @@ use Rattle.closure_core.specs.AcceptedList.{document_cmp}
 use Rattle.bundle_view.specs.declared.conflict.ConflictKind.TheVariants.{Keys, HintOnly}
 use Rattle.bundle_view.specs.Current.{IsNoLower}
 use Rattle.bundle_view.specs.Conflicts.{IsOfKind}
-use Rattle.bundle_view.specs.Report.{current_line, conflict_line, distrust_line, records_of, sequence_text}
+use Rattle.bundle_view.specs.Report.{current_line, conflict_line, reported_distrust_line, records_of, sequence_text}
 use Rattle.closure_core.proofs.ContainsFacts.{contains_first, contains_later, contains_none, contains_cases}
 
 -- a document from its parts
@@ -120,7 +120,7 @@ unfolding encode_with
 conflict_of_hints = refl
 
 -- the line of a record of distrust
-distrusted : distrust_line (record { domain = codes "a.example"; key = record { 0 = 186 ∷ 120 ∷ 22 ∷ 191 ∷ [] } }) ≡ codes "  distrust ba7816bf\n"
+distrusted : reported_distrust_line (record { domain = codes "a.example"; key = record { 0 = 186 ∷ 120 ∷ 22 ∷ 191 ∷ [] } }) ≡ codes "  distrust ba7816bf\n"
 unfolding encode_with
 distrusted = refl
 

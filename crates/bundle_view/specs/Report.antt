@@ -52,8 +52,8 @@ abbrev pub conflict_line : ReportedConflict → List ℕ
 conflict_line c = codes "  conflict "
     ++ (decimal c.sequence ++ (kind_text c.kind ++ (flat_map id_text c.documents ++ codes "\n")))
 
-abbrev pub distrust_line : Distrust → List ℕ
-distrust_line x = codes "  distrust " ++ (encode_lower x.key.0 ++ codes "\n")
+abbrev pub reported_distrust_line : Distrust → List ℕ
+reported_distrust_line x = codes "  distrust " ++ (encode_lower x.key.0 ++ codes "\n")
 
 -- ---- a domain
 
@@ -76,7 +76,7 @@ section_text records s =
     ++ (codes "\n" ++ (current_line s.domain s.current
     ++ (flat_map (accepted_line s.domain) s.accepted
     ++ (flat_map conflict_line (map (reported_conflict s.domain) s.conflicts)
-    ++ flat_map distrust_line (records_of s.domain records))))))
+    ++ flat_map reported_distrust_line (records_of s.domain records))))))
 
 -- What it says of a domain is so.
 pub record IsSection (m : Meaning) (s : Section) : Type 0 where

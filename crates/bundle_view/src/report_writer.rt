@@ -3,7 +3,7 @@ ghost use Rattle.std.specs.Prelude.{◌≡◌, ◌++◌, ◌||◌, true, List, m
 ghost use Rattle.std.specs.Prelude.{codes, flat_map, option_copied};
 ghost use Rattle.bundle_view.specs.Conflicts.{reported_by};
 ghost use Rattle.bundle_view.specs.Report.{IsReport, WritesReport, BeginsReport, accepted_line};
-ghost use Rattle.bundle_view.specs.Report.{conflict_line, current_line, distrust_line};
+ghost use Rattle.bundle_view.specs.Report.{conflict_line, current_line, reported_distrust_line};
 ghost use Rattle.bundle_view.specs.Report.{document_text, head_text, id_text, kind_text};
 ghost use Rattle.bundle_view.specs.Report.{is_report_fault, records_of, sequence_text};
 ghost use Rattle.bundle_view.specs.Inside.Sections.{AddsSection, HasReportHead};
@@ -206,7 +206,7 @@ fn push_distrusts<C: Closure>(
     domain: &TrustDomain,
 ) -> Result<(), AllocError>
     ensures { OnOk result (out.new.items
-        ≡ out.old.items ++ flat_map distrust_line
+        ≡ out.old.items ++ flat_map reported_distrust_line
         (records_of domain.now (C.state closure.now).meaning.records)) }
 {
     for (of, key) in closure.distrusts() {

@@ -23,15 +23,15 @@ pub record Written : Type 0 where
   pub relationships : List RelationshipText
   pub seeds : List SeedText
 
-abbrev pub count_of : Members → ℕ
-count_of no_members = 0
-count_of (member name d others) = suc (count_of others)
+abbrev pub member_count : Members → ℕ
+member_count no_members = 0
+member_count (member name d others) = suc (member_count others)
 
 -- The value is an object with so many members. With as many names that are found in it, these are
 -- all.
 abbrev pub HasCount : Data → ℕ → Type 0
 HasCount tree count = (members : Members) × (as_object tree ≡ Some members)
-    × (count_of members ≡ count)
+    × (member_count members ≡ count)
 
 -- an object with exactly these four members, all texts
 pub record SaysRelationshipText (tree : Data) (t : RelationshipText) : Type 0 where

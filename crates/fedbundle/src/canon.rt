@@ -48,7 +48,7 @@ pub fn run_canon<R: Source, W: Sink>(
     run_canon_bytes(alloc, domain, form, bytes.as_slice(), sink)
 }
 
-/// Writes the same of bytes that were read already.
+/// Writes what [`run_canon`] writes, of bytes that were read already.
 ///
 /// # Errors
 /// `Document` where the bytes are no document, `NoMemory` where memory ran out: then nothing was

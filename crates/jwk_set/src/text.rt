@@ -1,15 +1,14 @@
 //! The text of an authority's element, member by member in the order of their names: the texts of
 //! its members, and between them what each element of its kind has.
-ghost use Rattle.std.specs.Prelude.{◌≡◌, ◌++◌, ◌↔◌, IfOk, IsTrue, OnOk, string_bytes};
-ghost use Rattle.std.specs.List.{AllPass};
+ghost use Rattle.std.specs.Prelude.{◌≡◌, ◌++◌, IfOk, OnOk, string_bytes};
 ghost use Rattle.json.specs.Print.{quoted};
 ghost use Rattle.jwk_set.specs.Element.{element_text};
-ghost use Rattle.jwk_set.specs.Json.{is_unescaped};
 ghost use Rattle.jwk_set.specs.declared.authority.Authority.TheVariants.{Jwt, X509};
 ghost use Rattle.jwk_set.specs.declared.authority.PublicKey.TheVariants.{Ec, Rsa};
 
 use crate::authority::{Authority, PublicKey};
 use crate::forms::{Certificate, NonEmptyText, UrlText};
+use crate::plain_text::is_plain;
 use serde_json::Value;
 use std::alloc::{AllocError, Global};
 
@@ -182,11 +181,4 @@ fn push_string(alloc: Global, out: &mut String, label: &str, text: &str) -> Resu
     out.push_str(text)?;
     out.push_str("\"")?;
     Ok(())
-}
-
-/// Whether the text stands in a JSON string as it is.
-fn is_plain(text: &[u8]) -> bool
-    ensures { IsTrue result ↔ AllPass is_unescaped text.now }
-{
-    text.iter().all(|b| *b != b'"' && *b != b'\\' && *b >= b' ')
 }
