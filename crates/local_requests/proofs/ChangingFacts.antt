@@ -183,7 +183,7 @@ none_journalled state (Err exit) none = tt
 
 -- what is replied to a call is replied to the line of its words
 pub line_called : (line : List ℕ) (words : List (List ℕ)) (run : CallRun) (result : Result Reply RequestFault) → SaysWords line words
-    → CallsInRequest words run.name run.texts → IfOk result (RepliesToCall run) → IfOk result (RepliesTo line run.change)
+    → CallsInRequest words run.name run.texts → IfOk result (RepliesToCall run) → IfOk result (RepliesTo line run.running run.change)
 line_called line words run (Ok reply) says calls replied = record {
   words = words;
   says = says;

@@ -1,7 +1,7 @@
 -- What comes of a request, in the words of the command's function over files: its source has the
 -- input, and its sink, which held nothing, holds the output.
 use Rattle.std.specs.Prelude.{◌≡◌, ◌⊎◌, ℕ, ℤ, List, [], Bool, true, false, Option, Some, None}
-use Rattle.std.specs.Prelude.{Result, Ok, Err, if◌then◌else◌}
+use Rattle.std.specs.Prelude.{Result, Ok, Err, if◌then◌else◌, map, option_map}
 use Rattle.hex.specs.Hex.{decode_sized}
 use Rattle.spiffe_name.specs.SpiffeId.{IsId, RefusesId}
 use Rattle.spiffe_name.specs.TrustDomain.{IsDomainText, RefusesDomain}
@@ -22,7 +22,8 @@ use Rattle.fedbundle.specs.OptionTexts.{SaysFlag, SaysMoment, SaysStatusFormat, 
 use Rattle.fedbundle.specs.declared.chain_text.ExplanationForm.{ExplanationForm}
 use Rattle.fedbundle.specs.declared.option_texts.BundleFormat.{BundleFormat}
 use Rattle.fedbundle.specs.declared.option_texts.BundleFormat.TheVariants.{Json, Pem}
-use Rattle.status_view.specs.StatusRuns.{IsStatusIn, IsWarned}
+use Rattle.status_view.specs.StatusRuns.{IsRunningStatusIn, IsWarned}
+use Rattle.status_view.specs.declared.running.RunningStatus.{RunningStatus}
 use Rattle.status_view.specs.declared.status_writer.StatusFormat.{StatusFormat}
 use Rattle.fedbundle.specs.declared.command_name.CommandName.{CommandName}
 use Rattle.fedbundle.specs.declared.command_name.CommandName.TheVariants as command
@@ -39,6 +40,7 @@ use Rattle.fedbundle.specs.declared.exits.Exit.TheVariants.{NoBundle, NotAccepte
 use Rattle.fedbundle.specs.declared.exits.Exit.TheVariants.{Usage, BadNumber, BadKey, BadMoment}
 use Rattle.fedbundle.specs.declared.exits.Exit.TheVariants.{TooManyBytes}
 use Rattle.fedbundle.specs.Words.{CallsInRequest}
+use Rattle.fedbundle.specs.declared.words.Call.{Call}
 use Rattle.replica_requests.specs.RequestLines.{SaysWords}
 use Rattle.local_requests.specs.Replies.{first_line}
 use Rattle.local_requests.specs.declared.reply.Reply.{Reply}
@@ -233,10 +235,12 @@ IsEnded reply exit = (line : List ℕ) × IsExitLine exit line
 
 -- ---- a call
 
--- a call whose words were read, its input, and what is held before and after
+-- a call whose words were read, what the replica says of itself, the input, and what is held before
+-- and after
 pub record CallRun : Type 0 where
   pub name : CommandName
   pub texts : List (Option (List ℕ))
+  pub running : RunningStatus
   pub change : ChangeRun
 
 -- the text that the words give the option
@@ -274,8 +278,13 @@ pub record SaysFetched (run : CallRun) (fetched : Fetched) : Type 0 where
   pub form : IsDomainText fetched.domain
   pub verdict : SaysVerdict run.name run.texts fetched.verdict
 
-abbrev pub call_run : CommandName → List (Option (List ℕ)) → ChangeRun → CallRun
-call_run name texts change = record { name = name; texts = texts; change = change }
+abbrev pub call_run : CommandName → List (Option (List ℕ)) → RunningStatus → ChangeRun → CallRun
+call_run name texts running change =
+    record { name = name; texts = texts; running = running; change = change }
+
+-- the texts of a call's options
+abbrev pub texts_of_call : Call → List (Option (List ℕ))
+texts_of_call call = map (option_map (λ t. t.now)) call.texts.items
 
 -- ---- what a call answers, of what the words say
 
@@ -308,12 +317,13 @@ pub record AnswersPollsCall (run : CallRun) (reply : Reply) : Type 0 where
   pub is_now : SaysMoment seconds now
   pub answers : HasStreams (AnswersPolls (held_in run) now run.change.input) reply
 
--- `status`, in the format that the words say: a warning makes the exit status 1
+-- `status`, in the format that the words say, with what the replica says of itself: a warning makes
+-- the exit status 1
 pub record AnswersStatus (run : CallRun) (reply : Reply) : Type 0 where
   pub format : StatusFormat
   pub is_format : SaysStatusFormat (said run Format) format
   pub text : List ℕ
-  pub is_text : IsStatusIn (held_in run) format text
+  pub is_text : IsRunningStatusIn (held_in run) run.running format text
   pub warned : Bool
   pub is_warned : IsWarned (held_in run) warned
   pub replied : IsWith reply text [] (if warned then 1 else 0)
@@ -500,12 +510,12 @@ abbrev pub RepliesToCall : CallRun → Reply → Type 0
 RepliesToCall run reply = Answers run.name run reply ⊎ RepliesWithEnd run reply
 
 -- The words are a call in a request, and that is replied.
-pub record RepliesAsCommand (words : List (List ℕ)) (change : ChangeRun)
+pub record RepliesAsCommand (words : List (List ℕ)) (running : RunningStatus) (change : ChangeRun)
     (reply : Reply) : Type 0 where
   pub name : CommandName
   pub texts : List (Option (List ℕ))
   pub call : CallsInRequest words name texts
-  pub replied : RepliesToCall (call_run name texts change) reply
+  pub replied : RepliesToCall (call_run name texts running change) reply
 
 -- `clap` says why it refuses the words, or shows what they ask for of its help and its version.
 abbrev pub ShowsText : Reply → Type 0
@@ -521,7 +531,8 @@ pub record RepliesToWords (change : ChangeRun) (reply : Reply) : Type 0 where
   pub held : IsAsHeld change.state
 
 -- What is replied to a line of words.
-pub record RepliesTo (line : List ℕ) (change : ChangeRun) (reply : Reply) : Type 0 where
+pub record RepliesTo (line : List ℕ) (running : RunningStatus) (change : ChangeRun)
+    (reply : Reply) : Type 0 where
   pub words : List (List ℕ)
   pub says : SaysWords line words
-  pub replied : RepliesAsCommand words change reply ⊎ RepliesToWords change reply
+  pub replied : RepliesAsCommand words running change reply ⊎ RepliesToWords change reply

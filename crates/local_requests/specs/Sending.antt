@@ -1,5 +1,5 @@
 -- How a reply is sent: nothing of it before its lines of the journal are on the disk.
-use Rattle.std.specs.Prelude.{ℕ, List, [], ◌∷◌, ◌++◌, drop}
+use Rattle.std.specs.Prelude.{◌≡◌, ℕ, List, [], ◌∷◌, ◌++◌, drop}
 use Rattle.local_requests.specs.declared.reply_sending.Sending.{Sending}
 
 -- what of each part is not sent yet
@@ -30,3 +30,14 @@ due_after (byte ∷ lines) sending = []
 
 abbrev pub due_part : Sending → List ℕ
 due_part sending = due_after sending.reply.journal.items sending
+
+-- The second has what the first has, but for the lines of the journal.
+pub record DifferInJournalAlone (old new : Sending) : Type 0 where
+  pub head : new.reply.head.items ≡ old.reply.head.items
+  pub output : new.reply.output.items ≡ old.reply.output.items
+  pub errors : new.reply.errors.items ≡ old.reply.errors.items
+  pub status : new.reply.status ≡ old.reply.status
+  pub ends : new.reply.ends ≡ old.reply.ends
+  pub head_sent : new.head_sent ≡ old.head_sent
+  pub output_sent : new.output_sent ≡ old.output_sent
+  pub errors_sent : new.errors_sent ≡ old.errors_sent

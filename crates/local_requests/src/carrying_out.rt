@@ -1,27 +1,30 @@
 //! A request, read and carried out.
-ghost use Rattle.std.specs.Prelude.{◌≡◌, IfErr, IfOk, OnErr, map, option_map, string_bytes};
+ghost use Rattle.std.specs.Prelude.{◌≡◌, IfErr, IfOk, OnErr, map, string_bytes};
 ghost use Rattle.fedbundle.specs.CommandRun.{state_run};
+ghost use Rattle.local_requests.specs.Inside.AskedRun.{run_of};
 ghost use Rattle.local_requests.specs.Journalling.{JournalsChange};
 ghost use Rattle.local_requests.specs.Replies.{RefusesWordsLine};
 ghost use Rattle.local_requests.specs.RequestRun.{Answers, Ends, RepliesTo, RepliesToCall};
-ghost use Rattle.local_requests.specs.RequestRun.{SaysOfWords, ShowsText, call_run, change_run};
+ghost use Rattle.local_requests.specs.RequestRun.{SaysOfWords, ShowsText, change_run};
 ghost use Rattle.local_requests.specs.declared.request_fault.RequestFault.TheVariants.{NoMemory};
 
+use crate::asked::Asked;
 use crate::changing_calls::{distrust, merge, observe};
 use crate::reply::Reply;
 use crate::request_fault::RequestFault;
 use crate::shown_calls::{bundle, explain, polls, report, status, stop};
 use closure_core::Closure;
-use fedbundle::{Call, CommandName, Exit, WordsError, manner_of, read_request};
+use fedbundle::{CommandName, Exit, WordsError, manner_of, read_request};
 use replica_requests::read_request_words;
+use status_view::RunningStatus;
 use std::alloc::{AllocError, Global};
 
 /// Carries out what a request asks for: the words, as [`fedbundle::read_request`] reads them, with
 /// the input in place of standard input. The streams and the exit status are those of the same
 /// command over files. All memory is taken before what is held changes.
 ///
-/// `held_bytes` is how many bytes the state file has: of `--most-bytes` the rest is left for the
-/// input of `merge`.
+/// `running` is what the replica says of itself: `status` shows it, and of `--most-bytes` the rest
+/// over the bytes of its files is left for the input of `merge`.
 ///
 /// # Errors
 /// Nothing has changed, and [`RequestFault::reply`] is to be replied.
@@ -31,11 +34,11 @@ use std::alloc::{AllocError, Global};
 pub fn answer_request<C: Closure>(
     alloc: Global,
     closure: &mut C,
-    held_bytes: u64,
+    running: &RunningStatus<'_>,
     words: &[u8],
     input: &[u8],
 ) -> Result<Reply, RequestFault>
-    ensures answers { IfOk result (RepliesTo words.now
+    ensures answers { IfOk result (RepliesTo words.now running.now
         (change_run (state_run (C.state closure.old) (C.state closure.new)) input.now)) }
     ensures journals { IfOk result (λ reply. JournalsChange reply.journal.items
         (state_run (C.state closure.old) (C.state closure.new))) }
@@ -46,7 +49,14 @@ pub fn answer_request<C: Closure>(
     let words = read_request_words(alloc, words)?;
     let texts = texts_of_words(alloc, words.as_slice())?;
     match read_request(alloc, texts.as_slice()) {
-        Ok(call) => answer_call(alloc, closure, held_bytes, &call, input),
+        Ok(call) => {
+            let asked = Asked {
+                call: &call,
+                running,
+                input,
+            };
+            answer_call(alloc, closure, asked)
+        }
         Err(error) => Ok(reply_by_words(alloc, &error)?),
     }
 }
@@ -86,20 +96,17 @@ fn reply_of_clap(alloc: Global, shown: &clap::Error) -> Result<Reply, AllocError
 fn answer_call<C: Closure>(
     alloc: Global,
     closure: &mut C,
-    held_bytes: u64,
-    call: &Call<'_>,
-    input: &[u8],
+    asked: Asked<'_>,
 ) -> Result<Reply, RequestFault>
-    ensures answers { IfOk result (RepliesToCall (call_run call.now.name
-        (map (option_map (λ t. t.now)) call.now.texts.items)
-        (change_run (state_run (C.state closure.old) (C.state closure.new)) input.now))) }
+    ensures answers { IfOk result (RepliesToCall
+        (run_of asked (state_run (C.state closure.old) (C.state closure.new)))) }
     ensures journals { IfOk result (λ reply. JournalsChange reply.journal.items
         (state_run (C.state closure.old) (C.state closure.new))) }
     ensures memory { IfErr result (λ fault. fault ≡ NoMemory) }
     ensures unchanged { OnErr result
         ((C.state closure.new).meaning ≡ (C.state closure.old).meaning) }
 {
-    match carry_out(alloc, closure, held_bytes, call, input) {
+    match carry_out(alloc, closure, asked) {
         Ok(reply) => Ok(reply),
         Err(exit) => Ok(Reply::ended(alloc, &exit)?),
     }
@@ -108,35 +115,31 @@ fn answer_call<C: Closure>(
 fn carry_out<C: Closure>(
     alloc: Global,
     closure: &mut C,
-    held_bytes: u64,
-    call: &Call<'_>,
-    input: &[u8],
+    asked: Asked<'_>,
 ) -> Result<Reply, Exit>
-    ensures answers { IfOk result (Answers call.now.name (call_run call.now.name
-        (map (option_map (λ t. t.now)) call.now.texts.items)
-        (change_run (state_run (C.state closure.old) (C.state closure.new)) input.now))) }
-    ensures ends { IfErr result (Ends call.now.name (call_run call.now.name
-        (map (option_map (λ t. t.now)) call.now.texts.items)
-        (change_run (state_run (C.state closure.old) (C.state closure.new)) input.now))) }
+    ensures answers { IfOk result (Answers asked.call.now.name
+        (run_of asked (state_run (C.state closure.old) (C.state closure.new)))) }
+    ensures ends { IfErr result (Ends asked.call.now.name
+        (run_of asked (state_run (C.state closure.old) (C.state closure.new)))) }
     ensures journals { IfOk result (λ reply. JournalsChange reply.journal.items
         (state_run (C.state closure.old) (C.state closure.new))) }
     ensures unchanged { OnErr result
         ((C.state closure.new).meaning ≡ (C.state closure.old).meaning) }
 {
-    let most_bytes = manner_of(call)?.most_bytes;
-    match call.name {
-        CommandName::Report => report(alloc, closure, call, input),
-        CommandName::Bundle => bundle(alloc, closure, call, input),
-        CommandName::Explain => explain(alloc, closure, call, input),
-        CommandName::Polls => polls(alloc, closure, call, input),
-        CommandName::Status => status(alloc, closure, call, input),
-        CommandName::Observe => observe(alloc, closure, call, input),
+    let most_bytes = manner_of(asked.call)?.most_bytes;
+    match asked.call.name {
+        CommandName::Report => report(alloc, closure, asked),
+        CommandName::Bundle => bundle(alloc, closure, asked),
+        CommandName::Explain => explain(alloc, closure, asked),
+        CommandName::Polls => polls(alloc, closure, asked),
+        CommandName::Status => status(alloc, closure, asked),
+        CommandName::Observe => observe(alloc, closure, asked),
         CommandName::Merge => {
-            let room = most_bytes.saturating_sub(held_bytes);
-            merge(alloc, closure, room, call, input)
+            let room = most_bytes.saturating_sub(asked.running.state_bytes());
+            merge(alloc, closure, room, asked)
         }
-        CommandName::Distrust => distrust(alloc, closure, call, input),
-        CommandName::Stop => stop(alloc, closure, call, input),
+        CommandName::Distrust => distrust(alloc, closure, asked),
+        CommandName::Stop => stop(alloc, closure, asked),
         _ => Err(Exit::Usage),
     }
 }

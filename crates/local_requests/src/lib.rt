@@ -2,13 +2,14 @@
 //! clock: the bytes of a connection go in, as the pieces in which they come, and a reply comes out.
 //!
 //! `request_parts` joins the pieces, and `request_fault` has what is replied where they are no
-//! request. `carrying_out` does what the words ask for: `shown_calls` and `shown_replies` have the
-//! commands that show what is held, and `changing_calls` and `changing_replies` those that change
-//! it, the first of each what the words say, and the second what is replied. A change is journalled
-//! by `new_lines`. `reply` is what is sent back, and `reply_sending` says when. `call_words` is for
-//! clients.
+//! request. `asked` has what a request asks for, and `carrying_out` does it: `shown_calls` and
+//! `shown_replies` have the commands that show what is held, and `changing_calls` and
+//! `changing_replies` those that change it, the first of each what the words say, and the second
+//! what is replied. A change is journalled by `new_lines`. `reply` is what is sent back, and
+//! `reply_sending` says when. `call_words` is for clients.
 #![tactic(auto)]
 
+mod asked;
 mod call_words;
 mod carrying_out;
 mod changing_calls;

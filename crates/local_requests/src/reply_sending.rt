@@ -17,7 +17,8 @@ pub struct Sending {
 }
 
 impl Sending {
-    ghost use Rattle.local_requests.specs.Sending.{due_part, first_filled, left_of_errors};
+    ghost use Rattle.local_requests.specs.Sending.{DifferInJournalAlone, due_part, first_filled};
+    ghost use Rattle.local_requests.specs.Sending.{left_of_errors};
     ghost use Rattle.local_requests.specs.Sending.{left_of_head, left_of_output, unsent};
 
     /// Nothing of the reply is sent yet.
@@ -48,10 +49,11 @@ impl Sending {
         self.reply.ends
     }
 
-    /// Says that the lines are on the disk.
+    /// Says that the lines are on the disk: from now on there are none, and nothing else changes.
     pub fn settle(&mut self)
         ensures settled { self.new.reply.journal.items ≡ [] }
         ensures unsent { unsent self.new ≡ unsent self.old }
+        ensures rest { DifferInJournalAlone self.old self.new }
     {
         self.reply.journal.clear();
     }

@@ -7,7 +7,7 @@ ghost use Rattle.bundle_view.specs.Report.{IsReport};
 ghost use Rattle.fedbundle.specs.declared.error.CommandError.TheVariants.{Name, NoMemory};
 ghost use Rattle.fedbundle.specs.declared.exits.Exit.TheVariants.{Refused};
 ghost use Rattle.fedbundle.specs.Explain.{explanation_call};
-ghost use Rattle.status_view.specs.StatusRuns.{IsStatusIn, IsWarned};
+ghost use Rattle.status_view.specs.StatusRuns.{IsRunningStatusIn, IsWarned};
 ghost use Rattle.local_requests.specs.RequestRun.{AnswersBundle, AnswersBundleIn};
 ghost use Rattle.local_requests.specs.RequestRun.{AnswersBundlePem, EndsBundleIn};
 ghost use Rattle.local_requests.specs.RequestRun.{AnswersDryRun, AnswersExplain, AnswersPolls};
@@ -25,7 +25,7 @@ use fedbundle::{
 use jiff::Timestamp;
 use receipt_core::Distrust;
 use spiffe_name::TrustDomain;
-use status_view::{StatusFormat, write_status};
+use status_view::{RunningStatus, StatusFormat, write_running_status};
 use std::alloc::Global;
 
 pub(crate) fn report<C: Closure>(alloc: Global, closure: &C) -> Result<Vec<u8>, Exit>
@@ -150,15 +150,16 @@ pub(crate) struct ShownStatus {
 pub(crate) fn status<C: Closure>(
     alloc: Global,
     closure: &C,
+    running: &RunningStatus<'_>,
     format: StatusFormat,
 ) -> Result<ShownStatus, Exit>
-    ensures answers { IfOk result
-        (λ shown. IsStatusIn (C.state closure.now).meaning format shown.text.items
+    ensures answers { IfOk result (λ shown.
+        IsRunningStatusIn (C.state closure.now).meaning running.now format shown.text.items
         × IsWarned (C.state closure.now).meaning shown.is_warned) }
     ensures ends { IfErr result (λ exit. exit ≡ Refused NoMemory) }
 {
     let mut output = FromWrite::new(Vec::new(alloc));
-    match write_status(alloc, closure, format, &mut output) {
+    match write_running_status(alloc, closure, running, format, &mut output) {
         Ok(is_warned) => Ok(ShownStatus {
             text: output.into_inner(),
             is_warned,

@@ -8,8 +8,8 @@
 //! `replica` begins and ends a replica, and `turn` is one round of the loop: what came is read, the
 //! changes go to the journal (`journal`), and only then anything is written; a long journal goes
 //! into the snapshot (`fold_files`). Connections come in at the `gates`. `connection_table` has
-//! them, `live_connection` is one of them, and what is said on it is a `talk`. `own_status` is what
-//! `status` shows beside what is held. `client` is the other side of a local request.
+//! them, `live_connection` is one of them, and what is said on it is a `talk`. `peers` has what
+//! `status` shows of the peers. `client` is the other side of a local request.
 #![tactic(auto)]
 
 mod client;
@@ -21,7 +21,6 @@ mod gates;
 mod journal;
 mod live_connection;
 mod local_talk;
-mod own_status;
 mod peers;
 mod pull_talk;
 mod replica;

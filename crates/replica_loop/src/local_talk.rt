@@ -1,17 +1,17 @@
 //! A connection of this machine, on which one request comes and one reply goes.
 use crate::ending::Ending;
 use crate::fresh_lines::Held;
-use crate::own_status::{OwnStatus, add_own_status, format_of};
 use closure_core::Closure;
 use local_requests::{Reply, RequestFault, RequestParts, Sending, answer_request};
+use status_view::RunningStatus;
 use std::alloc::Global;
 use std::time::Instant;
 
-/// What a request may ask for beside what is held.
+/// The time, and what the replica says of itself.
 #[derive(Clone, Copy)]
 pub(crate) struct Surroundings<'a> {
     pub(crate) now: Instant,
-    pub(crate) own: OwnStatus<'a>,
+    pub(crate) running: RunningStatus<'a>,
 }
 
 /// The reply where a change could not be put on the disk. It takes no memory.
@@ -81,19 +81,13 @@ impl LocalTalk {
         around: &Surroundings<'_>,
     ) -> Result<Reply, RequestFault> {
         let request = self.parts.whole()?;
-        let status = format_of(alloc, request.words)?;
-        let mut reply = answer_request(
+        answer_request(
             alloc,
             &mut held.closure,
-            around.own.state_bytes(),
+            &around.running,
             request.words,
             request.input,
-        )?;
-        // From here on a change may not be forgotten; the status changes nothing.
-        if let Some(format) = status {
-            add_own_status(alloc, &around.own, format, &mut reply)?;
-        }
-        Ok(reply)
+        )
     }
 
     fn refuse(&mut self, alloc: Global, fault: RequestFault) {

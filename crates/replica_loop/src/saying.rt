@@ -2,6 +2,7 @@
 //! that another side chose stands in one.
 use crate::ending::Ending;
 use replica_sync::SyncError;
+use status_view::{PeerFault, fault_code};
 use std::alloc::Global;
 use std::fmt;
 use std::fmt::{Display, Formatter};
@@ -66,8 +67,8 @@ impl Display for Event {
             Event::Accept => f.write_str("event=accept fault=S9"),
             Event::Poll => f.write_str("event=poll fault=S9"),
             Event::Fold(bytes) => write!(f, "event=fold bytes={bytes}"),
-            Event::FoldFault(why) => write!(f, "event=fold fault={}", code_of(*why)),
-            Event::Journal(why) => write!(f, "event=journal fault={}", code_of(*why)),
+            Event::FoldFault(why) => write!(f, "event=fold fault={}", session_code(*why)),
+            Event::Journal(why) => write!(f, "event=journal fault={}", session_code(*why)),
         }
     }
 }
@@ -88,26 +89,13 @@ struct Outcome(Ending);
 
 impl Display for Outcome {
     fn fmt<W: fmt::Write>(&self, f: &mut Formatter<W>) -> fmt::Result {
-        match self.0 {
-            Ending::Well => Ok(()),
-            Ending::Fault(why) => write!(f, " fault={}", code_of(why)),
-            Ending::TooManyBytes => f.write_str(" fault=bytes"),
+        match self.0.fault() {
+            Some(fault) => write!(f, " fault={}", fault_code(fault)),
+            None => Ok(()),
         }
     }
 }
 
-/// The fault's short name.
-pub(crate) fn code_of<'a>(why: SyncError) -> &'a str {
-    match why {
-        SyncError::BadHeader => "S1",
-        SyncError::ConfigDiffers => "S2",
-        SyncError::VersionDiffers => "S3",
-        SyncError::NotCanonical(_) => "S4",
-        SyncError::NotRising(_) => "S5",
-        SyncError::BadCount => "S6",
-        SyncError::Truncated => "S7",
-        SyncError::Refused(..) => "S8",
-        SyncError::Io => "S9",
-        SyncError::NoMemory => "S10",
-    }
+fn session_code(why: SyncError) -> &'static str {
+    fault_code(PeerFault::Session(why))
 }

@@ -8,7 +8,6 @@ use crate::gates::{Arrival, Gates};
 use crate::journal::Journal;
 use crate::live_connection::Connection;
 use crate::local_talk::{LocalTalk, Surroundings};
-use crate::own_status::OwnStatus;
 use crate::peers::Peers;
 use crate::pull_talk::PullTalk;
 use crate::saying::{Event, say};
@@ -23,6 +22,7 @@ use fedbundle::{Exit, FileFault, Step};
 use mio::Events;
 use mio::net::TcpStream;
 use replica_sync::SyncError;
+use status_view::RunningStatus;
 use std::alloc::Global;
 use std::fs::{File, Files};
 use std::io::{Eprint, ErrorKind};
@@ -210,10 +210,8 @@ impl Works {
         let Some(peer) = self.peers.begin(self.now) else {
             return;
         };
-        let left = most_bytes.saturating_sub(OwnStatus::of(
-            &self.journal,
-            &self.peers,
-        ).state_bytes());
+        let held = running_status(&self.journal, &self.peers).state_bytes();
+        let left = most_bytes.saturating_sub(held);
         if let Err(ending) = self.connect(rt, alloc, closure, peer, left) {
             self.peers.end(ending, 0, None);
             say(rt, alloc, Event::Pull(peer, 0, Duration::ZERO, ending));
@@ -251,7 +249,7 @@ impl Works {
     pub(crate) fn read<C: Closure>(&mut self, alloc: Global, held: &mut Held<C>) {
         let around = Surroundings {
             now: self.now,
-            own: OwnStatus::of(&self.journal, &self.peers),
+            running: running_status(&self.journal, &self.peers),
         };
         self.table.read(alloc, held, &around);
         if self.ends_at.is_none() && self.table.is_stopped() {
@@ -338,6 +336,15 @@ impl Works {
             Some(moment) => self.now >= moment || !self.table.has_replies(),
             None => false,
         }
+    }
+}
+
+// What the replica says of itself.
+fn running_status<'a>(journal: &Journal, peers: &'a Peers) -> RunningStatus<'a> {
+    RunningStatus {
+        snapshot_bytes: journal.snapshot_bytes(),
+        journal_bytes: journal.bytes(),
+        peers: peers.statuses(),
     }
 }
 

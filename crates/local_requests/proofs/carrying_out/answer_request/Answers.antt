@@ -1,9 +1,9 @@
-use Rattle.std.proofs.Common.{◌∙◌, ℕ, List, ap, inr, map, option_map, refl, subst}
+use Rattle.std.proofs.Common.{◌∙◌, ℕ, List, ap, inr, map, refl, subst}
 use Rattle.std.proofs.lemmas.Result.{err_from_is_err_and}
 use Rattle.std.specs.Prelude.{string_bytes}
 use Rattle.fedbundle.specs.CommandRun.{state_run}
 use Rattle.fedbundle.specs.Words.{CallsInRequest}
-use Rattle.local_requests.specs.RequestRun.{CallRun, call_run, change_run}
+use Rattle.local_requests.specs.RequestRun.{CallRun, call_run, change_run, texts_of_call}
 use Rattle.local_requests.proofs.ChangingFacts.{lacks_memory, line_called, result_lacks_memory, words_unjournalled}
 use Rattle.local_requests.proofs.RequestFacts.{same_journalled}
 use Rattle.local_requests.proofs.carrying_out.answer_request.Goals as goal
@@ -20,7 +20,7 @@ returns-in_err-texts-clause-fault g c =
 
 pub returns-in-Ok-clause-answers : goal.returns-in-Ok-clause-answers
 returns-in-Ok-clause-answers g c =
-    let run : CallRun = call_run c.in-Ok.call.name (map (option_map (λ t. t.now)) c.in-Ok.call.texts.items)
+    let run : CallRun = call_run c.in-Ok.call.name (texts_of_call c.in-Ok.call) c.args.running.now
     (change_run (state_run (g.C.Closure.state c.args.closure.now) (g.C.Closure.state c.answer_call.new.closure)) c.args.input.now) in
     let words = map string_bytes c.in_ok-words.words.items in
     line_called c.args.words.now words run c.answer_call.result c.in_ok-words.ensures

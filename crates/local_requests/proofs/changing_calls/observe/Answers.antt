@@ -1,8 +1,9 @@
-use Rattle.std.proofs.Common.{inl, inr, map, option_map}
+use Rattle.std.proofs.Common.{inl, inr}
 use Rattle.std.proofs.lemmas.Result.{err_from_is_err_and}
 use Rattle.fedbundle.specs.CommandRun.{state_run}
 use Rattle.fedbundle.specs.Observe.{Fetched, IsAsHeld}
-use Rattle.local_requests.specs.RequestRun.{CallRun, EndsObserve, call_run, change_run}
+use Rattle.local_requests.specs.Inside.AskedRun.{run_of}
+use Rattle.local_requests.specs.RequestRun.{CallRun, EndsObserve, change_run}
 use Rattle.local_requests.proofs.ChangingFacts.{observe_call_ends, observe_called, observe_unchanged, on_any_error, says_fetched}
 use Rattle.local_requests.proofs.changing_calls.observe.Goals as goal
 
@@ -30,8 +31,7 @@ returns-in_err-verdict-clause-ends g c =
 
 pub returns-clause-answers : goal.returns-clause-answers
 returns-clause-answers g c =
-    let run : CallRun = call_run c.args.call.now.name (map (option_map (λ t. t.now)) c.args.call.now.texts.items)
-    (change_run (state_run (g.C.Closure.state c.args.closure.now) (g.C.Closure.state c.observe.new.closure)) c.args.input.now) in
+    let run : CallRun = run_of c.args.asked (state_run (g.C.Closure.state c.args.closure.now) (g.C.Closure.state c.observe.new.closure)) in
     let fetched : Fetched = record { domain = c.in_ok-domain.domain; verdict = c.in_ok-verdict.verdict } in
     observe_called run fetched c.observe.result
     (says_fetched run _ c.in_ok-wanted.field-0.now _ c.in_ok-wanted.ensures.ok c.in_ok-domain.ensures.ok c.in_ok-verdict.ensures.says)
@@ -39,8 +39,7 @@ returns-clause-answers g c =
 
 pub returns-clause-ends : goal.returns-clause-ends
 returns-clause-ends g c =
-    let run : CallRun = call_run c.args.call.now.name (map (option_map (λ t. t.now)) c.args.call.now.texts.items)
-    (change_run (state_run (g.C.Closure.state c.args.closure.now) (g.C.Closure.state c.observe.new.closure)) c.args.input.now) in
+    let run : CallRun = run_of c.args.asked (state_run (g.C.Closure.state c.args.closure.now) (g.C.Closure.state c.observe.new.closure)) in
     let fetched : Fetched = record { domain = c.in_ok-domain.domain; verdict = c.in_ok-verdict.verdict } in
     observe_call_ends run fetched c.observe.result
     (says_fetched run _ c.in_ok-wanted.field-0.now _ c.in_ok-wanted.ensures.ok c.in_ok-domain.ensures.ok c.in_ok-verdict.ensures.says)
@@ -49,6 +48,6 @@ returns-clause-ends g c =
 pub returns-clause-unchanged : goal.returns-clause-unchanged
 returns-clause-unchanged g c =
     let state = state_run (g.C.Closure.state c.args.closure.now) (g.C.Closure.state c.observe.new.closure) in
-    let run = change_run state c.args.input.now in
+    let run = change_run state c.args.asked.input.now in
     let fetched : Fetched = record { domain = c.in_ok-domain.domain; verdict = c.in_ok-verdict.verdict } in
     on_any_error c.observe.result (EndsObserve run fetched) (IsAsHeld state) (observe_unchanged run fetched) c.observe.ensures.ends

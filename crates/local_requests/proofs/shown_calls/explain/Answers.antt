@@ -33,6 +33,6 @@ returns-clause-answers g c = record {
   form = c.explanation_form-form.result;
   is_form = rw c.given.ensures at c.explanation_form-form.ensures;
   answers = replied (AnswersExplain (g.C.Closure.state c.args.closure.now).meaning
-      (explain_asked (explanation_call c.in_ok-domain.domain.now c.explanation_form-form.result) c.args.input.now)) _ _
+      (explain_asked (explanation_call c.in_ok-domain.domain.now c.explanation_form-form.result) c.args.asked.input.now)) _ _
       c.in_ok-text.ensures c.in_ok-done.ensures;
 }

@@ -36,6 +36,6 @@ returns-clause-answers g c = record {
   is_given = c.in_ok-wanted.ensures.ok;
   now = c.in_ok-now.now.nanosecond;
   is_now = c.in_ok-now.ensures.ok;
-  answers = replied (AnswersPolls (g.C.Closure.state c.args.closure.now).meaning c.in_ok-now.now.nanosecond c.args.input.now) _ _
+  answers = replied (AnswersPolls (g.C.Closure.state c.args.closure.now).meaning c.in_ok-now.now.nanosecond c.args.asked.input.now) _ _
       c.in_ok-text.ensures c.in_ok-done.ensures;
 }
