@@ -2,8 +2,8 @@
 ghost use Rattle.std.specs.Prelude.{◌≡◌, ◌||◌, true, Err, IfOk, OnOk};
 ghost use Rattle.byte_lines.specs.Device.{is_source_fault};
 ghost use Rattle.byte_lines.specs.declared.error.DeviceError.TheVariants.{Io, NoMemory};
-ghost use Rattle.status_view.specs.declared.status_writer.StatusFormat.TheVariants.{Json, Prometheus};
-ghost use Rattle.status_view.specs.declared.status_writer.StatusFormat.TheVariants.{Text};
+ghost use Rattle.status_view.specs.declared.status_writer.StatusFormat.TheVariants.{Json, Text};
+ghost use Rattle.status_view.specs.declared.status_writer.StatusFormat.TheVariants.{Prometheus};
 ghost use Rattle.text_lines.specs.TextLines.{BeginsSome, WritesSome};
 ghost use Rattle.status_view.specs.StatusRuns.{IsRunningStatusIn, IsStatusIn, IsWarned};
 ghost use Rattle.status_view.specs.StatusRuns.{running_status_in, status_in};
@@ -70,8 +70,8 @@ fn status_in(alloc: Global, status: &Status, format: StatusFormat) -> Result<Vec
     }
 }
 
-/// Writes how a running replica stands, with its files and its peers at the end, and returns whether
-/// there is a warning ([`crate::has_warning`]); its files and its peers are never one.
+/// Writes how a running replica stands, with its files and its peers at the end, and returns
+/// whether there is a warning ([`crate::has_warning`]); its files and its peers are never one.
 ///
 /// | Format | What is added |
 /// |---|---|
