@@ -12,8 +12,9 @@ use serde_json::Value;
 use std::alloc::Global;
 
 /// A part of the configuration that is at fault with this cause, which `Config::read` returned for
-/// it: the first of the whole, the relationships and the seeds. `None` where none is found, where
-/// memory ran out, and for the causes that are of no one part: no JSON, and too many parts.
+/// it. The whole is looked at first, then the relationships, and then the seeds; a part is passed
+/// over if memory runs out for it. `None` if none is found, and for the causes that are of no one
+/// part: no JSON, and too many parts.
 ///
 /// The work grows with the length of the configuration. For relationships with one domain it grows
 /// with the square of their number up to 1,024; those after that are compared with the first 1,024.

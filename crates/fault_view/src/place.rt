@@ -1,7 +1,7 @@
 //! Places in a configuration.
 ghost use Rattle.std.specs.Prelude.{◌≡◌, option_map};
 ghost use Rattle.serde_json.specs.View.{view};
-ghost use Rattle.fault_view.specs.Flaws.{is_member_at, part_of};
+ghost use Rattle.fault_view.specs.Flaws.{is_array_at, is_member_at, is_text_at, part_of};
 
 use serde_json::Value;
 
@@ -25,6 +25,27 @@ impl Place {
             Place::Whole => name == "relationships" || name == "seeds",
             Place::Relationship(_) => is_of_relationship(name),
             Place::Seed(_) => name == "bundle" || name == "domain",
+        }
+    }
+
+    /// Whether that member is a text.
+    pub(crate) fn has_text(self, name: &str) -> bool
+        ensures { result ≡ is_text_at self name.now }
+    {
+        match self {
+            Place::Whole => false,
+            Place::Relationship(_) => is_of_relationship(name),
+            Place::Seed(_) => name == "domain",
+        }
+    }
+
+    /// Whether it is an array.
+    pub(crate) fn has_array(self, name: &str) -> bool
+        ensures { result ≡ is_array_at self name.now }
+    {
+        match self {
+            Place::Whole => name == "relationships" || name == "seeds",
+            Place::Relationship(_) | Place::Seed(_) => false,
         }
     }
 

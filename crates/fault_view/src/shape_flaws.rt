@@ -61,14 +61,13 @@ fn member_flaw<'a>(part: &Value, place: Place, name: &'a str) -> Option<Flaw<'a>
     let Some(member) = part.get(name) else {
         return Some(Flaw::MissingMember(name));
     };
-    match place {
-        Place::Whole if member.as_array().is_none() => Some(Flaw::NotArray(name)),
-        Place::Relationship(_) if member.as_str().is_none() => Some(Flaw::NotText(name)),
-        Place::Seed(_) if name == "domain" && member.as_str().is_none() => Some(Flaw::NotText(
-            name,
-        )),
-        _ => None,
+    if place.has_array(name) && member.as_array().is_none() {
+        return Some(Flaw::NotArray(name));
     }
+    if place.has_text(name) && member.as_str().is_none() {
+        return Some(Flaw::NotText(name));
+    }
+    None
 }
 
 /// The text of a member.
