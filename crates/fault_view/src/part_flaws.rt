@@ -1,5 +1,5 @@
 //! Names, URLs, profiles and bundles that are refused.
-ghost use Rattle.std.specs.Prelude.{◌≡◌, ◌↔◌, IsTrue, IfSome, codes};
+ghost use Rattle.std.specs.Prelude.{◌≡◌, ◌≢◌, ◌↔◌, IsTrue, IfSome, codes};
 ghost use Rattle.serde_json.specs.View.{view};
 ghost use Rattle.jwk_set.specs.Element.{HasText};
 ghost use Rattle.bundle_doc.specs.Refusal.{RefusesTree};
@@ -109,7 +109,8 @@ pub(crate) fn bundle_flaw<'a>(alloc: Global, part: &'a Value, _place: Place) -> 
 }
 
 fn refusal_of(alloc: Global, bundle: &Value) -> Option<DocError>
-    ensures { IfSome result (RefusesTree (view bundle.now)) }
+    ensures cause { IfSome result (RefusesTree (view bundle.now)) }
+    ensures known { IfSome result (λ why. why ≢ DocError.NoMemory) }
 {
     match Document::from_value(alloc, bundle) {
         Ok(_) | Err(DocError::NoMemory) => None,
