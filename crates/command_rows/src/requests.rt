@@ -56,10 +56,8 @@ fn is_same_of_replicas(call: &Call<'_>) -> bool {
         CommandName::Report | CommandName::Explain | CommandName::Polls => {
             given(call, OptionName::FileFormat).is_none()
         }
-        CommandName::Bundle
-        | CommandName::Observe
-        | CommandName::Merge
-        | CommandName::Distrust => true,
+        CommandName::Bundle | CommandName::Observe | CommandName::Merge | CommandName::Distrust =>
+            true,
         _ => false,
     }
 }

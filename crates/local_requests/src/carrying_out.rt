@@ -112,11 +112,7 @@ fn answer_call<C: Closure>(
     }
 }
 
-fn carry_out<C: Closure>(
-    alloc: Global,
-    closure: &mut C,
-    asked: Asked<'_>,
-) -> Result<Reply, Exit>
+fn carry_out<C: Closure>(alloc: Global, closure: &mut C, asked: Asked<'_>) -> Result<Reply, Exit>
     ensures answers { IfOk result (Answers asked.call.now.name
         (run_of asked (state_run (C.state closure.old) (C.state closure.new)))) }
     ensures ends { IfErr result (Ends asked.call.now.name

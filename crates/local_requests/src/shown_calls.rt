@@ -10,8 +10,8 @@ use crate::reply::Reply;
 use crate::shown_replies;
 use closure_core::Closure;
 use fedbundle::{
-    Exit, OptionName, explanation_form, given, read_bundle_format, read_moment,
-    read_status_format, wanted,
+    Exit, OptionName, explanation_form, given, read_bundle_format, read_moment, read_status_format,
+    wanted,
 };
 use std::alloc::Global;
 
@@ -65,11 +65,7 @@ pub(crate) fn explain<C: Closure>(
     Ok(Reply::done(alloc, text)?)
 }
 
-pub(crate) fn polls<C: Closure>(
-    alloc: Global,
-    closure: &C,
-    asked: Asked<'_>,
-) -> Result<Reply, Exit>
+pub(crate) fn polls<C: Closure>(alloc: Global, closure: &C, asked: Asked<'_>) -> Result<Reply, Exit>
     ensures answers { IfOk result (Answers command.Polls
         (run_of asked (state_run (C.state closure.now) (C.state closure.now)))) }
     ensures ends { IfErr result (Ends command.Polls
@@ -100,11 +96,7 @@ pub(crate) fn status<C: Closure>(
 }
 
 // Nothing is to be done but to end.
-pub(crate) fn stop<C: Closure>(
-    alloc: Global,
-    closure: &C,
-    asked: Asked<'_>,
-) -> Result<Reply, Exit>
+pub(crate) fn stop<C: Closure>(alloc: Global, closure: &C, asked: Asked<'_>) -> Result<Reply, Exit>
     ensures answers { IfOk result (Answers command.Stop
         (run_of asked (state_run (C.state closure.now) (C.state closure.now)))) }
     ensures ends { IfErr result (Ends command.Stop

@@ -32,10 +32,7 @@ pub(crate) fn push_running_metrics(
     push_fault_info(out, running)
 }
 
-fn push_snapshot_gauge(
-    out: &mut Vec<u8>,
-    running: &RunningStatus<'_>,
-) -> Result<(), AllocError>
+fn push_snapshot_gauge(out: &mut Vec<u8>, running: &RunningStatus<'_>) -> Result<(), AllocError>
     ensures { OnOk result (out.new.items ≡ out.old.items ++ snapshot_gauge running.now) }
 {
     push_bytes_gauge(
@@ -57,12 +54,7 @@ fn push_journal_gauge(out: &mut Vec<u8>, running: &RunningStatus<'_>) -> Result<
     )
 }
 
-fn push_bytes_gauge(
-    out: &mut Vec<u8>,
-    name: &str,
-    help: &str,
-    count: u64,
-) -> Result<(), AllocError>
+fn push_bytes_gauge(out: &mut Vec<u8>, name: &str, help: &str, count: u64) -> Result<(), AllocError>
     ensures { OnOk result (out.new.items ≡ out.old.items ++ bytes_gauge name.now help.now count) }
 {
     push_gauge_head(out, name, help)?;
@@ -72,10 +64,7 @@ fn push_bytes_gauge(
     out.extend_from_slice(b"\n")
 }
 
-fn push_receipts_counter(
-    out: &mut Vec<u8>,
-    running: &RunningStatus<'_>,
-) -> Result<(), AllocError>
+fn push_receipts_counter(out: &mut Vec<u8>, running: &RunningStatus<'_>) -> Result<(), AllocError>
     ensures { OnOk result (out.new.items ≡ out.old.items ++ receipts_counter running.now) }
 {
     push_counter_head(
@@ -166,7 +155,12 @@ fn push_ended_sample(out: &mut Vec<u8>, peer: &PeerStatus) -> Result<(), AllocEr
 {
     match peer.ended_well {
         Some(seconds) => {
-            push_sample(out, "fedbundle_peer_ended_well_timestamp_seconds", peer, seconds)
+            push_sample(
+                out,
+                "fedbundle_peer_ended_well_timestamp_seconds",
+                peer,
+                seconds,
+            )
         }
         None => Ok(()),
     }
