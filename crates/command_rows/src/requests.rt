@@ -8,8 +8,8 @@ use closure_core::Closure;
 use fed_config::Config;
 use fedbundle::{Call, CommandError, CommandName, OptionName, given, read_words};
 use local_requests::{Reply, answer_request, request_words};
+use replica_journal::{begin_journal, read_journal};
 use replica_requests::write_request_words;
-use replica_service::{begin_journal, read_journal};
 use replica_sync::{read_snapshot, write_snapshot};
 use std::alloc::{AllocError, Global};
 
