@@ -12,7 +12,7 @@ use byte_lines::FromRead;
 use closure_core::Closure;
 use fed_config::Config;
 use replica_core::SyncError;
-use replica_service::{begin_journal, read_journal};
+use replica_journal::{begin_journal, read_journal};
 use std::alloc::{AllocError, Global};
 use std::fs::{File, Files};
 use std::io::Write;

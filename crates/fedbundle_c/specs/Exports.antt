@@ -11,8 +11,8 @@ use Rattle.closure_core.specs.declared.outcome.Distrusted.TheVariants.{Already a
 use Rattle.receipt_core.specs.Acceptance.{Meaning}
 use Rattle.closure_core.specs.Changes.{HeldAndRoom}
 use Rattle.replica_core.specs.Session.{have_of}
-use Rattle.replica_sync.specs.Messages.{have_text}
-use Rattle.replica_sync.specs.WrittenSnapshot.{written_snapshot}
+use Rattle.replica_texts.specs.Messages.{have_text}
+use Rattle.replica_texts.specs.WrittenSnapshot.{written_snapshot}
 use Rattle.replica_bytes.specs.CallErrors.{IsWantOfMemory, RefusesDomainText}
 use Rattle.replica_bytes.specs.Changes.{TakesLineBytes, HasRefusedLineBytes, DistrustsBytes}
 use Rattle.replica_bytes.specs.Changes.{HasRefusedKeyBytes, MergesBytes, HasRefusedSnapshotBytes}

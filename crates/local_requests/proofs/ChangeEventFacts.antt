@@ -25,8 +25,8 @@ use Rattle.replica_core.proofs.ContainsFacts.{each-from}
 use Rattle.replica_core.proofs.EventFacts.{at-here, at-other, part-refl, part-trans, replica-true}
 use Rattle.replica_core.proofs.ExchangeFacts.{answered-is, asked-is, content_of, with_message}
 use Rattle.replica_sync.proofs.PullingFacts.{longer_with_items}
-use Rattle.replica_service.specs.Journal.{entry_text}
-use Rattle.replica_service.specs.PulledPieces.{Journals}
+use Rattle.replica_journal.specs.Journal.{entry_text}
+use Rattle.replica_sync.specs.PulledPieces.{Journals}
 use Rattle.local_requests.specs.ChangeEvents.{AppendsTo, BringsTo, event_of, events_of, sent_give, sent_have}
 use Rattle.local_requests.specs.Journalling.{JournalsChange}
 use Rattle.fedbundle.specs.CommandRun.{StateRun}

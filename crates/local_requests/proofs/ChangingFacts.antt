@@ -9,7 +9,7 @@ use Rattle.closure_core.specs.Changes.{HeldAndRoom}
 use Rattle.bundle_view.specs.declared.observation.Verdict.{Verdict}
 use Rattle.replica_core.specs.declared.error.SyncError.{SyncError}
 use Rattle.replica_core.specs.declared.error.SyncError.TheVariants.{Io as StreamFailed}
-use Rattle.replica_sync.specs.Snapshots.{is_io}
+use Rattle.replica_texts.specs.Snapshots.{is_io}
 use Rattle.fedbundle.specs.CommandRun.{DeviceRun, StateRun, state_run}
 use Rattle.fedbundle.specs.Distrust.{RunsDistrust}
 use Rattle.fedbundle.specs.Observe.{Fetched, IsAsHeld, RefusesToMake}

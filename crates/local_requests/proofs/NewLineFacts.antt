@@ -19,8 +19,8 @@ use Rattle.replica_core.proofs.RisingListFacts.{rising_cons, rising_head, rising
 use Rattle.replica_core.specs.Absorbing.{of_receipts, of_records, with_entry, with_entries}
 use Rattle.replica_core.specs.declared.entry.Entry.{Entry}
 use Rattle.replica_core.specs.declared.entry.Entry.TheVariants.{Record, Receipt as AReceipt}
-use Rattle.replica_sync.specs.SoleLines.{IsWellFormed}
-use Rattle.replica_service.specs.Journal.{entry_text}
+use Rattle.replica_texts.specs.SoleLines.{IsWellFormed}
+use Rattle.replica_journal.specs.Journal.{entry_text}
 use Rattle.local_requests.specs.Journalling.{AreLinesOfOther, HoldsEntry, IsLineIfNew}
 use Rattle.local_requests.specs.Inside.NewLineSteps.{AreReceiptLines, AreRecordLines, IsSifted, SiftsReceipts, SiftsRecords}
 

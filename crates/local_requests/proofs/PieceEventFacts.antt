@@ -25,10 +25,10 @@ use Rattle.replica_core.specs.declared.event.Event.TheVariants.{Absorb, Part}
 use Rattle.replica_core.proofs.EventFacts.{replica-true}
 use Rattle.replica_core.proofs.ExchangeFacts.{absorbed-is}
 use Rattle.replica_core.proofs.RisingListFacts.{all_append}
-use Rattle.replica_sync.specs.Gives.{IsContent}
-use Rattle.replica_sync.specs.SoleLines.{IsWellFormed}
-use Rattle.replica_service.specs.Journal.{AreWellFormed}
-use Rattle.replica_service.specs.PulledPieces.{PulledGive, PulledPiece, TakesInTurn, pieces_of}
+use Rattle.replica_texts.specs.Gives.{IsContent}
+use Rattle.replica_texts.specs.SoleLines.{IsWellFormed}
+use Rattle.replica_journal.specs.Journal.{AreWellFormed}
+use Rattle.replica_sync.specs.PulledPieces.{PulledGive, PulledPiece, TakesInTurn, pieces_of}
 use Rattle.local_requests.specs.ChangeEvents.{IsPieceOf, IsPulledAmid, LosesNothing, sent_give}
 use Rattle.local_requests.specs.Journalling.{HoldsEntry}
 use Rattle.local_requests.proofs.ChangeEventFacts.{below-itself, below-one, below-within, meaning-holdable}

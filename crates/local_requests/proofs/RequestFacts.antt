@@ -15,7 +15,7 @@ use Rattle.replica_core.specs.declared.entry.Entry.{Entry}
 use Rattle.replica_core.specs.declared.entry.Entry.TheVariants.{Record}
 use Rattle.replica_core.specs.declared.error.SyncError.{SyncError}
 use Rattle.replica_core.specs.declared.error.SyncError.TheVariants.{Io as StreamFailed}
-use Rattle.replica_sync.specs.Snapshots.{IsSnapshot, RefusesSnapshot}
+use Rattle.replica_texts.specs.Snapshots.{IsSnapshot, RefusesSnapshot}
 use Rattle.fedbundle.specs.CommandRun.{CommandRun, DeviceRun, HasFailed, run_of, state_run}
 use Rattle.fedbundle.specs.CurrentBundle.{RunsBundle, RunsBundlePem}
 use Rattle.fedbundle.specs.Distrust.{HoldsRecord, ShowsDistrust}

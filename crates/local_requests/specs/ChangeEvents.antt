@@ -11,8 +11,8 @@ use Rattle.replica_core.specs.declared.entry.Entry.{Entry}
 use Rattle.replica_core.specs.declared.entry.Entry.TheVariants.{Record, Receipt as AReceipt}
 use Rattle.replica_core.specs.declared.event.Event.{Event}
 use Rattle.replica_core.specs.declared.event.Event.TheVariants.{Revoke, Take}
-use Rattle.replica_service.specs.Journal.{AreWellFormed, entry_text}
-use Rattle.replica_service.specs.PulledPieces.{IsPulledGive, PulledGive, PulledPiece, pieces_of}
+use Rattle.replica_journal.specs.Journal.{AreWellFormed, entry_text}
+use Rattle.replica_sync.specs.PulledPieces.{IsPulledGive, PulledGive, PulledPiece, pieces_of}
 
 -- ---- changes
 

@@ -7,7 +7,7 @@ use Rattle.closure_core.specs.Refusals.{all_receipts}
 use Rattle.replica_core.specs.Absorbing.{with_entries}
 use Rattle.replica_core.specs.declared.entry.Entry.{Entry}
 use Rattle.replica_core.specs.declared.entry.Entry.TheVariants.{Record, Receipt as AReceipt}
-use Rattle.replica_service.specs.Journal.{AreWellFormed, entry_text}
+use Rattle.replica_journal.specs.Journal.{AreWellFormed, entry_text}
 use Rattle.fedbundle.specs.CommandRun.{StateRun}
 
 -- it is held
@@ -23,7 +23,7 @@ pub record AreNewLines (m : Meaning) (entries : List Entry) (text : List ℕ) : 
 
 -- The text is the lines of what is held now and was not before. Where nothing has changed it is
 -- empty. A journal that has it at its end is read as what is held now
--- (`replica_service::laws::journals`).
+-- (`replica_journal::laws::journals`).
 pub record JournalsChange (text : List ℕ) (state : StateRun) : Type 0 where
   pub entries : List Entry
   pub lines : AreNewLines state.old.meaning entries text

@@ -4,7 +4,7 @@ use Rattle.replica_requests.specs.RequestLines.{IsOfWords, RefusesLine, reply_li
 use Rattle.replica_requests.specs.declared.request_error.RequestError.{RequestError}
 use Rattle.replica_requests.specs.declared.request_error.RequestError.TheVariants.{TooLong, BadLine}
 use Rattle.replica_requests.specs.declared.request_error.RequestError.TheVariants as line_error
-use Rattle.replica_sync.specs.Snapshots.{ended}
+use Rattle.replica_texts.specs.Snapshots.{ended}
 use Rattle.local_requests.specs.declared.request_fault.RequestFault.{RequestFault}
 use Rattle.local_requests.specs.declared.request_fault.RequestFault.TheVariants.{WordsTooLong}
 use Rattle.local_requests.specs.declared.request_fault.RequestFault.TheVariants.{InputTooLong}

@@ -3,7 +3,7 @@ use Rattle.std.specs.Prelude.{◌≡◌, ℕ, ◌-◌, ◌<◌, ◌≤◌, ◌++
 use Rattle.std.specs.Prelude.{None, Some}
 use Rattle.byte_lines.specs.Lines.{HasNoFeed}
 use Rattle.replica_requests.specs.RequestLines.{request_limit}
-use Rattle.replica_service.specs.Pieces.{IsOverlong}
+use Rattle.replica_sync.specs.Pieces.{IsOverlong}
 use Rattle.local_requests.specs.declared.request_fault.RequestFault.{RequestFault}
 use Rattle.local_requests.specs.declared.request_fault.RequestFault.TheVariants.{WordsTooLong}
 use Rattle.local_requests.specs.declared.request_fault.RequestFault.TheVariants.{InputTooLong}

@@ -12,7 +12,7 @@ ghost use Rattle.replica_core.specs.World.{Rules, World, apply, happens, rules_o
 ghost use Rattle.replica_core.specs.World.{with_state};
 ghost use Rattle.replica_core.specs.declared.entry.Entry.{Entry};
 ghost use Rattle.replica_core.specs.declared.event.Event.TheVariants.{Absorb, Answer, Ask, Part};
-ghost use Rattle.replica_service.specs.PulledPieces.{Journals, PulledGive, PulledPiece, pieces_of};
+ghost use Rattle.replica_sync.specs.PulledPieces.{Journals, PulledGive, PulledPiece, pieces_of};
 ghost use Rattle.local_requests.specs.ChangeEvents.{AppendsTo, BringsTo, IsPulledAmid, events_of};
 ghost use Rattle.local_requests.specs.ChangeEvents.{sent_give, sent_have};
 ghost use Rattle.local_requests.specs.Journalling.{JournalsChange};

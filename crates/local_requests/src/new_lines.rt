@@ -2,7 +2,7 @@
 ghost use Rattle.std.specs.Prelude.{◌≡◌, ◌++◌, IfOk, OnOk};
 ghost use Rattle.receipt_core.specs.Receipt.{IsDigest, distrust_line};
 ghost use Rattle.replica_core.specs.declared.entry.Entry.TheVariants.{Record, Receipt as AReceipt};
-ghost use Rattle.replica_sync.specs.Snapshots.{ended};
+ghost use Rattle.replica_texts.specs.Snapshots.{ended};
 ghost use Rattle.local_requests.specs.Journalling.{AreLinesOfOther, IsLineIfNew};
 ghost use Rattle.local_requests.specs.Inside.NewLineSteps.{AreReceiptLines, AreRecordLines};
 

@@ -1,7 +1,7 @@
 //! What is sent back, and what has to be done before.
 ghost use Rattle.std.specs.Prelude.{◌≡◌, [], IfOk};
 ghost use Rattle.replica_requests.specs.RequestLines.{reply_line};
-ghost use Rattle.replica_sync.specs.Snapshots.{ended};
+ghost use Rattle.replica_texts.specs.Snapshots.{ended};
 
 use byte_lines::FromWrite;
 use fedbundle::{Exit, exit_status, write_exit};

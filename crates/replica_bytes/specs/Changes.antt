@@ -12,9 +12,9 @@ use Rattle.closure_core.specs.Refusals.{RefusesReceipt}
 use Rattle.closure_core.specs.declared.error.TakeError.{TakeError}
 use Rattle.closure_core.specs.declared.outcome.Taken.{Taken}
 use Rattle.closure_core.specs.declared.outcome.Distrusted.{Distrusted}
-use Rattle.replica_sync.specs.Snapshots.{IsSnapshot, RefusesSnapshot}
-use Rattle.replica_sync.specs.Gives.{IsGive, RefusesGive, next_entry_number}
-use Rattle.replica_sync.specs.Messages.{give_text, receipt_text}
+use Rattle.replica_texts.specs.Snapshots.{IsSnapshot, RefusesSnapshot}
+use Rattle.replica_texts.specs.Gives.{IsGive, RefusesGive, next_entry_number}
+use Rattle.replica_texts.specs.Messages.{give_text, receipt_text}
 use Rattle.replica_core.specs.Session.{GiveMessage}
 use Rattle.replica_core.specs.Absorbing.{HasAbsorbed, RefusesAbsorbing}
 use Rattle.replica_core.specs.declared.error.SyncError.{SyncError}

@@ -4,7 +4,7 @@ use Rattle.fed_config.specs.Configuration.{Configuration}
 use Rattle.fed_config.specs.Reading.{IsConfig, RefusesConfigBytes}
 use Rattle.receipt_core.specs.Acceptance.{Meaning}
 use Rattle.closure_core.specs.Changes.{empty_of}
-use Rattle.replica_sync.specs.Snapshots.{IsSnapshot, RefusesSnapshot}
+use Rattle.replica_texts.specs.Snapshots.{IsSnapshot, RefusesSnapshot}
 use Rattle.replica_core.specs.declared.error.SyncError.{SyncError}
 use Rattle.replica_bytes.specs.declared.call_error.CallError.{CallError}
 use Rattle.replica_bytes.specs.declared.call_error.CallError.TheVariants.{Config, Sync, NoMemory}

@@ -11,10 +11,10 @@ use Rattle.bundle_view.specs.Explain.{IsShortest}
 use Rattle.replica_core.specs.Session.{HaveMessage, give_of}
 use Rattle.replica_core.specs.declared.error.SyncError.{SyncError}
 use Rattle.replica_core.specs.declared.error.SyncError.TheVariants.{Truncated}
-use Rattle.replica_sync.specs.FirstLines.{RefusesHaveLine}
-use Rattle.replica_sync.specs.Messages.{give_text, receipt_text}
-use Rattle.replica_sync.specs.Snapshots.{ended}
-use Rattle.replica_sync.specs.SoleLines.{IsHaveLine}
+use Rattle.replica_texts.specs.FirstLines.{RefusesHaveLine}
+use Rattle.replica_texts.specs.Messages.{give_text, receipt_text}
+use Rattle.replica_texts.specs.Snapshots.{ended}
+use Rattle.replica_texts.specs.SoleLines.{IsHaveLine}
 use Rattle.replica_bytes.specs.CallErrors.{RefusesDomainBytes}
 use Rattle.replica_bytes.specs.declared.growing_sink.GrowingSink.{GrowingSink}
 use Rattle.replica_bytes.specs.declared.call_error.CallError.{CallError}

@@ -6,8 +6,8 @@ ghost use Rattle.replica_bytes.specs.Changes.{NamesVerdict, RefusesVerdictBytes}
 ghost use Rattle.replica_bytes.specs.Changes.{ObservesNamed, RefusesNamed};
 
 use crate::call_error::CallError;
+use crate::held_texts::ended_line;
 use crate::named_bytes::{domain_of, endpoint_of, key_of};
-use crate::replica_texts::ended_line;
 use bundle_view::{Verdict, observed_receipt, take_observed};
 use closure_core::Closure;
 use spiffe_name::TrustDomain;

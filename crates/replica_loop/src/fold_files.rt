@@ -8,7 +8,7 @@ use closure_core::Closure;
 use fed_config::Config;
 use fedbundle::{FileFault, journal_path};
 use journal_folding::{FoldStep, Folding};
-use replica_service::begin_journal;
+use replica_journal::begin_journal;
 use replica_sync::{SyncError, write_snapshot};
 use std::alloc::{AllocError, Global};
 use std::fs::{File, Files, Metadata, OpenFile, OpenOptions, Permissions};

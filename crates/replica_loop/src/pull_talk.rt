@@ -3,8 +3,7 @@ use crate::ending::Ending;
 use crate::fresh_lines::Held;
 use crate::rest::Rest;
 use closure_core::Closure;
-use replica_service::Pulling;
-use replica_sync::SyncError;
+use replica_sync::{Pulling, SyncError};
 use std::alloc::Global;
 
 /// How many lines are taken at most in one turn: no more can come in one read.

@@ -2,7 +2,7 @@
 use crate::ending::Ending;
 use crate::rest::Rest;
 use closure_core::Closure;
-use replica_service::Serving;
+use replica_sync::Serving;
 use std::alloc::Global;
 
 /// A connection on which another replica asks, and is answered.

@@ -9,7 +9,7 @@ use Rattle.receipt_core.specs.Receipt.{Receipt, IsDistrust, IsReceipt, receipt_c
 use Rattle.receipt_core.specs.Rising.{with_items}
 use Rattle.closure_core.specs.Refusals.{all_receipts, all_records}
 use Rattle.replica_core.specs.Absorbing.{of_receipts, of_records}
-use Rattle.replica_service.specs.Journal.{entry_text}
+use Rattle.replica_journal.specs.Journal.{entry_text}
 
 -- Of all items these are new to the set, and the rest is still to be looked at.
 pub record IsSifted {X : Type 0} (P : X → Type 0) (cmp : X → X → Ordering)

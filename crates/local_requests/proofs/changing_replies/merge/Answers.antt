@@ -1,6 +1,6 @@
 use Rattle.std.proofs.Common.{◌≡◌, ℕ, Some, ap, subst}
 use Rattle.fed_config.specs.Configuration.{Configuration}
-use Rattle.replica_sync.specs.Snapshots.{IsSnapshot, RefusesSnapshot}
+use Rattle.replica_texts.specs.Snapshots.{IsSnapshot, RefusesSnapshot}
 use Rattle.fedbundle.specs.CommandRun.{DeviceRun}
 use Rattle.local_requests.proofs.ChangingFacts.{source_failed}
 use Rattle.local_requests.proofs.RequestFacts.{merge_journals, merge_taken, merge_unread, merge_untaken}

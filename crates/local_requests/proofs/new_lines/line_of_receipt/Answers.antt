@@ -1,7 +1,7 @@
 use Rattle.std.proofs.Common.{rules, ◌∙◌, ap}
 use Rattle.receipt_core.proofs.ChainFacts.{not_told}
 use Rattle.replica_core.specs.declared.entry.Entry.TheVariants.{Receipt as AReceipt}
-use Rattle.replica_sync.specs.Snapshots.{ended}
+use Rattle.replica_texts.specs.Snapshots.{ended}
 use Rattle.local_requests.proofs.NewLineFacts.{line_held, line_new}
 use Rattle.local_requests.proofs.new_lines.line_of_receipt.Goals as goal
 

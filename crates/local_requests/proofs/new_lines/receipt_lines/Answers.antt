@@ -1,7 +1,7 @@
 use Rattle.std.proofs.Common.{rules, ◌∙◌, ap, subst, List}
 use Rattle.receipt_core.specs.Receipt.{Receipt}
 use Rattle.receipt_core.proofs.ChainFacts.{not_told}
-use Rattle.replica_sync.specs.Snapshots.{ended}
+use Rattle.replica_texts.specs.Snapshots.{ended}
 use Rattle.local_requests.specs.Inside.NewLineSteps.{SiftsReceipts}
 use Rattle.local_requests.proofs.NewLineFacts.{receipts_begin, receipt_held, receipt_new, receipts_end}
 use Rattle.local_requests.proofs.new_lines.receipt_lines.Goals as goal

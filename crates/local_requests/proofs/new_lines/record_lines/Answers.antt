@@ -1,7 +1,7 @@
 use Rattle.std.proofs.Common.{rules, ◌∙◌, ap, subst, List}
 use Rattle.receipt_core.specs.declared.distrust.Distrust.{Distrust}
 use Rattle.receipt_core.proofs.ChainFacts.{not_told}
-use Rattle.replica_sync.specs.Snapshots.{ended}
+use Rattle.replica_texts.specs.Snapshots.{ended}
 use Rattle.local_requests.specs.Inside.NewLineSteps.{SiftsRecords}
 use Rattle.local_requests.proofs.NewLineFacts.{records_begin, record_held, record_new, records_end}
 use Rattle.local_requests.proofs.new_lines.record_lines.Goals as goal
