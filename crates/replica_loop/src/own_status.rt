@@ -1,12 +1,12 @@
 //! What `status` shows of a running replica beside what it holds: how long its files are, and how
 //! the sessions with its peers ended.
 use crate::ending::Ending;
-use crate::journal::Journal;
 use crate::peers::{Peer, Peers};
 use crate::saying::code_of;
 use fedbundle::{CommandName, OptionName, command_of, given, read_request, read_status_format};
 use local_requests::{Reply, RequestFault};
 use replica_requests::{ReplyHead, read_request_words, write_reply_head};
+use state_files::Journal;
 use status_view::StatusFormat;
 use std::alloc::{AllocError, Global};
 use std::fmt;
