@@ -10,7 +10,7 @@ ghost use Rattle.fedbundle.specs.declared.exits.Exit.TheVariants.{Refused};
 use crate::command_name::OptionName;
 use crate::error::{CommandError, status};
 use crate::fault::write_fault;
-use crate::state::FileFault;
+use crate::file_fault::FileFault;
 use byte_lines::{Sink, write_all};
 use std::alloc::AllocError;
 

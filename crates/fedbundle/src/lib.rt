@@ -1,5 +1,5 @@
 //! The command's functions, each over sources and sinks: the program hands them its standard
-//! streams. Beside them the words of the command line, and the state file.
+//! streams. Beside them the words of the command line, and why a command ends.
 #![tactic(auto)]
 
 mod bundle;
@@ -13,8 +13,8 @@ mod error;
 mod exits;
 mod explain;
 mod fault;
+mod file_fault;
 mod help_texts;
-mod journal_file;
 mod judge;
 pub mod laws;
 mod merge;
@@ -27,7 +27,6 @@ mod report;
 mod run_error;
 mod serve;
 mod sessions;
-mod state;
 mod two_parts;
 mod words;
 
@@ -41,7 +40,7 @@ pub use error::{CommandError, status};
 pub use exits::{Exit, Step, SystemFault, exit_status, write_exit};
 pub use explain::run_explain;
 pub use fault::write_fault;
-pub use journal_file::{journal_path, load_state, new_journal, save_state};
+pub use file_fault::FileFault;
 pub use merge::{run_merge, take_other};
 pub use migrate::run_migrate;
 pub use observe::{Observed, prepare_observe, run_observe};
@@ -56,7 +55,4 @@ pub use report::{run_report, run_report_into, run_report_with};
 pub use run_error::RunError;
 pub use serve::{run_serve, write_served};
 pub use sessions::read_sessions;
-pub use state::{
-    FileFault, SeenState, StateLock, is_marked, see_state, state_bytes, try_lock_state,
-};
 pub use words::{Call, WordsError, command_of, read_request, read_words};

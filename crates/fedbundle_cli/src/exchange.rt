@@ -10,12 +10,11 @@ use crate::{options, reasons};
 use byte_lines::{FromRead, FromWrite};
 use fed_config::Config;
 use fedbundle::{
-    Call, CommandError, Exit, OptionName, SeenState, Step, journal_path, run_pull, run_serve,
-    see_state, wanted, write_served,
+    Call, CommandError, Exit, OptionName, Step, run_pull, run_serve, wanted, write_served,
 };
+use state_files::{SeenState, has_journal, see_state};
 use std::io::{Read, Write};
 use std::net::{SocketAddr, TcpListener};
-use std::{fs, io};
 use trust_closure::{Closure, ExchangeClosure};
 
 /// How many sessions are served, and whether each is spoken of.
@@ -220,21 +219,12 @@ fn end_saving(
 }
 
 fn is_as_begun(rt: &HostRuntime, file: &SeenState, path: &str) -> Result<bool, Exit> {
-    if has_journal(rt, path)? {
+    if has_journal(rt, rt.alloc(), path)? {
         return Ok(false);
     }
     match file.is_last(rt, path) {
         Ok(is_last) => Ok(is_last),
         Err(fault) => Err(Exit::of_file(Step::See, fault)),
-    }
-}
-
-// A journal of which the system does not say whether it is there is found when it is read.
-fn has_journal(rt: &HostRuntime, path: &str) -> Result<bool, Exit> {
-    let name = journal_path(rt.alloc(), path)?;
-    match fs::metadata(rt, name.as_str()) {
-        Ok(_) => Ok(true),
-        Err(error) => Ok(error.kind() != io::ErrorKind::NotFound),
     }
 }
 

@@ -3,10 +3,8 @@
 use crate::speaking::speaks_unasked;
 use crate::streams::error_lines;
 use fed_config::Config;
-use fedbundle::{
-    Call, CommandError, Exit, Manner, OptionName, StateLock, Step, is_marked, load_state,
-    manner_of, save_state, state_bytes, try_lock_state, wanted,
-};
+use fedbundle::{Call, CommandError, Exit, Manner, OptionName, Step, manner_of, wanted};
+use state_files::{StateLock, is_marked, load_state, save_state, state_bytes, try_lock_state};
 use std::io::Write;
 use std::time::Duration;
 use std::{mem, thread};

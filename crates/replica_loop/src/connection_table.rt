@@ -1,6 +1,5 @@
 //! The connections that there are, and how many there may be.
 use crate::fresh_lines::Held;
-use crate::journal::Journal;
 use crate::live_connection::{BYTES_A_TURN, Connection};
 use crate::local_talk::Surroundings;
 use crate::socket::Socket;
@@ -8,6 +7,7 @@ use crate::talk::Talk;
 use closure_core::Closure;
 use fedbundle::FileFault;
 use mio::Poll;
+use state_files::Journal;
 use std::alloc::{AllocError, Global};
 use std::net::SocketAddr;
 use std::time::{Duration, Instant};

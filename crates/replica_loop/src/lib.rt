@@ -6,19 +6,17 @@
 //! that each turn returns where the system's calls do; the rest is shown by runs of the program.
 //!
 //! `replica` begins and ends a replica, and `turn` is one round of the loop: what came is read, the
-//! changes go to the journal (`journal`), and only then anything is written; a long journal goes
-//! into the snapshot (`fold_files`). Connections come in at the `gates`. `connection_table` has
-//! them, `live_connection` is one of them, and what is said on it is a `talk`. `peers` has what
+//! changes go to the journal, and only then anything is written; a long journal goes into the
+//! snapshot. `state_files` has these files. Connections come in at the `gates`. `connection_table`
+//! has them, `live_connection` is one of them, and what is said on it is a `talk`. `peers` has what
 //! `status` shows of the peers. `client` is the other side of a local request.
 #![tactic(auto)]
 
 mod client;
 mod connection_table;
 mod ending;
-mod fold_files;
 mod fresh_lines;
 mod gates;
-mod journal;
 mod live_connection;
 mod local_talk;
 mod peers;

@@ -2,10 +2,8 @@
 //! anything is written. So nobody is shown a change that a kill could take back.
 use crate::connection_table::ConnectionTable;
 use crate::ending::Ending;
-use crate::fold_files::{FoldFault, fold_state};
 use crate::fresh_lines::Held;
 use crate::gates::{Arrival, Gates};
-use crate::journal::Journal;
 use crate::live_connection::Connection;
 use crate::local_talk::{LocalTalk, Surroundings};
 use crate::peers::Peers;
@@ -17,11 +15,11 @@ use crate::socket::Socket;
 use crate::step_fault::{at_step, file_at_step};
 use crate::talk::Talk;
 use closure_core::Closure;
-use fed_config::Config;
 use fedbundle::{Exit, FileFault, Step};
 use mio::Events;
 use mio::net::TcpStream;
 use replica_sync::SyncError;
+use state_files::{FoldFault, Journal, StateBeginning, fold_state};
 use status_view::RunningStatus;
 use std::alloc::Global;
 use std::fs::{File, Files};
@@ -59,15 +57,16 @@ pub(crate) struct Works {
 
 impl Works {
     /// Begins the journal, and listens.
-    pub(crate) fn begin<R: Files<File = File> + Net + Clock>(
+    pub(crate) fn begin<C: Closure, R: Files<File = File> + Net + Clock>(
         rt: &R,
         alloc: Global,
-        config: &Config,
+        closure: &C,
+        beginning: StateBeginning,
         settings: &Settings<'_, '_>,
     ) -> Result<Works, Exit> {
         let now = at_step(Step::Socket, Instant::now(rt))?;
         let gates = Gates::open(rt, settings)?;
-        let journal = Journal::begin(rt, alloc, config, settings.state);
+        let journal = beginning.begin_journal(rt, alloc, closure, settings.state);
         Ok(Works {
             gates,
             table: ConnectionTable::new(alloc)?,
