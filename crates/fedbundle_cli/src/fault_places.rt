@@ -1,7 +1,7 @@
 // A second look at files and input that were refused: where they are at fault, in words.
 use crate::options;
 use crate::reasons::state_path;
-use crate::speaking::{quoted, say, shown, words_of};
+use crate::verbose_lines::{quoted, say, shown, words_of};
 use bundle_doc::{Document, MAX_DOCUMENT_BYTES};
 use byte_lines::{FromRead, read_up_to};
 use fault_view::{Flaw, Found, Place, UrlFlaw, find_flaw, is_ignored, json_fault};

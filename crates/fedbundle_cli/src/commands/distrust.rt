@@ -1,9 +1,16 @@
 // `distrust`: a record of distrust, made or only shown.
+use crate::commands::state_writers::{Coming, change};
 use crate::options::domain;
 use crate::streams::{complaints, output};
+use fed_config::Config;
 use fedbundle::{Call, Exit, OptionName, manner_of, read_key, run_distrust, show_distrust, wanted};
 use receipt_core::Distrust;
 use trust_closure::IndexedClosure;
+
+/// Takes the record of distrust that the options say.
+pub(crate) fn run(rt: &HostRuntime, config: &Config, call: &Call<'_>) -> Result<u8, Exit> {
+    change(rt, config, call, Coming::Record)
+}
 
 /// Prints what the record would change.
 pub(crate) fn show(

@@ -8,11 +8,7 @@ use spiffe_name::TrustDomain;
 use trust_closure::IndexedClosure;
 
 /// Prints the configuration, or reports the domains that are refused.
-pub(crate) fn reseed(
-    rt: &HostRuntime,
-    closure: &IndexedClosure,
-    call: &Call<'_>,
-) -> Result<u8, Exit> {
+pub(crate) fn run(rt: &HostRuntime, closure: &IndexedClosure, call: &Call<'_>) -> Result<u8, Exit> {
     match given(call, OptionName::Allow) {
         Some(text) => reseed_but(rt, closure, text),
         None => reseed_on(rt, closure, None),

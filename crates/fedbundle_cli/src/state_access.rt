@@ -1,7 +1,7 @@
 // The state file as the commands use it: its lock, which is waited for within a limit, what it
 // holds, and how much may come to that.
-use crate::speaking::speaks_unasked;
 use crate::streams::error_lines;
+use crate::verbose_lines::speaks_unasked;
 use fed_config::Config;
 use fedbundle::{
     Call, CommandError, Exit, Manner, OptionName, StateLock, Step, is_marked, load_state,

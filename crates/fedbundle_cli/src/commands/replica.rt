@@ -1,4 +1,4 @@
-// `replica`: what the words say of it, read.
+// `replica`: what the words say of it, read, and the replica run.
 use crate::options;
 use fed_config::Config;
 use fedbundle::{Call, CommandError, Exit, OptionName, given, manner_of, wanted};
@@ -17,7 +17,7 @@ const MAX_EVERY_SECONDS: u64 = 86_400;
 const MOST_PEERS: usize = 16;
 
 /// Runs the replica until it is asked to end.
-pub(crate) fn stay(rt: &HostRuntime, config: &Config, call: &Call<'_>) -> Result<u8, Exit> {
+pub(crate) fn run(rt: &HostRuntime, config: &Config, call: &Call<'_>) -> Result<u8, Exit> {
     let peers = peers_of(rt.alloc(), given(call, OptionName::Peers))?;
     let settings = settings_of(call, peers.as_slice())?;
     run_replica(rt, config, &settings)?;
