@@ -10,7 +10,7 @@ use Rattle.fedbundle.specs.Canon.{RunsCanon, RunsCanonOn}
 use Rattle.fedbundle.specs.Errors.{of_read}
 use Rattle.fedbundle.specs.Explain.{ExplanationCall, RunsExplain}
 use Rattle.fedbundle.specs.Observe.{Fetched, RefusesToMake, RunsObserve}
-use Rattle.fedbundle.specs.declared.option_texts.OutputForm.{OutputForm}
+use Rattle.command_line.specs.declared.option_texts.OutputForm.{OutputForm}
 use Rattle.fedbundle.specs.declared.error.CommandError.{CommandError}
 use Rattle.fedbundle.specs.declared.error.CommandError.TheVariants.{Config, Document, Full, Io, Journal, Name}
 use Rattle.fedbundle.specs.declared.error.CommandError.TheVariants.{NoMemory, Observe, Poll, Pull, Sync, Take}

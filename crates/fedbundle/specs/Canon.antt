@@ -11,8 +11,8 @@ use Rattle.fedbundle.specs.CommandRun.{CommandRun, DeviceRun, ReadsDocument, Ref
 use Rattle.fedbundle.specs.CommandRun.{PrintsText}
 use Rattle.fedbundle.specs.CommandRun.{WritesNothing, CutsOff, FailsToRead}
 use Rattle.bundle_json.specs.DocumentJson.{document_json}
-use Rattle.fedbundle.specs.declared.option_texts.OutputForm.{OutputForm}
-use Rattle.fedbundle.specs.declared.option_texts.OutputForm.TheVariants.{Text, Json}
+use Rattle.command_line.specs.declared.option_texts.OutputForm.{OutputForm}
+use Rattle.command_line.specs.declared.option_texts.OutputForm.TheVariants.{Text, Json}
 use Rattle.fedbundle.specs.declared.error.CommandError.{CommandError}
 use Rattle.fedbundle.specs.declared.error.CommandError.TheVariants.{Document, NoMemory, Io}
 

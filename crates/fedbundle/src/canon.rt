@@ -8,11 +8,11 @@ ghost use Rattle.bundle_doc.specs.Bundle.{canonical_text};
 ghost use Rattle.jwk_set.specs.Element.{key_id_of};
 
 use crate::error::CommandError;
-use crate::option_texts::OutputForm;
 use crate::two_parts::write_both;
 use bundle_doc::{Document, MAX_DOCUMENT_BYTES};
 use bundle_json::document_json;
 use byte_lines::{Sink, Source, push_digits, read_up_to};
+use command_line::OutputForm;
 use jwk_set::Authority;
 use spiffe_name::TrustDomain;
 use std::alloc::{AllocError, Global};
