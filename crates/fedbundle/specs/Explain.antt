@@ -11,8 +11,9 @@ use Rattle.bundle_json.specs.ChainJson.{chain_json, root_id}
 use Rattle.fedbundle.specs.CommandRun.{CommandRun, DeviceRun, ReadsDocument, RefusesDocument}
 use Rattle.fedbundle.specs.CommandRun.{PrintsText, WritesNothing, CutsOff, FailsToRead}
 use Rattle.text_lines.specs.TextLines.{number_or_none}
-use Rattle.fedbundle.specs.declared.chain_text.ExplanationForm.{ExplanationForm}
-use Rattle.fedbundle.specs.declared.chain_text.ExplanationForm.TheVariants.{Receipts, Steps, Json}
+use Rattle.command_line.specs.declared.option_texts.ExplanationForm.{ExplanationForm}
+use Rattle.command_line.specs.declared.option_texts.ExplanationForm.TheVariants.{Receipts, Steps}
+use Rattle.command_line.specs.declared.option_texts.ExplanationForm.TheVariants.{Json}
 use Rattle.fedbundle.specs.declared.error.CommandError.{CommandError}
 use Rattle.fedbundle.specs.declared.error.CommandError.TheVariants.{Document, NoMemory, Io}
 

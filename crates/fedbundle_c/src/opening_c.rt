@@ -3,7 +3,7 @@ ghost use Rattle.std.specs.Prelude.{◌≡◌, ◌≤◌, codes, MatchResult};
 ghost use Rattle.std.specs.declared.option.Option.TheVariants.{None};
 ghost use Rattle.fedbundle_c.specs.Exports.{OpensHandle, meaning_in};
 ghost use Rattle.replica_bytes.specs.Opening.{OpensBytes, RefusesOpening};
-ghost use Rattle.replica_bytes.specs.Outcomes.{WritesOut};
+ghost use Rattle.replica_bytes.specs.Outcomes.{WritesOut, out_run};
 
 use crate::handle::Handle;
 use crate::held_replica::Replica;
@@ -14,7 +14,7 @@ use trust_closure::ExchangeClosure;
 /// Writes the version of the library, without a line feed.
 #[unsafe(no_mangle)]
 pub extern "C" fn fedbundle_raw_version(out: &mut [u8], outcome: &mut CallOutcome) -> i64
-    ensures does { WritesOut (codes "0.2.0") out.old out.new outcome.new.length result }
+    ensures does { WritesOut (codes "0.2.0") (out_run out.old out.new outcome.new.length result) }
     ensures count { outcome.new.count ≡ 0 }
     ensures fault { outcome.new.fault_length ≤ 240 }
 {

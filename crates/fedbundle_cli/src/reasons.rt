@@ -2,8 +2,8 @@
 // the part of it that is at fault. A fault keeps no more than numbers, so this looks a second time
 // at what the command was given, and only where these lines are wanted.
 use crate::exit::print_exit;
-use crate::second_look::{say_bundle, say_config, say_state, say_stream};
-use crate::speaking::{quoted, say, shown, speaks, words_of};
+use crate::fault_places::{say_bundle, say_config, say_state, say_stream};
+use crate::verbose_lines::{quoted, say, shown, speaks, words_of};
 use fed_config::Config;
 use fedbundle::{
     Call, CommandError, CommandName, Exit, OptionName, Step, SystemFault, given, status,

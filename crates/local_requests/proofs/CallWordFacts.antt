@@ -1,9 +1,9 @@
 -- The words of the options of a request.
 use Rattle.std.proofs.Common.{◌≡◌, ℕ, ◌+◌, ◌<◌, List, [], ◌∷◌, ◌++◌, map, drop, length, not, Bool, Option, option_to_list}
 use Rattle.std.proofs.Common.{refl, sym, ap, ◌∙◌, append_assoc, arith}
-use Rattle.fedbundle.specs.Words.{is_place}
-use Rattle.fedbundle.specs.declared.command_name.OptionName.{OptionName}
-use Rattle.fedbundle.specs.declared.command_name.OptionName.TheVariants.{At}
+use Rattle.command_line.specs.Words.{is_place}
+use Rattle.command_line.specs.declared.command_name.OptionName.{OptionName}
+use Rattle.command_line.specs.declared.command_name.OptionName.TheVariants.{At}
 use Rattle.local_requests.specs.RequestWords.{is_asked, word_beside, words_beside}
 
 -- any option but `--at` may stand in a request, where it names no file

@@ -27,7 +27,7 @@ use Rattle.replica_core.proofs.ExchangeFacts.{answered-is, asked-is, content_of,
 use Rattle.replica_sync.proofs.PullingFacts.{longer_with_items}
 use Rattle.replica_journal.specs.Journal.{entry_text}
 use Rattle.replica_sync.specs.PulledPieces.{Journals}
-use Rattle.local_requests.specs.ChangeEvents.{AppendsTo, BringsTo, event_of, events_of, sent_give, sent_have}
+use Rattle.local_requests.specs.ChangeEvents.{AppendsTo, BringsTo, event_of, events_of, replica_in, sent_give, sent_have}
 use Rattle.local_requests.specs.Journalling.{JournalsChange}
 use Rattle.fedbundle.specs.CommandRun.{StateRun}
 
@@ -235,7 +235,7 @@ module _ (takes : (past : WorldRun) (i : ℕ) (r : Receipt) → i < past.replica
 
   -- What a request changes.
   pub request-in-world : (text : List ℕ) (state : StateRun) (n i : ℕ) (w : World) → i < n → w.now i ≡ state_of state.old.meaning
-      → IsMeaning state.new.meaning → JournalsChange text state → BringsTo (rules_of state.old.meaning.config n) w i text state.new.meaning
+      → IsMeaning state.new.meaning → JournalsChange text state → BringsTo (replica_in (rules_of state.old.meaning.config n) w i) text state.new.meaning
   request-in-world text state n i w l here valid change = record {
     entries = change.entries;
     each = change.lines.each;
@@ -245,7 +245,7 @@ module _ (takes : (past : WorldRun) (i : ℕ) (r : Receipt) → i < past.replica
 
   -- What a piece of an answer changes.
   pub piece-in-world : (old new : Meaning) (before after : List ℕ) (n i : ℕ) (w : World) → i < n → w.now i ≡ state_of old → IsMeaning new
-      → Journals old new before after → AppendsTo (rules_of old.config n) w i before after new
+      → Journals old new before after → AppendsTo (replica_in (rules_of old.config n) w i) before after new
   piece-in-world old new before after n i w l here valid (inl same) = record {
     text = [];
     appended = same.1 ∙ sym (append-nil before);

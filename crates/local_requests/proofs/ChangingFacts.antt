@@ -13,10 +13,10 @@ use Rattle.replica_texts.specs.Snapshots.{is_io}
 use Rattle.fedbundle.specs.CommandRun.{DeviceRun, StateRun, state_run}
 use Rattle.fedbundle.specs.Distrust.{RunsDistrust}
 use Rattle.fedbundle.specs.Observe.{Fetched, IsAsHeld, RefusesToMake}
-use Rattle.fedbundle.specs.OptionTexts.{SaysFlag}
-use Rattle.fedbundle.specs.Words.{CallsInRequest}
-use Rattle.fedbundle.specs.declared.command_name.CommandName.TheVariants as command
-use Rattle.fedbundle.specs.declared.command_name.OptionName.TheVariants.{Domain, DryRun, Verbose}
+use Rattle.command_line.specs.OptionTexts.{SaysFlag}
+use Rattle.command_line.specs.Words.{CallsInRequest}
+use Rattle.command_line.specs.declared.command_name.CommandName.TheVariants as command
+use Rattle.command_line.specs.declared.command_name.OptionName.TheVariants.{Domain, DryRun, Verbose}
 use Rattle.fedbundle.specs.declared.error.CommandError.{CommandError}
 use Rattle.fedbundle.specs.declared.error.CommandError.TheVariants.{NoMemory, Observe, Sync, Take}
 use Rattle.fedbundle.specs.declared.exits.Exit.{Exit}

@@ -13,9 +13,9 @@ use Rattle.fedbundle.specs.Distrust.{ShowsDistrust}
 use Rattle.fedbundle.specs.Exits.{AppendsExit, exit_status_of}
 use Rattle.fedbundle.specs.Explain.{RunsExplain, explanation_call}
 use Rattle.fedbundle.specs.Polls.{RunsPolls}
-use Rattle.fedbundle.specs.declared.chain_text.ExplanationForm.{ExplanationForm}
-use Rattle.fedbundle.specs.declared.command_name.CommandName.{CommandName}
-use Rattle.fedbundle.specs.declared.command_name.CommandName.TheVariants as command
+use Rattle.command_line.specs.declared.option_texts.ExplanationForm.{ExplanationForm}
+use Rattle.command_line.specs.declared.command_name.CommandName.{CommandName}
+use Rattle.command_line.specs.declared.command_name.CommandName.TheVariants as command
 use Rattle.fedbundle.specs.declared.error.CommandError.{CommandError}
 use Rattle.fedbundle.specs.declared.error.CommandError.TheVariants.{Io, Name}
 use Rattle.fedbundle.specs.declared.exits.Exit.{Exit}

@@ -24,19 +24,27 @@ event_of i (AReceipt r) = Take i r
 abbrev pub events_of : ℕ → List Entry → List Event
 events_of i entries = map (event_of i) entries
 
+-- a replica, by its number, in a world with these rules
+pub record ReplicaIn : Type 0 where
+  pub rules : Rules
+  pub world : World
+  pub number : ℕ
+
+abbrev pub replica_in : Rules → World → ℕ → ReplicaIn
+replica_in rules w i = record { rules = rules; world = w; number = i }
+
 -- The text is the lines of entries, and after their events the replica holds what m says.
-pub record BringsTo (rules : Rules) (w : World) (i : ℕ) (text : List ℕ) (m : Meaning) : Type 0 where
+pub record BringsTo (at : ReplicaIn) (text : List ℕ) (m : Meaning) : Type 0 where
   pub entries : List Entry
   pub each : AreWellFormed entries
   pub spelt : text ≡ flat_map entry_text entries
-  pub holds : (run_from rules w (events_of i entries)).now i ≡ state_of m
+  pub holds : (run_from at.rules at.world (events_of at.number entries)).now at.number ≡ state_of m
 
 -- What is appended to the journal brings the replica to hold what m says.
-pub record AppendsTo (rules : Rules) (w : World) (i : ℕ) (before after : List ℕ)
-    (m : Meaning) : Type 0 where
+pub record AppendsTo (at : ReplicaIn) (before after : List ℕ) (m : Meaning) : Type 0 where
   pub text : List ℕ
   pub appended : after ≡ before ++ text
-  pub brings : BringsTo rules w i text m
+  pub brings : BringsTo at text m
 
 -- ---- answers that come in pieces
 

@@ -17,20 +17,21 @@ use Rattle.fedbundle.specs.Explain.{ExplanationCall, RunsExplain, explanation_ca
 use Rattle.fedbundle.specs.Merge.{RunsMerge}
 use Rattle.fedbundle.specs.Observe.{Fetched, IsAsHeld, RunsObserve}
 use Rattle.fedbundle.specs.Polls.{RunsPolls}
-use Rattle.fedbundle.specs.OptionTexts.{SaysBundleFormat, SaysExplanationForm}
-use Rattle.fedbundle.specs.OptionTexts.{SaysFlag, SaysMoment, SaysStatusFormat, option_said}
-use Rattle.fedbundle.specs.declared.chain_text.ExplanationForm.{ExplanationForm}
-use Rattle.fedbundle.specs.declared.option_texts.BundleFormat.{BundleFormat}
-use Rattle.fedbundle.specs.declared.option_texts.BundleFormat.TheVariants.{Json, Pem}
+use Rattle.command_line.specs.OptionTexts.{SaysBundleFormat, SaysExplanationForm}
+use Rattle.command_line.specs.OptionTexts.{SaysFlag, option_said}
+use Rattle.fedbundle.specs.OptionValues.{SaysMoment, SaysStatusFormat}
+use Rattle.command_line.specs.declared.option_texts.ExplanationForm.{ExplanationForm}
+use Rattle.command_line.specs.declared.option_texts.BundleFormat.{BundleFormat}
+use Rattle.command_line.specs.declared.option_texts.BundleFormat.TheVariants.{Json, Pem}
 use Rattle.status_view.specs.StatusRuns.{IsRunningStatusIn, IsWarned}
 use Rattle.status_view.specs.declared.running.RunningStatus.{RunningStatus}
 use Rattle.status_view.specs.declared.status_writer.StatusFormat.{StatusFormat}
-use Rattle.fedbundle.specs.declared.command_name.CommandName.{CommandName}
-use Rattle.fedbundle.specs.declared.command_name.CommandName.TheVariants as command
-use Rattle.fedbundle.specs.declared.command_name.OptionName.{OptionName}
-use Rattle.fedbundle.specs.declared.command_name.OptionName.TheVariants.{Domain, Endpoint, Key}
-use Rattle.fedbundle.specs.declared.command_name.OptionName.TheVariants.{Format, Short, Now}
-use Rattle.fedbundle.specs.declared.command_name.OptionName.TheVariants.{DryRun, Verbose}
+use Rattle.command_line.specs.declared.command_name.CommandName.{CommandName}
+use Rattle.command_line.specs.declared.command_name.CommandName.TheVariants as command
+use Rattle.command_line.specs.declared.command_name.OptionName.{OptionName}
+use Rattle.command_line.specs.declared.command_name.OptionName.TheVariants.{Domain, Endpoint, Key}
+use Rattle.command_line.specs.declared.command_name.OptionName.TheVariants.{Format, Short, Now}
+use Rattle.command_line.specs.declared.command_name.OptionName.TheVariants.{DryRun, Verbose}
 use Rattle.fedbundle.specs.declared.error.CommandError.{CommandError}
 use Rattle.fedbundle.specs.Exits.{IsExitLine, exit_status_of}
 use Rattle.fedbundle.specs.declared.error.CommandError.TheVariants.{Document, Io, Name, NoMemory}
@@ -39,8 +40,8 @@ use Rattle.fedbundle.specs.declared.exits.Exit.{Exit}
 use Rattle.fedbundle.specs.declared.exits.Exit.TheVariants.{NoBundle, NotAccepted, Refused}
 use Rattle.fedbundle.specs.declared.exits.Exit.TheVariants.{Usage, BadNumber, BadKey, BadMoment}
 use Rattle.fedbundle.specs.declared.exits.Exit.TheVariants.{TooManyBytes}
-use Rattle.fedbundle.specs.Words.{CallsInRequest}
-use Rattle.fedbundle.specs.declared.words.Call.{Call}
+use Rattle.command_line.specs.Words.{CallsInRequest}
+use Rattle.command_line.specs.declared.words.Call.{Call}
 use Rattle.replica_requests.specs.RequestLines.{SaysWords}
 use Rattle.local_requests.specs.Replies.{first_line}
 use Rattle.local_requests.specs.declared.reply.Reply.{Reply}

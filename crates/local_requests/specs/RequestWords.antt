@@ -1,10 +1,10 @@
 -- The words by which a request asks for what the words of a command line ask for.
 use Rattle.std.specs.Prelude.{ℕ, List, [], ◌∷◌, ◌++◌, codes, Option, None, Some, Bool, false}
 use Rattle.std.specs.Prelude.{not, if◌then◌else◌, bytes_eq, option_to_list}
-use Rattle.fedbundle.specs.Words.{is_flag, is_place, name_text, option_text, options_of}
-use Rattle.fedbundle.specs.declared.command_name.CommandName.{CommandName}
-use Rattle.fedbundle.specs.declared.command_name.OptionName.{OptionName}
-use Rattle.fedbundle.specs.declared.command_name.OptionName.TheVariants.{At}
+use Rattle.command_line.specs.Words.{is_flag, is_place, name_text, option_text, options_of}
+use Rattle.command_line.specs.declared.command_name.CommandName.{CommandName}
+use Rattle.command_line.specs.declared.command_name.OptionName.{OptionName}
+use Rattle.command_line.specs.declared.command_name.OptionName.TheVariants.{At}
 
 -- a request may have it: it names no file, and no replica
 abbrev pub is_asked : OptionName → Bool

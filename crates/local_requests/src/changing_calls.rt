@@ -3,7 +3,7 @@ ghost use Rattle.std.specs.Prelude.{◌≡◌, ◌<◌, ◌≤◌, IfErr, IfOk, 
 ghost use Rattle.spiffe_name.specs.SpiffeId.{IsId, RefusesId};
 ghost use Rattle.spiffe_name.specs.declared.error.NameError.{NameError};
 ghost use Rattle.fedbundle.specs.CommandRun.{state_run};
-ghost use Rattle.fedbundle.specs.declared.command_name.CommandName.TheVariants as command;
+ghost use Rattle.command_line.specs.declared.command_name.CommandName.TheVariants as command;
 ghost use Rattle.fedbundle.specs.declared.error.CommandError.TheVariants.{Name};
 ghost use Rattle.fedbundle.specs.declared.exits.Exit.TheVariants.{Refused, TooManyBytes};
 ghost use Rattle.local_requests.specs.Inside.AskedRun.{run_of};

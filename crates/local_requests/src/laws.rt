@@ -14,6 +14,7 @@ ghost use Rattle.replica_core.specs.declared.entry.Entry.{Entry};
 ghost use Rattle.replica_core.specs.declared.event.Event.TheVariants.{Absorb, Answer, Ask, Part};
 ghost use Rattle.replica_sync.specs.PulledPieces.{Journals, PulledGive, PulledPiece, pieces_of};
 ghost use Rattle.local_requests.specs.ChangeEvents.{AppendsTo, BringsTo, IsPulledAmid, events_of};
+ghost use Rattle.local_requests.specs.ChangeEvents.{replica_in};
 ghost use Rattle.local_requests.specs.ChangeEvents.{sent_give, sent_have};
 ghost use Rattle.local_requests.specs.Journalling.{JournalsChange};
 ghost use Rattle.fedbundle.specs.CommandRun.{StateRun};
@@ -37,10 +38,10 @@ pub fn world_of_changes()
     ensures requested { (text : List ℕ) (state : StateRun) (n i : ℕ) (w : World) → i < n
         → w.now i ≡ state_of state.old.meaning → IsMeaning state.new.meaning
         → JournalsChange text state
-        → BringsTo (rules_of state.old.meaning.config n) w i text state.new.meaning }
+        → BringsTo (replica_in (rules_of state.old.meaning.config n) w i) text state.new.meaning }
     ensures pulled { (old new : Meaning) (before after : List ℕ) (n i : ℕ) (w : World) → i < n
         → w.now i ≡ state_of old → IsMeaning new → Journals old new before after
-        → AppendsTo (rules_of old.config n) w i before after new }
+        → AppendsTo (replica_in (rules_of old.config n) w i) before after new }
     ensures elsewhere { (rules : Rules) (entries : List Entry) (i j : ℕ) (w : World) → j ≢ i
         → (run_from rules w (events_of i entries)).now j ≡ w.now j }
     ensures silent { (rules : Rules) (entries : List Entry) (i : ℕ) (w : World)

@@ -1,7 +1,7 @@
 //! The commands that show what is held, by what the words say.
 ghost use Rattle.std.specs.Prelude.{◌≡◌, [], IfErr, IfOk};
 ghost use Rattle.fedbundle.specs.CommandRun.{state_run};
-ghost use Rattle.fedbundle.specs.declared.command_name.CommandName.TheVariants as command;
+ghost use Rattle.command_line.specs.declared.command_name.CommandName.TheVariants as command;
 ghost use Rattle.local_requests.specs.Inside.AskedRun.{run_of};
 ghost use Rattle.local_requests.specs.RequestRun.{Answers, Ends};
 

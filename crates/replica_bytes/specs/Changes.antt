@@ -58,34 +58,42 @@ pub record HasRefusedLineBytes (old : HeldAndRoom) (text : List ℕ) (new : Held
 
 -- ---- a key
 
+-- the bytes that are to name a domain, and a key
+pub record KeyBytes : Type 0 where
+  pub domain : List ℕ
+  pub key : List ℕ
+
+abbrev pub key_bytes : (domain key : List ℕ) → KeyBytes
+key_bytes domain key = record { domain = domain; key = key }
+
 -- The bytes name a domain and a key, and that record is held.
-pub record DistrustsBytes (old : Meaning) (domain key : List ℕ) (new : Meaning)
+pub record DistrustsBytes (old : Meaning) (bytes : KeyBytes) (new : Meaning)
     (outcome : Distrusted) : Type 0 where
   pub entry : Distrust
-  pub domain_is : entry.domain ≡ domain
-  pub form : IsDomainText domain
-  pub key_is : IsKeyDigits key entry.key
+  pub domain_is : entry.domain ≡ bytes.domain
+  pub form : IsDomainText bytes.domain
+  pub key_is : IsKeyDigits bytes.key entry.key
   pub holds : Distrusts old entry new outcome
 
 -- They name a record that is refused, for this cause.
-pub record RefusesNamedKey (old : Meaning) (domain key : List ℕ) (new : Meaning)
+pub record RefusesNamedKey (old : Meaning) (bytes : KeyBytes) (new : Meaning)
     (why : TakeError) : Type 0 where
   pub entry : Distrust
-  pub domain_is : entry.domain ≡ domain
-  pub key_is : IsKeyDigits key entry.key
+  pub domain_is : entry.domain ≡ bytes.domain
+  pub key_is : IsKeyDigits bytes.key entry.key
   pub refused : HasRefusedDistrust old entry new why
 
 -- They are no name, or they name a domain and no key; or that record is refused.
-abbrev pub RefusesKeyBytes : Meaning → List ℕ → List ℕ → Meaning → CallError → Type 0
-RefusesKeyBytes old domain key new Usage = RefusesDomainBytes domain Usage
-    ⊎ (IsDomainText domain × IsNoKey key)
-RefusesKeyBytes old domain key new (Name e) = RefusesDomainBytes domain (Name e)
-RefusesKeyBytes old domain key new (Take why) = RefusesNamedKey old domain key new why
-RefusesKeyBytes old domain key new _ = ⊥
+abbrev pub RefusesKeyBytes : Meaning → KeyBytes → Meaning → CallError → Type 0
+RefusesKeyBytes old bytes new Usage = RefusesDomainBytes bytes.domain Usage
+    ⊎ (IsDomainText bytes.domain × IsNoKey bytes.key)
+RefusesKeyBytes old bytes new (Name e) = RefusesDomainBytes bytes.domain (Name e)
+RefusesKeyBytes old bytes new (Take why) = RefusesNamedKey old bytes new why
+RefusesKeyBytes old bytes new _ = ⊥
 
-pub record HasRefusedKeyBytes (old : Meaning) (domain key : List ℕ) (new : Meaning)
+pub record HasRefusedKeyBytes (old : Meaning) (bytes : KeyBytes) (new : Meaning)
     (e : CallError) : Type 0 where
-  pub cause : RefusesKeyBytes old domain key new e
+  pub cause : RefusesKeyBytes old bytes new e
   pub same : new ≡ old
 
 -- ---- a snapshot
@@ -205,9 +213,17 @@ ObservesNamed old fetched room new (Held text) = HasHeldLine old fetched new tex
     × (length text.items ≤ room)
 ObservesNamed old fetched room new (NeedsRoom needed) = LacksRoom old fetched room new needed
 
-abbrev pub ObservesFetched : HeldAndRoom → FetchedBytes → ℕ → HeldAndRoom → ObservedBytes → Type 0
-ObservesFetched old bytes room new observed =
-    HoldsOfFetched bytes (λ fetched. ObservesNamed old fetched room new observed)
+-- a bundle's bytes, and how many bytes its receipt's line may have
+pub record FetchedFor : Type 0 where
+  pub bytes : FetchedBytes
+  pub room : ℕ
+
+abbrev pub fetched_for : FetchedBytes → ℕ → FetchedFor
+fetched_for bytes room = record { bytes = bytes; room = room }
+
+abbrev pub ObservesFetched : HeldAndRoom → FetchedFor → HeldAndRoom → ObservedBytes → Type 0
+ObservesFetched old came new observed =
+    HoldsOfFetched came.bytes (λ fetched. ObservesNamed old fetched came.room new observed)
 
 -- Its receipt can be taken, and memory ran out for the line; nothing was taken.
 pub record LosesLine (old : HeldAndRoom) (fetched : FetchedBundle)

@@ -24,35 +24,50 @@ ReturnsNone returned = returned ≡ pos 2
 abbrev pub ReturnsAlready : ℤ → Type 0
 ReturnsAlready returned = returned ≡ pos 3
 
+-- the buffer before and after a call, how many bytes it says that the text has, and what it
+-- returned
+pub record OutRun : Type 0 where
+  pub before : List ℕ
+  pub after : List ℕ
+  pub said : ℕ
+  pub returned : ℤ
+
+abbrev pub out_run : (before after : List ℕ) → ℕ → ℤ → OutRun
+out_run before after said returned = record {
+  before = before;
+  after = after;
+  said = said;
+  returned = returned;
+}
+
 -- There is room for the text, which stands at the buffer's start.
-pub record FitsOut (text old new : List ℕ) (said : ℕ) (returned : ℤ) : Type 0 where
-  pub fits : length text ≤ length old
-  pub text_is : new ≡ text ++ drop (length text) old
-  pub size : said ≡ length text
-  pub done : ReturnsDone returned
+pub record FitsOut (text : List ℕ) (run : OutRun) : Type 0 where
+  pub fits : length text ≤ length run.before
+  pub text_is : run.after ≡ text ++ drop (length text) run.before
+  pub size : run.said ≡ length text
+  pub done : ReturnsDone run.returned
 
 -- There is not, and the buffer is as it was.
-pub record OverfillsOut (text old new : List ℕ) (said : ℕ) (returned : ℤ) : Type 0 where
-  pub more : length old < length text
-  pub same : new ≡ old
-  pub size : said ≡ length text
-  pub asks : ReturnsNeedsRoom returned
+pub record OverfillsOut (text : List ℕ) (run : OutRun) : Type 0 where
+  pub more : length run.before < length text
+  pub same : run.after ≡ run.before
+  pub size : run.said ≡ length text
+  pub asks : ReturnsNeedsRoom run.returned
 
-abbrev pub WritesOut : List ℕ → List ℕ → List ℕ → ℕ → ℤ → Type 0
-WritesOut text old new said returned = FitsOut text old new said returned
-    ⊎ OverfillsOut text old new said returned
+abbrev pub WritesOut : List ℕ → OutRun → Type 0
+WritesOut text run = FitsOut text run ⊎ OverfillsOut text run
 
 -- There is no text, and the buffer is as it was.
-pub record LacksOut (old new : List ℕ) (said : ℕ) (returned : ℤ) : Type 0 where
-  pub same : new ≡ old
-  pub size : said ≡ 0
-  pub none : ReturnsNone returned
+pub record LacksOut (run : OutRun) : Type 0 where
+  pub same : run.after ≡ run.before
+  pub size : run.said ≡ 0
+  pub none : ReturnsNone run.returned
 
 -- The call is refused, and the buffer is as it was.
-pub record RefusesOut (e : CallError) (old new : List ℕ) (said : ℕ) (returned : ℤ) : Type 0 where
-  pub same : new ≡ old
-  pub size : said ≡ 0
-  pub refused : Refuses e returned
+pub record RefusesOut (e : CallError) (run : OutRun) : Type 0 where
+  pub same : run.after ≡ run.before
+  pub size : run.said ≡ 0
+  pub refused : Refuses e run.returned
 
 -- The call is refused, and counts nothing.
 abbrev pub CountsNone : CallError → ℕ → ℤ → Type 0

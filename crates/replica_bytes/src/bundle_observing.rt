@@ -1,7 +1,7 @@
 //! A bundle that was fetched, observed. The receipt's line is made first, so that nothing is taken
 //! where there is no room for it, or no memory.
 ghost use Rattle.std.specs.Prelude.{MatchResult};
-ghost use Rattle.replica_bytes.specs.Changes.{HasRefusedFetched, ObservesFetched};
+ghost use Rattle.replica_bytes.specs.Changes.{HasRefusedFetched, ObservesFetched, fetched_for};
 ghost use Rattle.replica_bytes.specs.Changes.{NamesVerdict, RefusesVerdictBytes};
 ghost use Rattle.replica_bytes.specs.Changes.{ObservesNamed, RefusesNamed};
 
@@ -52,7 +52,8 @@ pub fn observe_bytes<C: Closure>(
     room: usize,
 ) -> Result<ObservedBytes, CallError>
     ensures { MatchResult result
-        (ObservesFetched (C.state closure.old) fetched.now room (C.state closure.new))
+        (ObservesFetched (C.state closure.old) (fetched_for fetched.now room)
+        (C.state closure.new))
         (HasRefusedFetched (C.state closure.old) fetched.now (C.state closure.new)) }
 {
     let domain = domain_of(alloc, fetched.domain)?;

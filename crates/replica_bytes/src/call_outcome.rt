@@ -1,7 +1,7 @@
 //! What a caller in C reads of a call.
 ghost use Rattle.std.specs.Prelude.{◌≡◌, ◌≤◌, MatchResult, MatchOption};
 ghost use Rattle.replica_bytes.specs.Outcomes.{ReturnsNeedsRoom, Counts, Refuses, WritesOut};
-ghost use Rattle.replica_bytes.specs.Outcomes.{LacksOut, RefusesOut};
+ghost use Rattle.replica_bytes.specs.Outcomes.{LacksOut, RefusesOut, out_run};
 
 use crate::call_error::CallError;
 use crate::fault_bytes::{FaultBytes, MAX_TEXT_BYTES};
@@ -89,7 +89,7 @@ impl CallOutcome {
 
     /// Puts the text into `out` where there is room for it.
     pub fn put(&mut self, text: &[u8], out: &mut [u8]) -> i64
-        ensures writes { WritesOut text.now out.old out.new self.new.length result }
+        ensures writes { WritesOut text.now (out_run out.old out.new self.new.length result) }
         ensures count { self.new.count ≡ 0 }
         ensures fault { self.new.fault_length ≡ 0 }
     {
@@ -105,8 +105,8 @@ impl CallOutcome {
     /// The same of a text that a call returns.
     pub fn put_result(&mut self, made: Result<Vec<u8>, CallError>, out: &mut [u8]) -> i64
         ensures writes { MatchResult made
-            (λ text. WritesOut text.items out.old out.new self.new.length result)
-            (λ e. RefusesOut e out.old out.new self.new.length result) }
+            (λ text. WritesOut text.items (out_run out.old out.new self.new.length result))
+            (λ e. RefusesOut e (out_run out.old out.new self.new.length result)) }
         ensures count { self.new.count ≡ 0 }
         ensures fault { self.new.fault_length ≤ 240 }
     {
@@ -122,9 +122,9 @@ impl CallOutcome {
     /// The same of a text that there may be none of.
     pub fn put_option(&mut self, made: Result<Option<Vec<u8>>, CallError>, out: &mut [u8]) -> i64
         ensures writes { MatchResult made
-            (λ found. MatchOption found (LacksOut out.old out.new self.new.length result)
-            (λ text. WritesOut text.items out.old out.new self.new.length result))
-            (λ e. RefusesOut e out.old out.new self.new.length result) }
+            (λ found. MatchOption found (LacksOut (out_run out.old out.new self.new.length result))
+            (λ text. WritesOut text.items (out_run out.old out.new self.new.length result)))
+            (λ e. RefusesOut e (out_run out.old out.new self.new.length result)) }
         ensures count { self.new.count ≡ 0 }
         ensures fault { self.new.fault_length ≤ 240 }
     {

@@ -1,6 +1,6 @@
 //! A key, distrusted by its digits.
 ghost use Rattle.std.specs.Prelude.{MatchResult};
-ghost use Rattle.replica_bytes.specs.Changes.{DistrustsBytes, HasRefusedKeyBytes};
+ghost use Rattle.replica_bytes.specs.Changes.{DistrustsBytes, HasRefusedKeyBytes, key_bytes};
 
 use crate::call_error::CallError;
 use crate::named_bytes::{domain_of, key_of};
@@ -21,9 +21,9 @@ pub fn distrust_bytes<C: Closure>(
     key: &[u8],
 ) -> Result<Distrusted, CallError>
     ensures { MatchResult result
-        (DistrustsBytes (C.state closure.old).meaning domain.now key.now
+        (DistrustsBytes (C.state closure.old).meaning (key_bytes domain.now key.now)
         (C.state closure.new).meaning)
-        (HasRefusedKeyBytes (C.state closure.old).meaning domain.now key.now
+        (HasRefusedKeyBytes (C.state closure.old).meaning (key_bytes domain.now key.now)
         (C.state closure.new).meaning) }
 {
     let domain = domain_of(alloc, domain)?;

@@ -2,7 +2,7 @@ use Rattle.std.proofs.Common.{◌∙◌, ℕ, List, ap, inr, map, refl, subst}
 use Rattle.std.proofs.lemmas.Result.{err_from_is_err_and}
 use Rattle.std.specs.Prelude.{string_bytes}
 use Rattle.fedbundle.specs.CommandRun.{state_run}
-use Rattle.fedbundle.specs.Words.{CallsInRequest}
+use Rattle.command_line.specs.Words.{CallsInRequest}
 use Rattle.local_requests.specs.RequestRun.{CallRun, call_run, change_run, texts_of_call}
 use Rattle.local_requests.proofs.ChangingFacts.{lacks_memory, line_called, result_lacks_memory, words_unjournalled}
 use Rattle.local_requests.proofs.RequestFacts.{same_journalled}

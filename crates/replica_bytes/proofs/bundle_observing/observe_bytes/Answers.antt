@@ -2,7 +2,7 @@ use Rattle.std.proofs.Common.{ℕ, Result, Ok, Err, refl}
 use Rattle.std.specs.Prelude.{MatchResult}
 use Rattle.closure_core.specs.Changes.{HeldAndRoom}
 use Rattle.bundle_view.specs.Observe.{FetchedBundle}
-use Rattle.replica_bytes.specs.Changes.{NamesFetched, ObservesNamed, RefusesNamed, ObservesFetched, HasRefusedFetched}
+use Rattle.replica_bytes.specs.Changes.{NamesFetched, ObservesNamed, RefusesNamed, ObservesFetched, HasRefusedFetched, fetched_for}
 use Rattle.replica_bytes.specs.declared.bundle_observing.FetchedBytes.{FetchedBytes}
 use Rattle.replica_bytes.specs.declared.bundle_observing.ObservedBytes.{ObservedBytes}
 use Rattle.replica_bytes.specs.declared.call_error.CallError.{CallError}
@@ -12,7 +12,7 @@ use Rattle.replica_bytes.proofs.bundle_observing.observe_bytes.Goals as goal
 -- what is so of the bundle that the bytes name is so of the bytes
 named : (old new : HeldAndRoom) (bytes : FetchedBytes) (fetched : FetchedBundle) (room : ℕ) (r : Result ObservedBytes CallError)
     → NamesFetched bytes fetched → MatchResult r (ObservesNamed old fetched room new) (RefusesNamed old fetched new)
-    → MatchResult r (ObservesFetched old bytes room new) (HasRefusedFetched old bytes new)
+    → MatchResult r (ObservesFetched old (fetched_for bytes room) new) (HasRefusedFetched old bytes new)
 named old new bytes fetched room (Ok observed) names is = record { fetched = fetched; names = names; is = is }
 named old new bytes fetched room (Err Usage) names is = absurd is
 named old new bytes fetched room (Err (Name e)) names is = absurd is
