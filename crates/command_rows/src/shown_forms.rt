@@ -1,7 +1,7 @@
 //! The commands that write what they show in one of two forms.
 use crate::commands::{Case, tell};
 use crate::devices::Devices;
-use bundle_json::write_report_json;
+use json_reports::write_report_json;
 use bundle_view::write_report;
 use closure_core::Closure;
 use config_view::{write_config, write_config_json};

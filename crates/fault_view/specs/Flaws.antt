@@ -18,25 +18,25 @@ use Rattle.fed_config.specs.declared.error.ConfigError.{ConfigError}
 use Rattle.fed_config.specs.declared.error.ConfigError.TheVariants.{Shape, BadName, BadUrl}
 use Rattle.fed_config.specs.declared.error.ConfigError.TheVariants.{BadProfile, DoubleRelationship}
 use Rattle.fed_config.specs.declared.error.ConfigError.TheVariants.{BadSeed}
-use Rattle.fault_view.specs.declared.place.Place.{Place}
-use Rattle.fault_view.specs.declared.place.Place.TheVariants.{Whole, Relationship, Seed}
+use Rattle.fault_view.specs.declared.place.FlawPlace.{FlawPlace}
+use Rattle.fault_view.specs.declared.place.FlawPlace.TheVariants.{Whole, Relationship, Seed}
 use Rattle.fault_view.specs.declared.url_flaws.UrlFlaw.{UrlFlaw}
 use Rattle.fault_view.specs.declared.url_flaws.UrlFlaw.TheVariants.{TooLong, NoUrl, OtherScheme}
 use Rattle.fault_view.specs.declared.url_flaws.UrlFlaw.TheVariants.{HasUser, HasPassword}
 use Rattle.fault_view.specs.declared.flaws.Flaw.{Flaw}
 use Rattle.fault_view.specs.declared.flaws.Flaw.TheVariants as flaw
-use Rattle.fault_view.specs.declared.flaws.Found.{Found}
+use Rattle.fault_view.specs.declared.flaws.FoundFlaw.{FoundFlaw}
 
 -- ---- places
 
 -- what stands at the place, where there is something
-abbrev pub part_of : Data → Place → Option Data
+abbrev pub part_of : Data → FlawPlace → Option Data
 part_of tree Whole = Some tree
 part_of tree (Relationship number) = option_and_then (at number) (get (codes "relationships") tree)
 part_of tree (Seed number) = option_and_then (at number) (get (codes "seeds") tree)
 
 -- the members that what stands there has, and no others
-abbrev pub is_member_at : Place → List ℕ → Bool
+abbrev pub is_member_at : FlawPlace → List ℕ → Bool
 is_member_at Whole name = bytes_eq name (codes "relationships") || bytes_eq name (codes "seeds")
 is_member_at (Relationship number) name = bytes_eq name (codes "domain")
     || bytes_eq name (codes "endpoint") || bytes_eq name (codes "profile")
@@ -45,18 +45,18 @@ is_member_at (Seed number) name = bytes_eq name (codes "bundle") || bytes_eq nam
 
 -- Of these members the first are texts, and the second are arrays. The `bundle` of a seed is
 -- neither: it is read as a bundle.
-abbrev pub is_text_at : Place → List ℕ → Bool
+abbrev pub is_text_at : FlawPlace → List ℕ → Bool
 is_text_at Whole name = false
 is_text_at (Relationship number) name = is_member_at (Relationship number) name
 is_text_at (Seed number) name = bytes_eq name (codes "domain")
 
-abbrev pub is_array_at : Place → List ℕ → Bool
+abbrev pub is_array_at : FlawPlace → List ℕ → Bool
 is_array_at Whole name = is_member_at Whole name
 is_array_at (Relationship number) name = false
 is_array_at (Seed number) name = false
 
 -- the place is a relationship after the one with this number
-abbrev pub IsAfter : ℕ → Place → Type 0
+abbrev pub IsAfter : ℕ → FlawPlace → Type 0
 IsAfter earlier Whole = ⊥
 IsAfter earlier (Relationship number) = earlier < number
 IsAfter earlier (Seed number) = ⊥
@@ -81,7 +81,7 @@ HasDomainOf tree earlier text = (other : Data)
 
 -- What stands at the place has the flaw. The configuration is there for what is compared with
 -- another of its parts.
-abbrev pub HasFlaw : Data → Place → Data → Flaw → Type 0
+abbrev pub HasFlaw : Data → FlawPlace → Data → Flaw → Type 0
 HasFlaw tree place value flaw.NotObject = as_object value ≡ None
 HasFlaw tree place value (flaw.UnknownMember name) = IsSome (get name.now value)
     × (is_member_at place name.now ≡ false)
@@ -122,12 +122,12 @@ cause_of_flaw (flaw.BadBundle why) = BadSeed
 
 -- what stands at the place has the flaw, whatever else the configuration has, and the flaw is of
 -- this cause
-abbrev pub IsFlawOf : ConfigError → Place → Data → Flaw → Type 0
+abbrev pub IsFlawOf : ConfigError → FlawPlace → Data → Flaw → Type 0
 IsFlawOf cause place value f = ((tree : Data) → HasFlaw tree place value f)
     × (cause_of_flaw f ≡ cause)
 
 -- what is named really is at fault there, and is of this cause
-pub record IsFoundFlaw (tree : Data) (cause : ConfigError) (found : Found) : Type 0 where
+pub record IsFoundFlaw (tree : Data) (cause : ConfigError) (found : FoundFlaw) : Type 0 where
   pub part : Data
   pub stands : part_of tree found.place ≡ Some part
   pub flaw : HasFlaw tree found.place part found.flaw

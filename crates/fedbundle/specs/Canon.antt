@@ -10,7 +10,7 @@ use Rattle.bundle_doc.specs.Refusal.{RefusesBytes}
 use Rattle.fedbundle.specs.CommandRun.{CommandRun, DeviceRun, ReadsDocument, RefusesDocument}
 use Rattle.fedbundle.specs.CommandRun.{PrintsText}
 use Rattle.fedbundle.specs.CommandRun.{WritesNothing, CutsOff, FailsToRead}
-use Rattle.bundle_json.specs.DocumentJson.{document_json}
+use Rattle.json_reports.specs.DocumentJson.{document_json}
 use Rattle.command_line.specs.declared.option_texts.OutputForm.{OutputForm}
 use Rattle.command_line.specs.declared.option_texts.OutputForm.TheVariants.{Text, Json}
 use Rattle.fedbundle.specs.declared.error.CommandError.{CommandError}

@@ -10,7 +10,7 @@ ghost use Rattle.jwk_set.specs.Element.{key_id_of};
 use crate::error::CommandError;
 use crate::two_parts::write_both;
 use bundle_doc::{Document, MAX_DOCUMENT_BYTES};
-use bundle_json::document_json;
+use json_reports::document_json;
 use byte_lines::{Sink, Source, push_digits, read_up_to};
 use command_line::OutputForm;
 use jwk_set::Authority;
@@ -19,7 +19,7 @@ use std::alloc::{AllocError, Global};
 
 /// Reads a bundle document of the domain and writes its canonical text, a line `id` with its
 /// document id, and for each X.509 authority a line `key` with its key id, in the order of the
-/// canonical text; or the same as JSON ([`bundle_json::document_json`]).
+/// canonical text; or the same as JSON ([`json_reports::document_json`]).
 ///
 /// It reads at most one byte more than a document may have. Nothing is written before the whole
 /// text is made.

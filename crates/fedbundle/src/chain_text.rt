@@ -5,7 +5,7 @@ ghost use Rattle.fedbundle.specs.Explain.{receipt_line, root_line, step_line};
 ghost use Rattle.fedbundle.specs.Explain.{vouched_part};
 
 use bundle_doc::{DocId, Document};
-use bundle_json::{chain_json, root_id};
+use json_reports::{chain_json, root_id};
 use byte_lines::push_digits;
 use command_line::ExplanationForm;
 use receipt_core::Receipt;

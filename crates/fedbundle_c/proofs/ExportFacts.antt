@@ -3,8 +3,8 @@
 use Rattle.std.proofs.Common.{◌≡◌, ℕ, ◌≤◌, ℤ, List, length, sym, subst, inl, inr, Some, None, Ok, Err, arith}
 use Rattle.std.specs.Prelude.{Option, Result, MatchResult, MatchOption}
 use Rattle.receipt_core.specs.Acceptance.{Meaning}
-use Rattle.replica_bytes.specs.Outcomes.{OutRun, WritesOut, FitsOut, LacksOut, RefusesOut, out_run}
-use Rattle.replica_bytes.specs.declared.call_error.CallError.{CallError}
+use Rattle.replica_c_calls.specs.Outcomes.{OutRun, WritesOut, FitsOut, LacksOut, RefusesOut, out_run}
+use Rattle.replica_c_calls.specs.declared.call_error.CallError.{CallError}
 use Rattle.fedbundle_c.specs.Exports.{HandleRun, BufferRun, IsShownClosed, meaning_in, FindsByHandle, FindsHeld}
 use Rattle.fedbundle_c.specs.declared.held_replica.Replica.{Replica}
 

@@ -13,25 +13,26 @@ use Rattle.closure_core.specs.Changes.{HeldAndRoom}
 use Rattle.replica_core.specs.Session.{have_of}
 use Rattle.replica_texts.specs.Messages.{have_text}
 use Rattle.replica_texts.specs.WrittenSnapshot.{written_snapshot}
-use Rattle.replica_bytes.specs.CallErrors.{IsWantOfMemory, RefusesDomainText}
-use Rattle.replica_bytes.specs.Changes.{TakesLineBytes, HasRefusedLineBytes, DistrustsBytes}
-use Rattle.replica_bytes.specs.Changes.{key_bytes}
-use Rattle.replica_bytes.specs.Changes.{HasRefusedKeyBytes, MergesBytes, HasRefusedSnapshotBytes}
-use Rattle.replica_bytes.specs.Changes.{AbsorbsBytes, HasRefusedGiveBytes, ObservesFetched}
-use Rattle.replica_bytes.specs.Changes.{fetched_for}
-use Rattle.replica_bytes.specs.Changes.{HasRefusedFetched}
-use Rattle.replica_bytes.specs.Opening.{OpensBytes, RefusesOpening}
-use Rattle.replica_bytes.specs.Outcomes.{Refuses, ReturnsDone, ReturnsAlready, ReturnsNeedsRoom}
-use Rattle.replica_bytes.specs.Outcomes.{CountsNone, FitsOut, WritesOut, LacksOut, RefusesOut}
-use Rattle.replica_bytes.specs.Outcomes.{OutRun, out_run}
-use Rattle.replica_bytes.specs.Texts.{HasNoCurrentBundle, IsCurrentBundle, IsNotAccepted}
-use Rattle.replica_bytes.specs.Texts.{HasChainText, RefusesDocumentBytes, AnswersBytes}
-use Rattle.replica_bytes.specs.Texts.{RefusesHaveBytes}
-use Rattle.replica_bytes.specs.declared.bundle_observing.FetchedBytes.{FetchedBytes}
-use Rattle.replica_bytes.specs.declared.bundle_observing.ObservedBytes.{ObservedBytes}
-use Rattle.replica_bytes.specs.declared.bundle_observing.ObservedBytes.TheVariants.{Held, NeedsRoom}
-use Rattle.replica_bytes.specs.declared.call_error.CallError.{CallError}
-use Rattle.replica_bytes.specs.declared.call_error.CallError.TheVariants.{Usage}
+use Rattle.replica_c_calls.specs.CallErrors.{IsWantOfMemory, RefusesDomainText}
+use Rattle.replica_c_calls.specs.Changes.{TakesLineBytes, HasRefusedLineBytes, DistrustsBytes}
+use Rattle.replica_c_calls.specs.Changes.{key_bytes}
+use Rattle.replica_c_calls.specs.Changes.{HasRefusedKeyBytes, MergesBytes, HasRefusedSnapshotBytes}
+use Rattle.replica_c_calls.specs.Changes.{AbsorbsBytes, HasRefusedGiveBytes, ObservesFetched}
+use Rattle.replica_c_calls.specs.Changes.{fetched_for}
+use Rattle.replica_c_calls.specs.Changes.{HasRefusedFetched}
+use Rattle.replica_c_calls.specs.Opening.{OpensBytes, RefusesOpening}
+use Rattle.replica_c_calls.specs.Outcomes.{Refuses, ReturnsDone, ReturnsAlready, ReturnsNeedsRoom}
+use Rattle.replica_c_calls.specs.Outcomes.{CountsNone, FitsOut, WritesOut, LacksOut, RefusesOut}
+use Rattle.replica_c_calls.specs.Outcomes.{OutRun, out_run}
+use Rattle.replica_c_calls.specs.Texts.{HasNoCurrentBundle, IsCurrentBundle, IsNotAccepted}
+use Rattle.replica_c_calls.specs.Texts.{HasChainText, RefusesDocumentBytes, AnswersBytes}
+use Rattle.replica_c_calls.specs.Texts.{RefusesHaveBytes}
+use Rattle.replica_c_calls.specs.declared.bundle_observing.FetchedBytes.{FetchedBytes}
+use Rattle.replica_c_calls.specs.declared.bundle_observing.ObservedBytes.{ObservedBytes}
+use Rattle.replica_c_calls.specs.declared.bundle_observing.ObservedBytes.TheVariants.{Held}
+use Rattle.replica_c_calls.specs.declared.bundle_observing.ObservedBytes.TheVariants.{NeedsRoom}
+use Rattle.replica_c_calls.specs.declared.call_error.CallError.{CallError}
+use Rattle.replica_c_calls.specs.declared.call_error.CallError.TheVariants.{Usage}
 use Rattle.fedbundle_c.specs.declared.held_replica.Replica.{Replica}
 
 -- ---- handles

@@ -1,10 +1,10 @@
 -- What the exports do that hold no replica.
 use Rattle.std.specs.Prelude.{◌≡◌, ℕ, ℤ, ◌⊎◌, List}
-use Rattle.replica_bytes.specs.Outcomes.{OutRun, RefusesOut, WritesOut, out_run}
-use Rattle.replica_bytes.specs.declared.call_error.CallError.{CallError}
-use Rattle.command_bytes.specs.Canonical.{WritesCanonBytes, RefusesCanonBytes}
-use Rattle.command_bytes.specs.Reporting.{ReportsBytes, RefusesReportBytes}
-use Rattle.command_bytes.specs.declared.reported_lines.ReportedLines.{ReportedLines}
+use Rattle.replica_c_calls.specs.Outcomes.{OutRun, RefusesOut, WritesOut, out_run}
+use Rattle.replica_c_calls.specs.declared.call_error.CallError.{CallError}
+use Rattle.command_c_calls.specs.Canonical.{WritesCanonBytes, RefusesCanonBytes}
+use Rattle.command_c_calls.specs.Reporting.{ReportsBytes, RefusesReportBytes}
+use Rattle.command_c_calls.specs.declared.reported_lines.ReportedLines.{ReportedLines}
 use Rattle.fedbundle_c.specs.Exports.{BufferRun}
 
 -- what a call counted, how many bytes its text has, and what it returned

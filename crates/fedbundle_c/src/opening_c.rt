@@ -2,12 +2,12 @@
 ghost use Rattle.std.specs.Prelude.{◌≡◌, ◌≤◌, codes, MatchResult};
 ghost use Rattle.std.specs.declared.option.Option.TheVariants.{None};
 ghost use Rattle.fedbundle_c.specs.Exports.{OpensHandle, meaning_in};
-ghost use Rattle.replica_bytes.specs.Opening.{OpensBytes, RefusesOpening};
-ghost use Rattle.replica_bytes.specs.Outcomes.{WritesOut, out_run};
+ghost use Rattle.replica_c_calls.specs.Opening.{OpensBytes, RefusesOpening};
+ghost use Rattle.replica_c_calls.specs.Outcomes.{WritesOut, out_run};
 
 use crate::handle::Handle;
 use crate::held_replica::Replica;
-use replica_bytes::{CallError, CallOutcome, DONE, open_bytes};
+use replica_c_calls::{CallError, CallOutcome, DONE, open_bytes};
 use std::alloc::Global;
 use trust_closure::ExchangeClosure;
 

@@ -4,7 +4,7 @@ use crate::reasons::state_path;
 use crate::verbose_lines::{quoted, say, shown, words_of};
 use bundle_doc::{Document, MAX_DOCUMENT_BYTES};
 use byte_lines::{FromRead, read_up_to};
-use fault_view::{Flaw, Found, Place, UrlFlaw, find_flaw, is_ignored, json_fault};
+use fault_view::{Flaw, FoundFlaw, FlawPlace, UrlFlaw, find_flaw, is_ignored, json_fault};
 use fed_config::{Config, ConfigError};
 use fedbundle::{Call, CommandError, OptionName, given};
 use replica_core::SyncError;
@@ -118,7 +118,7 @@ fn say_found(
     rt: &HostRuntime,
     lead: &str,
     config: &Value,
-    found: &Found<'_>,
+    found: &FoundFlaw<'_>,
 ) -> Result<(), AllocError> {
     let place = place_text(rt.alloc(), config, found.place)?;
     let flaw = flaw_text(rt.alloc(), &found.flaw)?;
@@ -130,11 +130,11 @@ fn say_found(
 }
 
 // The place, and the domain of a seed, with a colon and a space after it.
-fn place_text(alloc: Global, config: &Value, place: Place) -> Result<String, AllocError> {
+fn place_text(alloc: Global, config: &Value, place: FlawPlace) -> Result<String, AllocError> {
     match place {
-        Place::Whole => Ok(String::new(alloc)),
-        Place::Relationship(number) => format!(in alloc; "relationships[{number}]: "),
-        Place::Seed(number) => match seed_domain(config, number) {
+        FlawPlace::Whole => Ok(String::new(alloc)),
+        FlawPlace::Relationship(number) => format!(in alloc; "relationships[{number}]: "),
+        FlawPlace::Seed(number) => match seed_domain(config, number) {
             Some(domain) => {
                 let domain = shown(alloc, domain)?;
                 format!(in alloc; "seeds[{number}] ({domain}): ")

@@ -5,15 +5,15 @@ use std::io::{ErrorKind, Read};
 /// A reader that gives at most so many bytes. Where there are more it fails, after it has given
 /// those.
 #[derive(Drop)]
-pub(crate) struct Limited<R> {
+pub(crate) struct LimitedReader<R> {
     reader: R,
     left: u64,
     has_passed: bool,
 }
 
-impl<R: Read> Limited<R> {
-    pub(crate) fn new(reader: R, most: u64) -> Limited<R> {
-        Limited {
+impl<R: Read> LimitedReader<R> {
+    pub(crate) fn new(reader: R, most: u64) -> LimitedReader<R> {
+        LimitedReader {
             reader,
             left: most,
             has_passed: false,
@@ -36,7 +36,7 @@ impl<R: Read> Limited<R> {
     }
 }
 
-impl<R: Read> Read for Limited<R> {
+impl<R: Read> Read for LimitedReader<R> {
     fn read(&mut self, buffer: &mut [u8]) -> io::Result<usize> {
         if self.left == 0 && !buffer.is_empty() {
             self.read_past()?;

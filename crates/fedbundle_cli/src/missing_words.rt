@@ -1,13 +1,13 @@
 // Words that clap takes and that are no call: what is missing.
 use crate::exit::print_exit;
-use crate::verbose_lines::{say, speaks_unasked};
+use crate::verbose_lines::{say, is_verbose_unasked};
 use fedbundle::{Exit, OptionName, command_of};
 use std::alloc::AllocError;
 
 /// Reports that the words are no call, and what is missing, and returns the exit status.
 pub(crate) fn end(rt: &HostRuntime, words: &[&str]) -> u8 {
     let status = print_exit(rt, &Exit::Usage);
-    if is_asked_for(words) || speaks_unasked(rt) {
+    if is_asked_for(words) || is_verbose_unasked(rt) {
         // That memory ran out for it changes nothing.
         let _ = say_lack(rt, words);
     }

@@ -1,7 +1,7 @@
 // The state file as the commands use it: its lock, which is waited for within a limit, what it
 // holds, and how much may come to that.
 use crate::streams::error_lines;
-use crate::verbose_lines::speaks_unasked;
+use crate::verbose_lines::is_verbose_unasked;
 use fed_config::Config;
 use fedbundle::{Call, CommandError, Exit, Manner, OptionName, Step, manner_of, wanted};
 use state_files::{StateLock, is_marked, load_state, save_state, state_bytes, try_lock_state};
@@ -18,20 +18,20 @@ const TRIES_PER_SECOND: u64 = 20;
 
 /// A state file, and what the options say that may be left out.
 #[derive(Clone, Copy)]
-pub(crate) struct Keeping<'a> {
+pub(crate) struct StateAccess<'a> {
     pub(crate) path: &'a str,
     pub(crate) manner: Manner,
 }
 
-pub(crate) fn keeping_of<'a>(call: &Call<'a>) -> Result<Keeping<'a>, Exit> {
-    Ok(Keeping {
+pub(crate) fn state_access_of<'a>(call: &Call<'a>) -> Result<StateAccess<'a>, Exit> {
+    Ok(StateAccess {
         path: wanted(call, OptionName::State)?,
         manner: manner_of(call)?,
     })
 }
 
 /// Takes the lock of the state file, where another command has it as soon as that is done.
-pub(crate) fn lock(rt: &HostRuntime, state: Keeping<'_>) -> Result<StateLock, Exit> {
+pub(crate) fn lock(rt: &HostRuntime, state: StateAccess<'_>) -> Result<StateLock, Exit> {
     if let Some(lock) = try_lock(rt, state.path)? {
         return Ok(lock);
     }
@@ -46,11 +46,11 @@ pub(crate) fn lock(rt: &HostRuntime, state: Keeping<'_>) -> Result<StateLock, Ex
     wait_for_lock(rt, state)
 }
 
-fn is_more_wanted(rt: &HostRuntime, state: Keeping<'_>) -> bool {
-    state.manner.is_verbose || speaks_unasked(rt)
+fn is_more_wanted(rt: &HostRuntime, state: StateAccess<'_>) -> bool {
+    state.manner.is_verbose || is_verbose_unasked(rt)
 }
 
-fn wait_for_lock(rt: &HostRuntime, state: Keeping<'_>) -> Result<StateLock, Exit> {
+fn wait_for_lock(rt: &HostRuntime, state: StateAccess<'_>) -> Result<StateLock, Exit> {
     let tries = state.manner.wait_seconds.saturating_mul(TRIES_PER_SECOND);
     for _ in 0..tries {
         thread::sleep(rt, Duration::from_millis(PAUSE_MILLIS));
@@ -96,7 +96,7 @@ pub(crate) fn load<C: Closure>(
 pub(crate) fn look<C: Closure>(
     rt: &HostRuntime,
     config: &Config,
-    state: Keeping<'_>,
+    state: StateAccess<'_>,
 ) -> Result<C, CommandError> {
     if is_more_wanted(rt, state) && matches!(state_bytes(rt, state.path), Ok(None)) {
         // That it cannot be said changes nothing.
@@ -124,7 +124,7 @@ pub(crate) fn save<C: Closure>(rt: &HostRuntime, closure: &C, path: &str) -> Res
 
 /// How many bytes may come to those that the state file has. Where the system does not say how many
 /// these are, the command finds out when it loads them.
-pub(crate) fn room_left(rt: &HostRuntime, state: Keeping<'_>) -> u64 {
+pub(crate) fn room_left(rt: &HostRuntime, state: StateAccess<'_>) -> u64 {
     match state_bytes(rt, state.path) {
         Ok(Some(bytes)) => state.manner.most_bytes.saturating_sub(bytes),
         _ => state.manner.most_bytes,

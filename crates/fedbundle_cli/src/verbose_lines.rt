@@ -14,12 +14,12 @@ const VARIABLE: &str = "FEDBUNDLE_VERBOSE";
 
 /// Whether more is to be said: `--verbose` or the environment asks for it, or standard error is a
 /// terminal.
-pub(crate) fn speaks(rt: &HostRuntime, call: &Call<'_>) -> bool {
-    given(call, OptionName::Verbose) == Some("true") || speaks_unasked(rt)
+pub(crate) fn is_verbose_for(rt: &HostRuntime, call: &Call<'_>) -> bool {
+    given(call, OptionName::Verbose) == Some("true") || is_verbose_unasked(rt)
 }
 
 /// The same of words that are no call.
-pub(crate) fn speaks_unasked(rt: &HostRuntime) -> bool {
+pub(crate) fn is_verbose_unasked(rt: &HostRuntime) -> bool {
     rt.stderr().is_terminal() || has_variable(rt)
 }
 

@@ -7,23 +7,24 @@
 //!
 //! `replica` begins and ends a replica, and `turn` is one round of the loop: what came is read, the
 //! changes go to the journal, and only then anything is written; a long journal goes into the
-//! snapshot. `state_files` has these files. Connections come in at the `gates`. `connection_table`
-//! has them, `live_connection` is one of them, and what is said on it is a `talk`. `peers` has what
-//! `status` shows of the peers. `client` is the other side of a local request.
+//! snapshot. `state_files` has these files. Connections come in at the `listeners`.
+//! `connection_table` has them, `live_connection` is one of them, and what is said on it is a
+//! `talk`. `peers` has what `status` shows of the peers. `client` is the other side of a local
+//! request.
 #![tactic(auto)]
 
 mod client;
 mod connection_table;
 mod ending;
-mod fresh_lines;
-mod gates;
+mod held_state;
+mod listeners;
 mod live_connection;
 mod local_talk;
 mod peers;
 mod pull_talk;
 mod replica;
-mod rest;
-mod saying;
+mod unread_bytes;
+mod event_log;
 mod served_talk;
 mod settings;
 mod socket;

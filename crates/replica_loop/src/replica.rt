@@ -1,9 +1,9 @@
 //! The beginning and the end of a replica that stays.
-use crate::fresh_lines::Held;
-use crate::saying::{Event, say};
+use crate::held_state::HeldState;
+use crate::event_log::{LogEvent, log_event};
 use crate::settings::Settings;
 use crate::step_fault::file_at_step;
-use crate::turn::{Works, turn};
+use crate::turn::{RunningReplica, turn};
 use closure_core::Closure;
 use fed_config::Config;
 use fedbundle::{CommandError, Exit, Step};
@@ -48,7 +48,7 @@ pub fn run_replica<R: Runtime<File = File, A = Global> + Net>(
     let _lock = lock(rt, alloc, settings.state)?;
     let mut beginning = find(rt, alloc, settings)?;
     let closure: ExchangeClosure = load(rt, alloc, config, &mut beginning, settings.state)?;
-    let mut held = Held::new(alloc, closure);
+    let mut held = HeldState::new(alloc, closure);
     run_held(rt, alloc, &mut held, beginning, settings)
 }
 
@@ -97,14 +97,14 @@ fn load<C: Closure, R: Files<File = File>>(
 fn run_held<C: Closure, R: Files<File = File> + Net + Clock + Print + Eprint>(
     rt: &R,
     alloc: Global,
-    held: &mut Held<C>,
+    held: &mut HeldState<C>,
     beginning: StateBeginning,
     settings: &Settings<'_, '_>,
 ) -> Result<(), Exit> {
-    let mut works = Works::begin(rt, alloc, &held.closure, beginning, settings)?;
+    let mut running = RunningReplica::begin(rt, alloc, &held.closure, beginning, settings)?;
     let mut events = Events::with_capacity(alloc, MOST_EVENTS)?;
     print_ready(rt, alloc, &held.closure)?;
-    let ended = run_turns(rt, alloc, held, &mut works, &mut events, settings);
+    let ended = run_turns(rt, alloc, held, &mut running, &mut events, settings);
     // A socket that stays is replaced by the next replica.
     let _ = fs::remove_file(rt, settings.socket);
     ended
@@ -113,17 +113,17 @@ fn run_held<C: Closure, R: Files<File = File> + Net + Clock + Print + Eprint>(
 fn run_turns<C: Closure, R: Files<File = File> + Net + Clock + Eprint>(
     rt: &R,
     alloc: Global,
-    held: &mut Held<C>,
-    works: &mut Works,
+    held: &mut HeldState<C>,
+    running: &mut RunningReplica,
     events: &mut Events,
     settings: &Settings<'_, '_>,
 ) -> Result<(), Exit> {
     for _ in 0..u64::MAX {
-        match turn(rt, alloc, held, works, events, settings) {
+        match turn(rt, alloc, held, running, events, settings) {
             Ok(true) => break,
             Ok(false) => {}
             Err(fault) => {
-                say(rt, alloc, Event::Journal(fault.why));
+                log_event(rt, alloc, LogEvent::Journal(fault.why));
                 return Err(Exit::of_file(Step::Journal, fault));
             }
         }

@@ -2,7 +2,7 @@
 use crate::configurations::AMPLE_ROOM;
 use crate::states::replica_of;
 use bundle_doc::Document;
-use bundle_json::{chain_json, document_json, write_report_json};
+use json_reports::{chain_json, document_json, write_report_json};
 use bundle_view::explain;
 use byte_lines::{DeviceError, MemSink, MemSource};
 use closure_core::Closure;

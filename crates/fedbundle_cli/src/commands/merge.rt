@@ -1,7 +1,7 @@
 // `merge`: what another replica holds, taken.
 use crate::commands::state_writers::{Coming, change};
-use crate::limited_reader::Limited;
-use crate::state_access::{keeping_of, leave, room_left};
+use crate::limited_reader::LimitedReader;
+use crate::state_access::{state_access_of, leave, room_left};
 use byte_lines::FromRead;
 use fed_config::Config;
 use fedbundle::{Call, CommandError, Exit};
@@ -11,14 +11,14 @@ use trust_closure::IndexedClosure;
 
 /// Takes what the replica holds whose state file standard input has.
 pub(crate) fn run(rt: &HostRuntime, config: &Config, call: &Call<'_>) -> Result<u8, Exit> {
-    let other = read_other(rt, config, room_left(rt, keeping_of(call)?));
+    let other = read_other(rt, config, room_left(rt, state_access_of(call)?));
     let changed = change(rt, config, call, Coming::Replica(&other));
     leave(other);
     changed
 }
 
 fn read_other(rt: &HostRuntime, config: &Config, most_bytes: u64) -> Result<IndexedClosure, Exit> {
-    let mut limited = Limited::new(rt.stdin(), most_bytes);
+    let mut limited = LimitedReader::new(rt.stdin(), most_bytes);
     match read_from(rt, config, &mut limited) {
         Ok(other) => Ok(other),
         Err(_) if limited.has_passed() => Err(Exit::TooManyBytes),

@@ -1,8 +1,8 @@
 // `pull`: the end of a session that asks, over a socket. It loads the state, reads the address, and
 // connects before a session begins; it saves the state at the end.
 use crate::connection::{Connection, connect};
-use crate::limited_reader::Limited;
-use crate::state_access::{Keeping, keeping_of, leave, load, lock, room_left, save};
+use crate::limited_reader::LimitedReader;
+use crate::state_access::{StateAccess, state_access_of, leave, load, lock, room_left, save};
 use crate::streams::output_line;
 use crate::{options, reasons};
 use byte_lines::{FromRead, FromWrite};
@@ -25,7 +25,7 @@ struct Begun {
 /// with a fault. Where there is no connection the state file stays as it is. The state is locked
 /// while it is loaded and while it is written, and not while the other replica answers.
 pub(crate) fn run(rt: &HostRuntime, config: &Config, call: &Call<'_>) -> Result<u8, Exit> {
-    let state = keeping_of(call)?;
+    let state = state_access_of(call)?;
     let mut begun = begin(rt, config, state)?;
     let peer = wanted(call, OptionName::Peer)?;
     let pulled = pull_from(rt, &mut begun.closure, peer, room_left(rt, state))?;
@@ -45,7 +45,7 @@ fn pull_from(
     Ok(end_session(rt, closure, connection, most_bytes))
 }
 
-fn begin(rt: &HostRuntime, config: &Config, state: Keeping<'_>) -> Result<Begun, Exit> {
+fn begin(rt: &HostRuntime, config: &Config, state: StateAccess<'_>) -> Result<Begun, Exit> {
     let _lock = lock(rt, state)?;
     let closure = load(rt, config, state.path)?;
     match see_state(rt, state.path) {
@@ -60,7 +60,7 @@ fn end_session(
     connection: Connection,
     most_bytes: u64,
 ) -> Result<(), Exit> {
-    let mut answers = Limited::new(connection.direction(rt), most_bytes);
+    let mut answers = LimitedReader::new(connection.direction(rt), most_bytes);
     match pull_on(rt, closure, &mut answers, &connection) {
         Ok(()) => Ok(()),
         Err(_) if answers.has_passed() => Err(Exit::TooManyBytes),
@@ -101,7 +101,7 @@ fn end_pull(
 fn end_saving(
     rt: &HostRuntime,
     config: &Config,
-    state: Keeping<'_>,
+    state: StateAccess<'_>,
     begun: &Begun,
 ) -> Result<(), Exit> {
     let _lock = lock(rt, state)?;

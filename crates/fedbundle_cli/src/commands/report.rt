@@ -1,7 +1,7 @@
 // `report`: what a replica that took the receipts accepts, of lines or of a state file.
 use crate::state_access::leave;
 use crate::streams::{complaints, input, output};
-use bundle_json::write_report_json;
+use json_reports::write_report_json;
 use bundle_view::write_report;
 use fed_config::Config;
 use fedbundle::{

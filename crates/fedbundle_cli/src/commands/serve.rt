@@ -4,7 +4,7 @@ use crate::commands::config_of;
 use crate::connection::{Connection, accept, listen};
 use crate::exit::print_exit;
 use crate::options;
-use crate::state_access::{keeping_of, look};
+use crate::state_access::{state_access_of, look};
 use crate::streams::{error_lines, output_line};
 use byte_lines::{FromRead, FromWrite};
 use fed_config::Config;
@@ -30,7 +30,7 @@ pub(crate) fn run(rt: &HostRuntime, call: &Call<'_>) -> Result<u8, Exit> {
 
 // Serves this many sessions, one after another, with what the state file holds at the start.
 fn serve(rt: &HostRuntime, config: &Config, call: &Call<'_>, sessions: u32) -> Result<u8, Exit> {
-    let state = keeping_of(call)?;
+    let state = state_access_of(call)?;
     let closure = look(rt, config, state)?;
     let service = Service {
         sessions,

@@ -3,14 +3,14 @@
 use crate::commands::{
     bundle, diff, distrust, explain, graph, list, migrate, polls, report, reseed, status,
 };
-use crate::state_access::{keeping_of, leave, look};
+use crate::state_access::{state_access_of, leave, look};
 use fed_config::Config;
 use fedbundle::{Call, CommandName, Exit};
 use trust_closure::IndexedClosure;
 
 /// Shows what the command asks for, of what the state file holds.
 pub(crate) fn show(rt: &HostRuntime, config: &Config, call: &Call<'_>) -> Result<u8, Exit> {
-    let closure = look(rt, config, keeping_of(call)?)?;
+    let closure = look(rt, config, state_access_of(call)?)?;
     let shown = show_of(rt, config, &closure, call);
     leave(closure);
     shown

@@ -2,7 +2,7 @@
 // the state is taken, and a fault of that is reported after those of the lock, the state and the
 // options. The replica is made and given back in one place, and each command only borrows it.
 use crate::commands::{distrust, observe};
-use crate::state_access::{keeping_of, leave, load, lock, save};
+use crate::state_access::{state_access_of, leave, load, lock, save};
 use crate::streams::output_line;
 use fed_config::Config;
 use fedbundle::{Call, CommandError, Exit, take_other};
@@ -26,7 +26,7 @@ pub(crate) fn change(
     call: &Call<'_>,
     coming: Coming<'_>,
 ) -> Result<u8, Exit> {
-    let state = keeping_of(call)?;
+    let state = state_access_of(call)?;
     let _lock = lock(rt, state)?;
     let mut closure = load(rt, config, state.path)?;
     let changed = take_and_save(rt, &mut closure, state.path, call, coming);

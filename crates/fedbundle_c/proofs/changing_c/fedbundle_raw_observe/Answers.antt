@@ -1,5 +1,5 @@
 use Rattle.std.proofs.Common.{rules}
-use Rattle.replica_bytes.specs.Outcomes.{OutRun, WritesOut, FitsOut, out_run}
+use Rattle.replica_c_calls.specs.Outcomes.{OutRun, WritesOut, FitsOut, out_run}
 use Rattle.fedbundle_c.proofs.ExportFacts.{fits_held}
 use Rattle.fedbundle_c.proofs.changing_c.fedbundle_raw_observe.Goals as goal
 

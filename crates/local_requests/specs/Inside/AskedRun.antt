@@ -1,8 +1,0 @@
--- What a request asks for, as the run of a call
-use Rattle.fedbundle.specs.CommandRun.{StateRun}
-use Rattle.local_requests.specs.RequestRun.{CallRun, call_run, change_run, texts_of_call}
-use Rattle.local_requests.specs.declared.asked.Asked.{Asked}
-
-abbrev pub run_of : Asked → StateRun → CallRun
-run_of asked state = call_run asked.call.now.name (texts_of_call asked.call.now)
-    asked.running.now (change_run state asked.input.now)
