@@ -4,9 +4,10 @@ use crate::devices::{AMPLE_ROOM, Devices, Limits};
 use crate::requests::ask;
 use crate::words::head_words;
 use closure_core::Closure;
+use plain_closure::PlainClosure;
 use row_script::{Answers, Row, Script};
 use std::alloc::{AllocError, Global};
-use trust_closure::{IndexedClosure, PlainClosure};
+use trust_closure::IndexedClosure;
 
 /// Which device fails.
 #[derive(Clone, Copy)]
