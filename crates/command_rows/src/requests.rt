@@ -9,8 +9,8 @@ use fed_config::Config;
 use fedbundle::{Call, CommandError, CommandName, OptionName, given, read_words};
 use local_answers::{Reply, answer_request, request_words};
 use replica_journal::{begin_journal, read_journal};
-use request_lines::write_request_words;
 use replica_sync::{read_snapshot, write_snapshot};
+use request_lines::write_request_words;
 use status_view::RunningStatus;
 use std::alloc::{AllocError, Global};
 

@@ -5,9 +5,9 @@ ghost use Rattle.fedbundle.specs.Explain.{receipt_line, root_line, step_line};
 ghost use Rattle.fedbundle.specs.Explain.{vouched_part};
 
 use bundle_doc::{DocId, Document};
-use json_reports::{chain_json, root_id};
 use byte_lines::push_digits;
 use command_line::ExplanationForm;
+use json_reports::{chain_json, root_id};
 use receipt_core::Receipt;
 use spiffe_name::TrustDomain;
 use std::alloc::{AllocError, Global};

@@ -4,7 +4,7 @@ use crate::reasons::state_path;
 use crate::verbose_lines::{quoted, say, shown, words_of};
 use bundle_doc::{Document, MAX_DOCUMENT_BYTES};
 use byte_lines::{FromRead, read_up_to};
-use fault_view::{Flaw, FoundFlaw, FlawPlace, UrlFlaw, find_flaw, is_ignored, json_fault};
+use fault_view::{Flaw, FlawPlace, FoundFlaw, UrlFlaw, find_flaw, is_ignored, json_fault};
 use fed_config::{Config, ConfigError};
 use fedbundle::{Call, CommandError, OptionName, given};
 use replica_core::SyncError;

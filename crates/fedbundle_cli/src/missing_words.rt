@@ -1,6 +1,6 @@
 // Words that clap takes and that are no call: what is missing.
 use crate::exit::print_exit;
-use crate::verbose_lines::{say, is_verbose_unasked};
+use crate::verbose_lines::{is_verbose_unasked, say};
 use fedbundle::{Exit, OptionName, command_of};
 use std::alloc::AllocError;
 

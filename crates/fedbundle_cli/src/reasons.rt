@@ -3,7 +3,7 @@
 // at what the command was given, and only where these lines are wanted.
 use crate::exit::print_exit;
 use crate::fault_places::{say_bundle, say_config, say_state, say_stream};
-use crate::verbose_lines::{quoted, say, shown, is_verbose_for, words_of};
+use crate::verbose_lines::{is_verbose_for, quoted, say, shown, words_of};
 use fed_config::Config;
 use fedbundle::{
     Call, CommandError, CommandName, Exit, OptionName, Step, SystemFault, given, status,

@@ -16,6 +16,7 @@
 mod client;
 mod connection_table;
 mod ending;
+mod event_log;
 mod held_state;
 mod listeners;
 mod live_connection;
@@ -23,14 +24,13 @@ mod local_talk;
 mod peers;
 mod pull_talk;
 mod replica;
-mod unread_bytes;
-mod event_log;
 mod served_talk;
 mod settings;
 mod socket;
 mod step_fault;
 mod talk;
 mod turn;
+mod unread_bytes;
 
 pub use client::{AskFault, ask_replica};
 pub use replica::run_replica;

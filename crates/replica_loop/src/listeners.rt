@@ -59,8 +59,10 @@ pub(crate) enum Arrival {
 impl Listeners {
     /// Listens at both. The lock of the state is held, so a socket's file on which nobody listens
     /// is that of a replica that has ended.
-    pub(crate) fn open<R: Files + Net>(rt: &R, settings: &Settings<'_, '_>) -> Result<Listeners,
-        Exit> {
+    pub(crate) fn open<R: Files + Net>(
+        rt: &R,
+        settings: &Settings<'_, '_>,
+    ) -> Result<Listeners, Exit> {
         let poll = at_step(Step::Socket, Poll::new(rt))?;
         free_path(rt, settings.socket)?;
         let local = at_step(Step::Socket, open_local(rt, &poll, settings.socket))?;

@@ -1,6 +1,6 @@
 //! The beginning and the end of a replica that stays.
-use crate::held_state::HeldState;
 use crate::event_log::{LogEvent, log_event};
+use crate::held_state::HeldState;
 use crate::settings::Settings;
 use crate::step_fault::file_at_step;
 use crate::turn::{RunningReplica, turn};

@@ -2,13 +2,13 @@
 //! anything is written. So nobody is shown a change that a kill could take back.
 use crate::connection_table::ConnectionTable;
 use crate::ending::Ending;
+use crate::event_log::{LogEvent, log_event};
 use crate::held_state::HeldState;
 use crate::listeners::{Arrival, Listeners};
 use crate::live_connection::LiveConnection;
 use crate::local_talk::{LocalTalk, Surroundings};
 use crate::peers::Peers;
 use crate::pull_talk::PullTalk;
-use crate::event_log::{LogEvent, log_event};
 use crate::served_talk::ServedTalk;
 use crate::settings::Settings;
 use crate::socket::Socket;
@@ -362,8 +362,12 @@ fn unix_seconds<R: Clock>(rt: &R) -> Option<u64> {
 }
 
 // What is reported of a connection that has ended.
-fn event_of(conn: &LiveConnection, ending: Ending, time: Duration, is_verbose: bool) ->
-    Option<LogEvent> {
+fn event_of(
+    conn: &LiveConnection,
+    ending: Ending,
+    time: Duration,
+    is_verbose: bool,
+) -> Option<LogEvent> {
     let is_said = is_verbose || ending != Ending::Well;
     match &conn.talk {
         Talk::Pull(talk) => Some(LogEvent::Pull(conn.peer?, talk.taken(), time, ending)),

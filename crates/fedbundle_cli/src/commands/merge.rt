@@ -1,7 +1,7 @@
 // `merge`: what another replica holds, taken.
 use crate::commands::state_writers::{Coming, change};
 use crate::limited_reader::LimitedReader;
-use crate::state_access::{state_access_of, leave, room_left};
+use crate::state_access::{leave, room_left, state_access_of};
 use byte_lines::FromRead;
 use fed_config::Config;
 use fedbundle::{Call, CommandError, Exit};

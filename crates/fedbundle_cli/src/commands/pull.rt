@@ -2,14 +2,12 @@
 // connects before a session begins; it saves the state at the end.
 use crate::connection::{Connection, connect};
 use crate::limited_reader::LimitedReader;
-use crate::state_access::{StateAccess, state_access_of, leave, load, lock, room_left, save};
+use crate::state_access::{StateAccess, leave, load, lock, room_left, save, state_access_of};
 use crate::streams::output_line;
 use crate::{options, reasons};
 use byte_lines::{FromRead, FromWrite};
 use fed_config::Config;
-use fedbundle::{
-    Call, CommandError, Exit, OptionName, Step, run_pull, wanted,
-};
+use fedbundle::{Call, CommandError, Exit, OptionName, Step, run_pull, wanted};
 use state_files::{SeenState, has_journal, see_state};
 use std::io::Read;
 use trust_closure::{Closure, ExchangeClosure};

@@ -1,13 +1,13 @@
 // `report`: what a replica that took the receipts accepts, of lines or of a state file.
 use crate::state_access::leave;
 use crate::streams::{complaints, input, output};
-use json_reports::write_report_json;
 use bundle_view::write_report;
 use fed_config::Config;
 use fedbundle::{
     Call, CommandError, Exit, OptionName, OutputForm, RunError, given, read_output_form,
     run_report_into,
 };
+use json_reports::write_report_json;
 use trust_closure::{Closure, IndexedClosure};
 
 /// Prints the report of the receipts that standard input has. That is text alone.

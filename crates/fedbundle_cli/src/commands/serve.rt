@@ -4,7 +4,7 @@ use crate::commands::config_of;
 use crate::connection::{Connection, accept, listen};
 use crate::exit::print_exit;
 use crate::options;
-use crate::state_access::{state_access_of, look};
+use crate::state_access::{look, state_access_of};
 use crate::streams::{error_lines, output_line};
 use byte_lines::{FromRead, FromWrite};
 use fed_config::Config;

@@ -3,7 +3,7 @@
 use crate::commands::{
     bundle, diff, distrust, explain, graph, list, migrate, polls, report, reseed, status,
 };
-use crate::state_access::{state_access_of, leave, look};
+use crate::state_access::{leave, look, state_access_of};
 use fed_config::Config;
 use fedbundle::{Call, CommandName, Exit};
 use trust_closure::IndexedClosure;

@@ -2,7 +2,7 @@
 // the state is taken, and a fault of that is reported after those of the lock, the state and the
 // options. The replica is made and given back in one place, and each command only borrows it.
 use crate::commands::{distrust, observe};
-use crate::state_access::{state_access_of, leave, load, lock, save};
+use crate::state_access::{leave, load, lock, save, state_access_of};
 use crate::streams::output_line;
 use fed_config::Config;
 use fedbundle::{Call, CommandError, Exit, take_other};
