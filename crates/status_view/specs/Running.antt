@@ -2,8 +2,7 @@
 -- and as metrics
 use Rattle.std.specs.Prelude.{ℕ, List, [], ◌++◌, false, codes, decimal, flat_map, string_bytes}
 use Rattle.std.specs.Prelude.{Option, Some, None}
-use Rattle.json.specs.Print.{quoted}
-use Rattle.json_text.specs.JsonText.{number_or_null, parted_texts}
+use Rattle.json_text.specs.JsonText.{number_or_null, parted_texts, string_member}
 use Rattle.text_lines.specs.TextLines.{number_or_none}
 use Rattle.replica_core.specs.declared.error.SyncError.TheVariants.{BadHeader, ConfigDiffers}
 use Rattle.replica_core.specs.declared.error.SyncError.TheVariants.{VersionDiffers, NotCanonical}
@@ -60,12 +59,11 @@ code_or_null None = codes "null"
 code_or_null (Some fault) = quoted_code fault
 
 abbrev pub peer_json : PeerStatus → List ℕ
-peer_json p = codes "{\"peer\":"
-    ++ (quoted (string_bytes p.address)
+peer_json p = string_member (codes "{\"peer\":") (string_bytes p.address)
     ++ (codes ",\"ended_well\":"
     ++ (number_or_null p.ended_well
     ++ (codes ",\"fault\":"
-    ++ (code_or_null p.fault ++ (codes ",\"receipts\":" ++ (decimal p.receipts ++ codes "}")))))))
+    ++ (code_or_null p.fault ++ (codes ",\"receipts\":" ++ (decimal p.receipts ++ codes "}"))))))
 
 -- without the braces, with a comma before the first
 abbrev pub running_members : RunningStatus → List ℕ

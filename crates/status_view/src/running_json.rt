@@ -53,7 +53,8 @@ fn push_peer(alloc: Global, out: &mut Vec<u8>, peer: &PeerStatus) -> Result<(), 
     push_code_or_null(out, peer.fault)?;
     out.extend_from_slice(b",\"receipts\":")?;
     push_number(out, peer.receipts)?;
-    out.extend_from_slice(b"}")
+    out.extend_from_slice(b"}")?;
+    Ok(())
 }
 
 fn push_code_or_null(out: &mut Vec<u8>, fault: Option<PeerFault>) -> Result<(), AllocError>

@@ -46,7 +46,8 @@ fn push_peer(out: &mut Vec<u8>, peer: &PeerStatus) -> Result<(), AllocError>
     push_code_or_none(out, peer.fault)?;
     out.extend_from_slice(b" receipts ")?;
     push_number(out, peer.receipts)?;
-    out.extend_from_slice(b"\n")
+    out.extend_from_slice(b"\n")?;
+    Ok(())
 }
 
 fn push_code_or_none(out: &mut Vec<u8>, fault: Option<PeerFault>) -> Result<(), AllocError>

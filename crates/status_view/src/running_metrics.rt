@@ -203,5 +203,6 @@ fn push_fault(out: &mut Vec<u8>, peer: &PeerStatus, fault: PeerFault) -> Result<
     push_label(out, "fedbundle_peer_fault_info", peer)?;
     out.extend_from_slice(b"\",fault=\"")?;
     out.extend_from_slice(fault_code(fault).as_bytes())?;
-    out.extend_from_slice(b"\"} 1\n")
+    out.extend_from_slice(b"\"} 1\n")?;
+    Ok(())
 }

@@ -10,14 +10,14 @@ returns-then-is_rival g c = (
       (subst (IsAcceptedList (g.C.Closure.state c.args.closure.now).meaning c.args.domain.now)
       (sym c.into_iter-other-iterator.ensures.into_iter_gives) c.accepted-other-items.ensures)
       (found_here (IsOther c.args.document.now) c.into_iter-other-iterator.result c.loop-other.other-iterator _
-      c.in-Some-other.other.now c.in-Some-other.ensures.steps (c.is_rival.ensures.0 c.if-is_rival.true) c.loop-other.invariant),
+      c.in-Some.other.now c.in-Some.ensures.steps (c.is_rival.ensures.0 c.if-is_rival.true) c.loop-other.invariant),
   λ _. refl,
 )
 
 pub loop-other-preserved : goal.loop-other-preserved
 loop-other-preserved g c =
     passed_by (IsOther c.args.document.now) c.into_iter-other-iterator.result c.loop-other.other-iterator _
-    c.in-Some-other.other.now c.in-Some-other.ensures.steps (not_told _ _ c.is_rival.ensures c.if-is_rival.false) c.loop-other.invariant
+    c.in-Some.other.now c.in-Some.ensures.steps (not_told _ _ c.is_rival.ensures c.if-is_rival.false) c.loop-other.invariant
 
 pub returns : goal.returns
 returns g c =
