@@ -27,7 +27,8 @@ pub(crate) fn push_running_members(
     push_number(out, running.journal_bytes)?;
     out.extend_from_slice(b",\"peers\":[")?;
     push_peers(alloc, out, running.peers)?;
-    out.extend_from_slice(b"]")
+    out.extend_from_slice(b"]")?;
+    Ok(())
 }
 
 fn push_peers(alloc: Global, out: &mut Vec<u8>, peers: &[PeerStatus]) -> Result<(), AllocError>

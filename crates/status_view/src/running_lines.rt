@@ -23,7 +23,8 @@ pub(crate) fn push_running_lines(
     out.extend_from_slice(b" bytes\njournal ")?;
     push_number(out, running.journal_bytes)?;
     out.extend_from_slice(b" bytes\n")?;
-    push_peers(out, running.peers)
+    push_peers(out, running.peers)?;
+    Ok(())
 }
 
 fn push_peers(out: &mut Vec<u8>, peers: &[PeerStatus]) -> Result<(), AllocError>

@@ -29,7 +29,8 @@ pub(crate) fn push_running_metrics(
     push_journal_gauge(out, running)?;
     push_receipts_counter(out, running)?;
     push_ended_gauge(out, running)?;
-    push_fault_info(out, running)
+    push_fault_info(out, running)?;
+    Ok(())
 }
 
 fn push_snapshot_gauge(out: &mut Vec<u8>, running: &RunningStatus<'_>) -> Result<(), AllocError>
@@ -72,7 +73,8 @@ fn push_receipts_counter(out: &mut Vec<u8>, running: &RunningStatus<'_>) -> Resu
         "fedbundle_peer_receipts_total",
         "Receipts that came from a peer and were not held.",
     )?;
-    push_receipts_samples(out, running.peers)
+    push_receipts_samples(out, running.peers)?;
+    Ok(())
 }
 
 fn push_counter_head(out: &mut Vec<u8>, name: &str, help: &str) -> Result<(), AllocError>
@@ -137,7 +139,8 @@ fn push_ended_gauge(out: &mut Vec<u8>, running: &RunningStatus<'_>) -> Result<()
         "fedbundle_peer_ended_well_timestamp_seconds",
         "When the last session with a peer that ended well did so.",
     )?;
-    push_ended_samples(out, running.peers)
+    push_ended_samples(out, running.peers)?;
+    Ok(())
 }
 
 fn push_ended_samples(out: &mut Vec<u8>, peers: &[PeerStatus]) -> Result<(), AllocError>
@@ -174,7 +177,8 @@ fn push_fault_info(out: &mut Vec<u8>, running: &RunningStatus<'_>) -> Result<(),
         "fedbundle_peer_fault_info",
         "The fault of the last session with a peer that had one.",
     )?;
-    push_fault_samples(out, running.peers)
+    push_fault_samples(out, running.peers)?;
+    Ok(())
 }
 
 fn push_fault_samples(out: &mut Vec<u8>, peers: &[PeerStatus]) -> Result<(), AllocError>
