@@ -1,7 +1,7 @@
 //! A request, read and carried out.
 ghost use Rattle.std.specs.Prelude.{◌≡◌, IfErr, IfOk, OnErr, map, string_bytes};
 ghost use Rattle.fedbundle.specs.CommandRun.{state_run};
-ghost use Rattle.local_answers.specs.Inside.AskedRun.{run_of};
+ghost use Rattle.local_answers.specs.Inside.AskedRun.{run_of_asked};
 ghost use Rattle.local_answers.specs.Journalling.{JournalsChange};
 ghost use Rattle.local_answers.specs.Replies.{RefusesWordsLine};
 ghost use Rattle.local_answers.specs.RequestRun.{Answers, Ends, RepliesTo, RepliesToCall};
@@ -99,7 +99,7 @@ fn answer_call<C: Closure>(
     asked: Asked<'_>,
 ) -> Result<Reply, RequestFault>
     ensures answers { IfOk result (RepliesToCall
-        (run_of asked (state_run (C.state closure.old) (C.state closure.new)))) }
+        (run_of_asked asked (state_run (C.state closure.old) (C.state closure.new)))) }
     ensures journals { IfOk result (λ reply. JournalsChange reply.journal.items
         (state_run (C.state closure.old) (C.state closure.new))) }
     ensures memory { IfErr result (λ fault. fault ≡ NoMemory) }
@@ -114,9 +114,9 @@ fn answer_call<C: Closure>(
 
 fn carry_out<C: Closure>(alloc: Global, closure: &mut C, asked: Asked<'_>) -> Result<Reply, Exit>
     ensures answers { IfOk result (Answers asked.call.now.name
-        (run_of asked (state_run (C.state closure.old) (C.state closure.new)))) }
+        (run_of_asked asked (state_run (C.state closure.old) (C.state closure.new)))) }
     ensures ends { IfErr result (Ends asked.call.now.name
-        (run_of asked (state_run (C.state closure.old) (C.state closure.new)))) }
+        (run_of_asked asked (state_run (C.state closure.old) (C.state closure.new)))) }
     ensures journals { IfOk result (λ reply. JournalsChange reply.journal.items
         (state_run (C.state closure.old) (C.state closure.new))) }
     ensures unchanged { OnErr result

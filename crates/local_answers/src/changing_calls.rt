@@ -6,7 +6,7 @@ ghost use Rattle.fedbundle.specs.CommandRun.{state_run};
 ghost use Rattle.command_line.specs.declared.command_name.CommandName.TheVariants as command;
 ghost use Rattle.fedbundle.specs.declared.error.CommandError.TheVariants.{Name};
 ghost use Rattle.fedbundle.specs.declared.exits.Exit.TheVariants.{Refused, TooManyBytes};
-ghost use Rattle.local_answers.specs.Inside.AskedRun.{run_of};
+ghost use Rattle.local_answers.specs.Inside.AskedRun.{run_of_asked};
 ghost use Rattle.local_answers.specs.Journalling.{JournalsChange};
 ghost use Rattle.local_answers.specs.RequestRun.{Answers, Ends, SaysNoRecord, SaysNoVerdict};
 ghost use Rattle.local_answers.specs.RequestRun.{SaysRecord, SaysVerdict, texts_of_call};
@@ -28,9 +28,9 @@ pub(crate) fn observe<C: Closure>(
     asked: Asked<'_>,
 ) -> Result<Reply, Exit>
     ensures answers { IfOk result (Answers command.Observe
-        (run_of asked (state_run (C.state closure.old) (C.state closure.new)))) }
+        (run_of_asked asked (state_run (C.state closure.old) (C.state closure.new)))) }
     ensures ends { IfErr result (Ends command.Observe
-        (run_of asked (state_run (C.state closure.old) (C.state closure.new)))) }
+        (run_of_asked asked (state_run (C.state closure.old) (C.state closure.new)))) }
     ensures journals { IfOk result (λ reply. JournalsChange reply.journal.items
         (state_run (C.state closure.old) (C.state closure.new))) }
     ensures unchanged { OnErr result
@@ -69,9 +69,9 @@ pub(crate) fn merge<C: Closure>(
     asked: Asked<'_>,
 ) -> Result<Reply, Exit>
     ensures answers { IfOk result (Answers command.Merge
-        (run_of asked (state_run (C.state closure.old) (C.state closure.new)))) }
+        (run_of_asked asked (state_run (C.state closure.old) (C.state closure.new)))) }
     ensures ends { IfErr result (Ends command.Merge
-        (run_of asked (state_run (C.state closure.old) (C.state closure.new)))) }
+        (run_of_asked asked (state_run (C.state closure.old) (C.state closure.new)))) }
     ensures journals { IfOk result (λ reply. JournalsChange reply.journal.items
         (state_run (C.state closure.old) (C.state closure.new))) }
     ensures unchanged { OnErr result
@@ -91,9 +91,9 @@ pub(crate) fn distrust<C: Closure>(
     asked: Asked<'_>,
 ) -> Result<Reply, Exit>
     ensures answers { IfOk result (Answers command.Distrust
-        (run_of asked (state_run (C.state closure.old) (C.state closure.new)))) }
+        (run_of_asked asked (state_run (C.state closure.old) (C.state closure.new)))) }
     ensures ends { IfErr result (Ends command.Distrust
-        (run_of asked (state_run (C.state closure.old) (C.state closure.new)))) }
+        (run_of_asked asked (state_run (C.state closure.old) (C.state closure.new)))) }
     ensures journals { IfOk result (λ reply. JournalsChange reply.journal.items
         (state_run (C.state closure.old) (C.state closure.new))) }
     ensures unchanged { OnErr result

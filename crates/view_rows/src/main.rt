@@ -12,8 +12,8 @@
 //! - `status CONFIG FORMAT = LINES`: what is printed of how that replica stands, in one of the
 //!   formats `text`, `json` and `prometheus`, and whether there is a warning.
 //! - `running CONFIG FORMAT SNAPSHOT JOURNAL PEER.. = LINES`: the same of a running replica, whose
-//!   files have this many bytes; a peer is `ADDRESS,ENDED,FAULT,RECEIPTS`, with a hyphen for what is
-//!   absent.
+//!   files have this many bytes; a peer is `ADDRESS,ENDED,FAULT,RECEIPTS`, with a hyphen for what
+//!   is absent.
 //! - `config-json = CONFIGURATION`, `canon-json DOMAIN = DOCUMENT`, `list-json CONFIG = LINES`,
 //!   `list-json CONFIG DOMAIN = LINES`, `report-json CONFIG = LINES`, `explain-json CONFIG DOMAIN
 //!   NAME = LINES` and `polls-json CONFIG SECONDS NAME = LINES`: what is printed as JSON, where the

@@ -2,7 +2,7 @@ use Rattle.std.proofs.Common.{inl, inr, refl, true, false}
 use Rattle.std.proofs.lemmas.Result.{err_from_is_err_and}
 use Rattle.fedbundle.specs.CommandRun.{state_run}
 use Rattle.fedbundle.specs.Observe.{IsAsHeld}
-use Rattle.local_answers.specs.Inside.AskedRun.{run_of}
+use Rattle.local_answers.specs.Inside.AskedRun.{run_of_asked}
 use Rattle.local_answers.specs.RequestRun.{AnswersDryRun, CallRun, EndsDistrust}
 use Rattle.local_answers.proofs.ChangingFacts.{distrust_call_ends, distrust_called, distrust_unchanged, flag_said, on_any_error}
 use Rattle.local_answers.proofs.RequestFacts.{same_journalled}
@@ -45,7 +45,7 @@ returns-then-is_flag_given-clause-journals g c =
 
 pub returns-clause-answers : goal.returns-clause-answers
 returns-clause-answers g c =
-    let run : CallRun = run_of c.args.asked (state_run (g.C.Closure.state c.args.closure.now) (g.C.Closure.state c.distrust.new.closure)) in
+    let run : CallRun = run_of_asked c.args.asked (state_run (g.C.Closure.state c.args.closure.now) (g.C.Closure.state c.distrust.new.closure)) in
     distrust_called run c.in_ok-record.record c.is_flag_given-is_verbose.result c.distrust.result c.in_ok-record.ensures.says
     (flag_said _ _ _ false c.given.ensures c.is_flag_given.ensures c.if-is_flag_given.false)
     (flag_said _ _ _ c.is_flag_given-is_verbose.result c.given-else-is_flag_given.ensures c.is_flag_given-is_verbose.ensures refl)
@@ -53,7 +53,7 @@ returns-clause-answers g c =
 
 pub returns-clause-ends : goal.returns-clause-ends
 returns-clause-ends g c =
-    let run : CallRun = run_of c.args.asked (state_run (g.C.Closure.state c.args.closure.now) (g.C.Closure.state c.distrust.new.closure)) in
+    let run : CallRun = run_of_asked c.args.asked (state_run (g.C.Closure.state c.args.closure.now) (g.C.Closure.state c.distrust.new.closure)) in
     distrust_call_ends run c.in_ok-record.record c.distrust.result c.in_ok-record.ensures.says
     (flag_said _ _ _ false c.given.ensures c.is_flag_given.ensures c.if-is_flag_given.false)
     c.distrust.ensures.ends

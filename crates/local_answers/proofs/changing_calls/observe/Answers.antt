@@ -2,7 +2,7 @@ use Rattle.std.proofs.Common.{inl, inr}
 use Rattle.std.proofs.lemmas.Result.{err_from_is_err_and}
 use Rattle.fedbundle.specs.CommandRun.{state_run}
 use Rattle.fedbundle.specs.Observe.{Fetched, IsAsHeld}
-use Rattle.local_answers.specs.Inside.AskedRun.{run_of}
+use Rattle.local_answers.specs.Inside.AskedRun.{run_of_asked}
 use Rattle.local_answers.specs.RequestRun.{CallRun, EndsObserve, change_run}
 use Rattle.local_answers.proofs.ChangingFacts.{observe_call_ends, observe_called, observe_unchanged, on_any_error, says_fetched}
 use Rattle.local_answers.proofs.changing_calls.observe.Goals as goal
@@ -31,7 +31,7 @@ returns-in_err-verdict-clause-ends g c =
 
 pub returns-clause-answers : goal.returns-clause-answers
 returns-clause-answers g c =
-    let run : CallRun = run_of c.args.asked (state_run (g.C.Closure.state c.args.closure.now) (g.C.Closure.state c.observe.new.closure)) in
+    let run : CallRun = run_of_asked c.args.asked (state_run (g.C.Closure.state c.args.closure.now) (g.C.Closure.state c.observe.new.closure)) in
     let fetched : Fetched = record { domain = c.in_ok-domain.domain; verdict = c.in_ok-verdict.verdict } in
     observe_called run fetched c.observe.result
     (says_fetched run _ c.in_ok-wanted.field-0.now _ c.in_ok-wanted.ensures.ok c.in_ok-domain.ensures.ok c.in_ok-verdict.ensures.says)
@@ -39,7 +39,7 @@ returns-clause-answers g c =
 
 pub returns-clause-ends : goal.returns-clause-ends
 returns-clause-ends g c =
-    let run : CallRun = run_of c.args.asked (state_run (g.C.Closure.state c.args.closure.now) (g.C.Closure.state c.observe.new.closure)) in
+    let run : CallRun = run_of_asked c.args.asked (state_run (g.C.Closure.state c.args.closure.now) (g.C.Closure.state c.observe.new.closure)) in
     let fetched : Fetched = record { domain = c.in_ok-domain.domain; verdict = c.in_ok-verdict.verdict } in
     observe_call_ends run fetched c.observe.result
     (says_fetched run _ c.in_ok-wanted.field-0.now _ c.in_ok-wanted.ensures.ok c.in_ok-domain.ensures.ok c.in_ok-verdict.ensures.says)
