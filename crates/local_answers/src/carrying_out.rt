@@ -99,7 +99,7 @@ fn answer_call<C: Closure>(
     asked: Asked<'_>,
 ) -> Result<Reply, RequestFault>
     ensures answers { IfOk result (RepliesToCall
-        (run_of_asked asked (state_run (C.state closure.old) (C.state closure.new)))) }
+        (run_of_asked asked.entry (state_run (C.state closure.old) (C.state closure.new)))) }
     ensures journals { IfOk result (λ reply. JournalsChange reply.journal.items
         (state_run (C.state closure.old) (C.state closure.new))) }
     ensures memory { IfErr result (λ fault. fault ≡ NoMemory) }
@@ -113,10 +113,10 @@ fn answer_call<C: Closure>(
 }
 
 fn carry_out<C: Closure>(alloc: Global, closure: &mut C, asked: Asked<'_>) -> Result<Reply, Exit>
-    ensures answers { IfOk result (Answers asked.call.now.name
-        (run_of_asked asked (state_run (C.state closure.old) (C.state closure.new)))) }
-    ensures ends { IfErr result (Ends asked.call.now.name
-        (run_of_asked asked (state_run (C.state closure.old) (C.state closure.new)))) }
+    ensures answers { IfOk result (Answers asked.entry.call.now.name
+        (run_of_asked asked.entry (state_run (C.state closure.old) (C.state closure.new)))) }
+    ensures ends { IfErr result (Ends asked.entry.call.now.name
+        (run_of_asked asked.entry (state_run (C.state closure.old) (C.state closure.new)))) }
     ensures journals { IfOk result (λ reply. JournalsChange reply.journal.items
         (state_run (C.state closure.old) (C.state closure.new))) }
     ensures unchanged { OnErr result

@@ -28,9 +28,9 @@ pub(crate) fn observe<C: Closure>(
     asked: Asked<'_>,
 ) -> Result<Reply, Exit>
     ensures answers { IfOk result (Answers command.Observe
-        (run_of_asked asked (state_run (C.state closure.old) (C.state closure.new)))) }
+        (run_of_asked asked.entry (state_run (C.state closure.old) (C.state closure.new)))) }
     ensures ends { IfErr result (Ends command.Observe
-        (run_of_asked asked (state_run (C.state closure.old) (C.state closure.new)))) }
+        (run_of_asked asked.entry (state_run (C.state closure.old) (C.state closure.new)))) }
     ensures journals { IfOk result (λ reply. JournalsChange reply.journal.items
         (state_run (C.state closure.old) (C.state closure.new))) }
     ensures unchanged { OnErr result
@@ -69,15 +69,16 @@ pub(crate) fn merge<C: Closure>(
     asked: Asked<'_>,
 ) -> Result<Reply, Exit>
     ensures answers { IfOk result (Answers command.Merge
-        (run_of_asked asked (state_run (C.state closure.old) (C.state closure.new)))) }
+        (run_of_asked asked.entry (state_run (C.state closure.old) (C.state closure.new)))) }
     ensures ends { IfErr result (Ends command.Merge
-        (run_of_asked asked (state_run (C.state closure.old) (C.state closure.new)))) }
+        (run_of_asked asked.entry (state_run (C.state closure.old) (C.state closure.new)))) }
     ensures journals { IfOk result (λ reply. JournalsChange reply.journal.items
         (state_run (C.state closure.old) (C.state closure.new))) }
     ensures unchanged { OnErr result
         ((C.state closure.new).meaning ≡ (C.state closure.old).meaning) }
-    ensures within { OnOk result (length asked.input.now ≤ room) }
-    ensures over { IfErr result (λ exit. exit ≡ TooManyBytes → room < length asked.input.now) }
+    ensures within { OnOk result (length asked.entry.input.now ≤ room) }
+    ensures over { IfErr result
+        (λ exit. exit ≡ TooManyBytes → room < length asked.entry.input.now) }
 {
     if asked.input.len() as u64 > room {
         return Err(Exit::TooManyBytes);
@@ -91,9 +92,9 @@ pub(crate) fn distrust<C: Closure>(
     asked: Asked<'_>,
 ) -> Result<Reply, Exit>
     ensures answers { IfOk result (Answers command.Distrust
-        (run_of_asked asked (state_run (C.state closure.old) (C.state closure.new)))) }
+        (run_of_asked asked.entry (state_run (C.state closure.old) (C.state closure.new)))) }
     ensures ends { IfErr result (Ends command.Distrust
-        (run_of_asked asked (state_run (C.state closure.old) (C.state closure.new)))) }
+        (run_of_asked asked.entry (state_run (C.state closure.old) (C.state closure.new)))) }
     ensures journals { IfOk result (λ reply. JournalsChange reply.journal.items
         (state_run (C.state closure.old) (C.state closure.new))) }
     ensures unchanged { OnErr result

@@ -21,9 +21,9 @@ pub(crate) fn report<C: Closure>(
     asked: Asked<'_>,
 ) -> Result<Reply, Exit>
     ensures answers { IfOk result (Answers command.Report
-        (run_of_asked asked (state_run (C.state closure.now) (C.state closure.now)))) }
+        (run_of_asked asked.entry (state_run (C.state closure.now) (C.state closure.now)))) }
     ensures ends { IfErr result (Ends command.Report
-        (run_of_asked asked (state_run (C.state closure.now) (C.state closure.now)))) }
+        (run_of_asked asked.entry (state_run (C.state closure.now) (C.state closure.now)))) }
     ensures unjournalled { IfOk result (λ reply. reply.journal.items ≡ []) }
 {
     let _unread = asked;
@@ -37,9 +37,9 @@ pub(crate) fn bundle<C: Closure>(
     asked: Asked<'_>,
 ) -> Result<Reply, Exit>
     ensures answers { IfOk result (Answers command.Bundle
-        (run_of_asked asked (state_run (C.state closure.now) (C.state closure.now)))) }
+        (run_of_asked asked.entry (state_run (C.state closure.now) (C.state closure.now)))) }
     ensures ends { IfErr result (Ends command.Bundle
-        (run_of_asked asked (state_run (C.state closure.now) (C.state closure.now)))) }
+        (run_of_asked asked.entry (state_run (C.state closure.now) (C.state closure.now)))) }
     ensures unjournalled { IfOk result (λ reply. reply.journal.items ≡ []) }
 {
     let domain = wanted(asked.call, OptionName::Domain)?;
@@ -54,9 +54,9 @@ pub(crate) fn explain<C: Closure>(
     asked: Asked<'_>,
 ) -> Result<Reply, Exit>
     ensures answers { IfOk result (Answers command.Explain
-        (run_of_asked asked (state_run (C.state closure.now) (C.state closure.now)))) }
+        (run_of_asked asked.entry (state_run (C.state closure.now) (C.state closure.now)))) }
     ensures ends { IfErr result (Ends command.Explain
-        (run_of_asked asked (state_run (C.state closure.now) (C.state closure.now)))) }
+        (run_of_asked asked.entry (state_run (C.state closure.now) (C.state closure.now)))) }
     ensures unjournalled { IfOk result (λ reply. reply.journal.items ≡ []) }
 {
     let domain = wanted(asked.call, OptionName::Domain)?;
@@ -67,9 +67,9 @@ pub(crate) fn explain<C: Closure>(
 
 pub(crate) fn polls<C: Closure>(alloc: Global, closure: &C, asked: Asked<'_>) -> Result<Reply, Exit>
     ensures answers { IfOk result (Answers command.Polls
-        (run_of_asked asked (state_run (C.state closure.now) (C.state closure.now)))) }
+        (run_of_asked asked.entry (state_run (C.state closure.now) (C.state closure.now)))) }
     ensures ends { IfErr result (Ends command.Polls
-        (run_of_asked asked (state_run (C.state closure.now) (C.state closure.now)))) }
+        (run_of_asked asked.entry (state_run (C.state closure.now) (C.state closure.now)))) }
     ensures unjournalled { IfOk result (λ reply. reply.journal.items ≡ []) }
 {
     let now = read_moment(wanted(asked.call, OptionName::Now)?)?;
@@ -84,9 +84,9 @@ pub(crate) fn status<C: Closure>(
     asked: Asked<'_>,
 ) -> Result<Reply, Exit>
     ensures answers { IfOk result (Answers command.Status
-        (run_of_asked asked (state_run (C.state closure.now) (C.state closure.now)))) }
+        (run_of_asked asked.entry (state_run (C.state closure.now) (C.state closure.now)))) }
     ensures ends { IfErr result (Ends command.Status
-        (run_of_asked asked (state_run (C.state closure.now) (C.state closure.now)))) }
+        (run_of_asked asked.entry (state_run (C.state closure.now) (C.state closure.now)))) }
     ensures unjournalled { IfOk result (λ reply. reply.journal.items ≡ []) }
 {
     let format = read_status_format(given(asked.call, OptionName::Format))?;
@@ -98,9 +98,9 @@ pub(crate) fn status<C: Closure>(
 // Nothing is to be done but to end.
 pub(crate) fn stop<C: Closure>(alloc: Global, closure: &C, asked: Asked<'_>) -> Result<Reply, Exit>
     ensures answers { IfOk result (Answers command.Stop
-        (run_of_asked asked (state_run (C.state closure.now) (C.state closure.now)))) }
+        (run_of_asked asked.entry (state_run (C.state closure.now) (C.state closure.now)))) }
     ensures ends { IfErr result (Ends command.Stop
-        (run_of_asked asked (state_run (C.state closure.now) (C.state closure.now)))) }
+        (run_of_asked asked.entry (state_run (C.state closure.now) (C.state closure.now)))) }
     ensures unjournalled { IfOk result (λ reply. reply.journal.items ≡ []) }
 {
     let _held = (closure, asked);
