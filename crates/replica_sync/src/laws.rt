@@ -21,8 +21,7 @@ ghost use Rattle.replica_texts.specs.Gives.{IsGive};
 ghost use Rattle.replica_sync.specs.SessionRun.{ReadSame, SessionRun, known_run, session_run};
 ghost use Rattle.replica_sync.specs.Events.{EndsCut, whole_exchanges};
 ghost use Rattle.replica_sync.specs.Pulling.{HasDistinctIds, Pulls, PullsAll, PullsUpTo};
-ghost use Rattle.replica_texts.specs.Snapshots.{snapshot_text};
-ghost use Rattle.replica_texts.specs.declared.format.Format.TheVariants.{Second};
+ghost use Rattle.replica_texts.specs.WrittenSnapshot.{written_snapshot};
 ghost use Rattle.replica_sync.specs.declared.pulling.PullFault.{PullFault};
 ghost use Rattle.replica_sync.specs.Pieces.{EndsLine, GoesOn, PieceRun};
 ghost use Rattle.replica_sync.specs.PulledPieces.{AreAlone, PulledPiece, bytes_pulled};
@@ -183,8 +182,8 @@ pub fn convergence()
     ensures same_snapshots { (past : WorldRun) (since : List Event) (i j : ℕ)
         → AreEvents past.events → i < past.replicas → j < past.replicas
         → Settles (rules_in past) (world_after past) since
-        → snapshot_text Second (meaning_of_state past.config (held_by (followed_by past since) i))
-        ≡ snapshot_text Second
+        → written_snapshot (meaning_of_state past.config (held_by (followed_by past since) i))
+        ≡ written_snapshot
         (meaning_of_state past.config (held_by (followed_by past since) j)) }
 {
     agreement();
