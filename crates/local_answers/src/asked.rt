@@ -2,10 +2,11 @@
 use fedbundle::Call;
 use status_view::RunningStatus;
 
-/// A call, its input, and what the replica that is asked says of itself.
+/// A call, whose texts are lent by its words; its input; and what the replica that is asked says of
+/// itself.
 #[derive(Clone, Copy, Debug)]
-pub(crate) struct Asked<'a> {
-    pub(crate) call: &'a Call<'a>,
+pub(crate) struct Asked<'call, 'words, 'a> {
+    pub(crate) call: &'call Call<'words>,
     pub(crate) running: &'a RunningStatus<'a>,
     pub(crate) input: &'a [u8],
 }

@@ -96,7 +96,7 @@ fn reply_of_clap(alloc: Global, shown: &clap::Error) -> Result<Reply, AllocError
 fn answer_call<C: Closure>(
     alloc: Global,
     closure: &mut C,
-    asked: Asked<'_>,
+    asked: Asked<'_, '_, '_>,
 ) -> Result<Reply, RequestFault>
     ensures answers { IfOk result (RepliesToCall
         (run_of_asked asked.entry (state_run (C.state closure.old) (C.state closure.new)))) }
@@ -112,7 +112,11 @@ fn answer_call<C: Closure>(
     }
 }
 
-fn carry_out<C: Closure>(alloc: Global, closure: &mut C, asked: Asked<'_>) -> Result<Reply, Exit>
+fn carry_out<C: Closure>(
+    alloc: Global,
+    closure: &mut C,
+    asked: Asked<'_, '_, '_>,
+) -> Result<Reply, Exit>
     ensures answers { IfOk result (Answers asked.entry.call.now.name
         (run_of_asked asked.entry (state_run (C.state closure.old) (C.state closure.new)))) }
     ensures ends { IfErr result (Ends asked.entry.call.now.name

@@ -25,7 +25,7 @@ use std::alloc::Global;
 pub(crate) fn observe<C: Closure>(
     alloc: Global,
     closure: &mut C,
-    asked: Asked<'_>,
+    asked: Asked<'_, '_, '_>,
 ) -> Result<Reply, Exit>
     ensures answers { IfOk result (Answers command.Observe
         (run_of_asked asked.entry (state_run (C.state closure.old) (C.state closure.new)))) }
@@ -66,7 +66,7 @@ pub(crate) fn merge<C: Closure>(
     alloc: Global,
     closure: &mut C,
     room: u64,
-    asked: Asked<'_>,
+    asked: Asked<'_, '_, '_>,
 ) -> Result<Reply, Exit>
     ensures answers { IfOk result (Answers command.Merge
         (run_of_asked asked.entry (state_run (C.state closure.old) (C.state closure.new)))) }
@@ -89,7 +89,7 @@ pub(crate) fn merge<C: Closure>(
 pub(crate) fn distrust<C: Closure>(
     alloc: Global,
     closure: &mut C,
-    asked: Asked<'_>,
+    asked: Asked<'_, '_, '_>,
 ) -> Result<Reply, Exit>
     ensures answers { IfOk result (Answers command.Distrust
         (run_of_asked asked.entry (state_run (C.state closure.old) (C.state closure.new)))) }

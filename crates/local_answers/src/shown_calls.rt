@@ -18,7 +18,7 @@ use std::alloc::Global;
 pub(crate) fn report<C: Closure>(
     alloc: Global,
     closure: &C,
-    asked: Asked<'_>,
+    asked: Asked<'_, '_, '_>,
 ) -> Result<Reply, Exit>
     ensures answers { IfOk result (Answers command.Report
         (run_of_asked asked.entry (state_run (C.state closure.now) (C.state closure.now)))) }
@@ -26,7 +26,7 @@ pub(crate) fn report<C: Closure>(
         (run_of_asked asked.entry (state_run (C.state closure.now) (C.state closure.now)))) }
     ensures unjournalled { IfOk result (λ reply. reply.journal.items ≡ []) }
 {
-    let _unread = asked;
+    let _name = asked.call.name;
     let text = shown_replies::report(alloc, closure)?;
     Ok(Reply::done(alloc, text)?)
 }
@@ -34,7 +34,7 @@ pub(crate) fn report<C: Closure>(
 pub(crate) fn bundle<C: Closure>(
     alloc: Global,
     closure: &C,
-    asked: Asked<'_>,
+    asked: Asked<'_, '_, '_>,
 ) -> Result<Reply, Exit>
     ensures answers { IfOk result (Answers command.Bundle
         (run_of_asked asked.entry (state_run (C.state closure.now) (C.state closure.now)))) }
@@ -51,7 +51,7 @@ pub(crate) fn bundle<C: Closure>(
 pub(crate) fn explain<C: Closure>(
     alloc: Global,
     closure: &C,
-    asked: Asked<'_>,
+    asked: Asked<'_, '_, '_>,
 ) -> Result<Reply, Exit>
     ensures answers { IfOk result (Answers command.Explain
         (run_of_asked asked.entry (state_run (C.state closure.now) (C.state closure.now)))) }
@@ -65,7 +65,11 @@ pub(crate) fn explain<C: Closure>(
     Ok(Reply::done(alloc, text)?)
 }
 
-pub(crate) fn polls<C: Closure>(alloc: Global, closure: &C, asked: Asked<'_>) -> Result<Reply, Exit>
+pub(crate) fn polls<C: Closure>(
+    alloc: Global,
+    closure: &C,
+    asked: Asked<'_, '_, '_>,
+) -> Result<Reply, Exit>
     ensures answers { IfOk result (Answers command.Polls
         (run_of_asked asked.entry (state_run (C.state closure.now) (C.state closure.now)))) }
     ensures ends { IfErr result (Ends command.Polls
@@ -81,7 +85,7 @@ pub(crate) fn polls<C: Closure>(alloc: Global, closure: &C, asked: Asked<'_>) ->
 pub(crate) fn status<C: Closure>(
     alloc: Global,
     closure: &C,
-    asked: Asked<'_>,
+    asked: Asked<'_, '_, '_>,
 ) -> Result<Reply, Exit>
     ensures answers { IfOk result (Answers command.Status
         (run_of_asked asked.entry (state_run (C.state closure.now) (C.state closure.now)))) }
@@ -96,14 +100,19 @@ pub(crate) fn status<C: Closure>(
 }
 
 // Nothing is to be done but to end.
-pub(crate) fn stop<C: Closure>(alloc: Global, closure: &C, asked: Asked<'_>) -> Result<Reply, Exit>
+pub(crate) fn stop<C: Closure>(
+    alloc: Global,
+    closure: &C,
+    asked: Asked<'_, '_, '_>,
+) -> Result<Reply, Exit>
     ensures answers { IfOk result (Answers command.Stop
         (run_of_asked asked.entry (state_run (C.state closure.now) (C.state closure.now)))) }
     ensures ends { IfErr result (Ends command.Stop
         (run_of_asked asked.entry (state_run (C.state closure.now) (C.state closure.now)))) }
     ensures unjournalled { IfOk result (λ reply. reply.journal.items ≡ []) }
 {
-    let _held = (closure, asked);
+    let _held = closure;
+    let _name = asked.call.name;
     let mut reply = Reply::done(alloc, Vec::new(alloc))?;
     reply.ends = true;
     Ok(reply)
