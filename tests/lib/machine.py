@@ -5,8 +5,11 @@ test ends. A copy has the network of this machine, and devices of its own.
 
 `Booted` also runs systemd in a copy, in name spaces and a control group of its own. It needs cgroup2. What sysinit.target
 would start is left out there, since it sets values of the kernel, of which there is one."""
+import fcntl
 import os
 import shlex
+import socket
+import struct
 import subprocess
 import sys
 import tempfile
@@ -35,6 +38,12 @@ def in_own_mounts(script, words):
     # Nothing but the empty folder is left: what was mounted there is gone with the other process.
     os.rmdir(folder)
     return ran.returncode
+
+
+def raise_loopback():
+    """Brings up the loopback of a new name space of networks."""
+    with socket.socket(socket.AF_INET, socket.SOCK_DGRAM) as link:
+        fcntl.ioctl(link, 0x8914, struct.pack("16sh14x", b"lo", 1))
 
 
 class Machine:
