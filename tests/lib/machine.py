@@ -1,7 +1,7 @@
 """Copies of this machine, or of another Debian, whose changes are thrown away: an overlay over a root, and a change of root.
 
-It needs root and Linux with overlayfs. All mounts are of the name space that `in_own_mounts` makes, and are gone when the
-test ends. A copy has the network of this machine, and devices of its own.
+It needs root and Linux with overlayfs. All mounts and processes are of the name spaces that `in_own_mounts` makes, and are
+gone when the test ends. Copies have one network, which is not this machine's, and devices of their own.
 
 `Booted` also runs systemd in a copy, in name spaces and a control group of its own. It needs cgroup2. What sysinit.target
 would start is left out there, since it sets values of the kernel, of which there is one."""
@@ -30,11 +30,13 @@ def mount(kind, options, at):
 
 
 def in_own_mounts(script, words):
-    """Runs a script of tests/ again as `SCRIPT inside FOLDER WORD..`, with mounts of its own, and returns its status."""
+    """Runs a script of tests/ again as `SCRIPT inside FOLDER WORD..`, with mounts, a network and processes of its own, of which
+    none outlives it. Returns its status."""
     if os.geteuid():
         raise Lacking("it needs root")
     folder = tempfile.mkdtemp()
-    ran = subprocess.run(["unshare", "--mount", "--net", sys.executable, os.path.abspath(script), "inside", folder, *words])
+    spaces = ["unshare", "--mount-proc", "--net", "--pid", "--fork", "--kill-child"]
+    ran = subprocess.run([*spaces, sys.executable, os.path.abspath(script), "inside", folder, *words])
     # Nothing but the empty folder is left: what was mounted there is gone with the other process.
     os.rmdir(folder)
     return ran.returncode
