@@ -1,4 +1,6 @@
+use Rattle.std.proofs.Common.{ap}
 use Rattle.std.proofs.lemmas.Result.{err_from_is_err_and}
+use Rattle.fedbundle.specs.Exits.{exit_of_option}
 use Rattle.fedbundle.specs.declared.exits.Exit.TheVariants.{BadNumber}
 use Rattle.local_answers.proofs.ChangingFacts.{none_journalled}
 use Rattle.local_answers.proofs.ShownFacts.{answers_as, anyhow, ends_as, none_asked}
@@ -8,7 +10,7 @@ pub returns-in_err-most_bytes-clause-ends : goal.returns-in_err-most_bytes-claus
 returns-in_err-most_bytes-clause-ends g c =
     let exit = err_from_is_err_and c.from_residual.result c.from_residual.ensures.1 in
     let refused = c.in_err-most_bytes.ensures.refused in
-    rw (exit.1, exit.2) (anyhow _ _ _ (BadNumber refused.0) refused.1 tt)
+    rw (exit.1, exit.2) (anyhow _ _ _ (BadNumber refused.0) (ap exit_of_option refused.1) tt)
 
 pub returns-in-Report-clause-answers : goal.returns-in-Report-clause-answers
 returns-in-Report-clause-answers g c = answers_as _ _ _ _ c.in-Report.is c.report.ensures.answers

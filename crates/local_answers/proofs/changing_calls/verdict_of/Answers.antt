@@ -1,11 +1,12 @@
 use Rattle.std.proofs.Common.{◌∙◌, Some, ap, inl, inr, sym}
 use Rattle.std.proofs.lemmas.Result.{err_from_is_err_and}
+use Rattle.fedbundle.specs.Exits.{exit_of_option}
 use Rattle.local_answers.proofs.changing_calls.verdict_of.Goals as goal
 
 pub returns-in_err-wanted-clause-ends : goal.returns-in_err-wanted-clause-ends
 returns-in_err-wanted-clause-ends c =
     let exit = err_from_is_err_and c.from_residual.result c.from_residual.ensures.1 in
-    rw (exit.1, exit.2) (inl (inl (record { lacks = c.in_err-wanted.ensures.usage.1; is = c.in_err-wanted.ensures.usage.0 })))
+    rw (exit.1, exit.2) (inl (inl (record { lacks = c.in_err-wanted.ensures.usage.1; is = ap exit_of_option c.in_err-wanted.ensures.usage.0 })))
 
 pub returns-in_err-endpoint-clause-ends : goal.returns-in_err-endpoint-clause-ends
 returns-in_err-endpoint-clause-ends c =
@@ -22,7 +23,7 @@ returns-in_err-endpoint-clause-ends c =
 pub returns-in_err-wanted-2-clause-ends : goal.returns-in_err-wanted-2-clause-ends
 returns-in_err-wanted-2-clause-ends c =
     let exit = err_from_is_err_and c.from_residual-in_err-wanted-2.result c.from_residual-in_err-wanted-2.ensures.1 in
-    rw (exit.1, exit.2) (inr (inl (record { lacks = c.in_err-wanted-2.ensures.usage.1; is = c.in_err-wanted-2.ensures.usage.0 })))
+    rw (exit.1, exit.2) (inr (inl (record { lacks = c.in_err-wanted-2.ensures.usage.1; is = ap exit_of_option c.in_err-wanted-2.ensures.usage.0 })))
 
 pub returns-in_err-key-clause-ends : goal.returns-in_err-key-clause-ends
 returns-in_err-key-clause-ends c =
@@ -30,7 +31,7 @@ returns-in_err-key-clause-ends c =
     rw (exit.1, exit.2) (inr (inr (record {
       digits = c.in_ok-wanted-2.field-0.now;
       is_said = c.in_ok-wanted-2.ensures.ok;
-      is = c.in_err-key.ensures.refused;
+      is = ap exit_of_option c.in_err-key.ensures.refused;
     })))
 
 pub returns-clause-says : goal.returns-clause-says

@@ -1,5 +1,6 @@
-use Rattle.std.proofs.Common.{inl, inr}
+use Rattle.std.proofs.Common.{inl, inr, ap}
 use Rattle.std.proofs.lemmas.Result.{err_from_is_err_and}
+use Rattle.fedbundle.specs.Exits.{exit_of_option}
 use Rattle.local_answers.specs.RequestRun.{AnswersBundleIn}
 use Rattle.local_answers.proofs.ShownFacts.{replied}
 use Rattle.local_answers.proofs.shown_calls.bundle.Goals as goal
@@ -7,12 +8,12 @@ use Rattle.local_answers.proofs.shown_calls.bundle.Goals as goal
 pub returns-in_err-domain-clause-ends : goal.returns-in_err-domain-clause-ends
 returns-in_err-domain-clause-ends g c =
     let exit = err_from_is_err_and c.from_residual.result c.from_residual.ensures.1 in
-    rw (exit.1, exit.2) (inr (inl c.in_err-domain.ensures.usage.0))
+    rw (exit.1, exit.2) (inr (inl (ap exit_of_option c.in_err-domain.ensures.usage.0)))
 
 pub returns-in_err-format-clause-ends : goal.returns-in_err-format-clause-ends
 returns-in_err-format-clause-ends g c =
     let exit = err_from_is_err_and c.from_residual-in_err-format.result c.from_residual-in_err-format.ensures.1 in
-    rw (exit.1, exit.2) (inr (inl c.in_err-format.ensures.refused))
+    rw (exit.1, exit.2) (inr (inl (ap exit_of_option c.in_err-format.ensures.refused)))
 
 pub returns-in_err-text-clause-ends : goal.returns-in_err-text-clause-ends
 returns-in_err-text-clause-ends g c =

@@ -1,5 +1,6 @@
-use Rattle.std.proofs.Common.{inl, inr}
+use Rattle.std.proofs.Common.{inl, inr, ap}
 use Rattle.std.proofs.lemmas.Result.{err_from_is_err_and}
+use Rattle.fedbundle.specs.Exits.{exit_of_option}
 use Rattle.fedbundle.specs.Explain.{explanation_call}
 use Rattle.local_answers.specs.RequestRun.{AnswersExplain, explain_asked}
 use Rattle.local_answers.proofs.ShownFacts.{replied}
@@ -8,7 +9,7 @@ use Rattle.local_answers.proofs.shown_calls.explain.Goals as goal
 pub returns-in_err-domain-clause-ends : goal.returns-in_err-domain-clause-ends
 returns-in_err-domain-clause-ends g c =
     let exit = err_from_is_err_and c.from_residual.result c.from_residual.ensures.1 in
-    rw (exit.1, exit.2) (inr (inl (record { lacks = c.in_err-domain.ensures.usage.1; is = c.in_err-domain.ensures.usage.0 })))
+    rw (exit.1, exit.2) (inr (inl (record { lacks = c.in_err-domain.ensures.usage.1; is = ap exit_of_option c.in_err-domain.ensures.usage.0 })))
 
 pub returns-in_err-text-clause-ends : goal.returns-in_err-text-clause-ends
 returns-in_err-text-clause-ends g c =

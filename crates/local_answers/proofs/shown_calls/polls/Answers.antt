@@ -1,5 +1,6 @@
-use Rattle.std.proofs.Common.{inl, inr}
+use Rattle.std.proofs.Common.{inl, inr, ap}
 use Rattle.std.proofs.lemmas.Result.{err_from_is_err_and}
+use Rattle.fedbundle.specs.Exits.{exit_of_option}
 use Rattle.local_answers.specs.RequestRun.{AnswersPolls}
 use Rattle.local_answers.proofs.ShownFacts.{replied}
 use Rattle.local_answers.proofs.shown_calls.polls.Goals as goal
@@ -7,7 +8,7 @@ use Rattle.local_answers.proofs.shown_calls.polls.Goals as goal
 pub returns-in_err-wanted-clause-ends : goal.returns-in_err-wanted-clause-ends
 returns-in_err-wanted-clause-ends g c =
     let exit = err_from_is_err_and c.from_residual.result c.from_residual.ensures.1 in
-    rw (exit.1, exit.2) (inr (inl (record { lacks = c.in_err-wanted.ensures.usage.1; is = c.in_err-wanted.ensures.usage.0 })))
+    rw (exit.1, exit.2) (inr (inl (record { lacks = c.in_err-wanted.ensures.usage.1; is = ap exit_of_option c.in_err-wanted.ensures.usage.0 })))
 
 pub returns-in_err-now-clause-ends : goal.returns-in_err-now-clause-ends
 returns-in_err-now-clause-ends g c =
