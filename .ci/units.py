@@ -24,8 +24,8 @@ from pathlib import Path
 TOP = Path(__file__).resolve().parent.parent
 CRATE = "spiffe_name"
 PARTS = ["src", "specs", "proofs"]
-# The units above which a whole run fails.
-MOST = 240
+# The units above which a whole run fails. No whole run was measured in units yet, so it is twice what is expected.
+MOST = 480
 # What `rt ci` says at its end where nothing was taken over from an earlier run.
 ALL_DONE = "every proof and must-fail edit was done in this run"
 
