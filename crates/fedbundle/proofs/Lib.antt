@@ -9,3 +9,4 @@ mod DeviceFacts
 mod CommandFacts
 mod MigrateFacts
 mod DistrustFacts
+mod ShownCallFacts

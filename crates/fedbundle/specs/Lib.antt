@@ -23,4 +23,6 @@ pub mod Exits
 pub mod Stream
 pub mod Words
 pub mod OptionTexts
+pub mod SaidValues
+pub mod Shown
 pub mod Inside

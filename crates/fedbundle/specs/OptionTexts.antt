@@ -32,10 +32,16 @@ abbrev pub SaysBundleFormat : Option (List ℕ) → BundleFormat → Type 0
 SaysBundleFormat text Json = (text ≡ None) ⊎ (text ≡ Some (codes "json"))
 SaysBundleFormat text Pem = text ≡ Some (codes "pem")
 
+abbrev pub SaysNoBundleFormat : Option (List ℕ) → Type 0
+SaysNoBundleFormat text = (format : BundleFormat) → SaysBundleFormat text format → ⊥
+
 abbrev pub SaysStatusFormat : Option (List ℕ) → StatusFormat → Type 0
 SaysStatusFormat text status.Text = (text ≡ None) ⊎ (text ≡ Some (codes "text"))
 SaysStatusFormat text status.Json = text ≡ Some (codes "json")
 SaysStatusFormat text status.Prometheus = text ≡ Some (codes "prometheus")
+
+abbrev pub SaysNoStatusFormat : Option (List ℕ) → Type 0
+SaysNoStatusFormat text = (format : StatusFormat) → SaysStatusFormat text format → ⊥
 
 -- a flag that is given has the text `true`
 abbrev pub SaysFlag : Option (List ℕ) → Bool → Type 0

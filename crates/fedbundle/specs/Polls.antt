@@ -7,7 +7,6 @@ use Rattle.poll_log.specs.declared.error.PollError.{PollError}
 use Rattle.poll_log.specs.declared.error.PollError.TheVariants.{Io as SourceFailed}
 use Rattle.poll_view.specs.PollTexts.{IsPollsText}
 use Rattle.poll_view.specs.declared.polls_writer.PollsForm.{PollsForm}
-use Rattle.poll_view.specs.declared.polls_writer.PollsForm.TheVariants.{Lines}
 use Rattle.fedbundle.specs.CommandRun.{CommandRun, DeviceRun, IsReadOut, PrintsText, WritesNothing}
 use Rattle.fedbundle.specs.CommandRun.{CutsOff, HasFailed}
 use Rattle.fedbundle.specs.declared.error.CommandError.{CommandError}
@@ -56,7 +55,3 @@ RunsPollsIn form run m now (Err Io) = CutsPolls form run m now
 RunsPollsIn form run m now (Err NoMemory) = WritesNothing run.sink
 RunsPollsIn form run m now (Err (Poll why)) = RefusesLines run m why
 RunsPollsIn form run m now (Err _) = ⊥
-
--- the same as lines
-abbrev pub RunsPolls : CommandRun → Meaning → ℤ → Result (Unit {0}) CommandError → Type 0
-RunsPolls run m now result = RunsPollsIn Lines run m now result

@@ -1,5 +1,6 @@
 //! The command's functions, each over sources and sinks: the program hands them its standard
-//! streams. Beside them the words of the command line, and the state file.
+//! streams. Beside them the words of the command line, and the state file. [`run_shown`] calls the
+//! functions that show what is held, by what the words say.
 #![tactic(auto)]
 
 mod bundle;
@@ -25,8 +26,10 @@ mod polls;
 mod pull;
 mod report;
 mod run_error;
+mod said_values;
 mod serve;
 mod sessions;
+mod shown;
 mod state;
 mod two_parts;
 mod words;
@@ -46,16 +49,17 @@ pub use merge::{run_merge, take_other};
 pub use migrate::run_migrate;
 pub use observe::{Observed, prepare_observe, run_observe};
 pub use option_texts::{
-    BundleFormat, Manner, OutputForm, explanation_form, given, is_flag_given, manner_of,
-    read_bundle_format, read_explanation_form, read_key, read_moment, read_output_form,
-    read_status_format, wanted,
+    BundleFormat, Manner, OutputForm, given, is_flag_given, manner_of, read_bundle_format,
+    read_explanation_form, read_key, read_moment, read_output_form, read_status_format, wanted,
 };
-pub use polls::{run_polls, run_polls_in};
+pub use polls::run_polls_in;
 pub use pull::run_pull;
 pub use report::{run_report, run_report_into, run_report_with};
 pub use run_error::RunError;
+pub use said_values::{read_domain, read_record, read_verdict};
 pub use serve::{run_serve, write_served};
 pub use sessions::read_sessions;
+pub use shown::{Shown, run_shown};
 pub use state::{
     FileFault, SeenState, StateLock, is_marked, see_state, state_bytes, try_lock_state,
 };

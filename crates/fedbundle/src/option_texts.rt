@@ -4,7 +4,8 @@ ghost use Rattle.hex.specs.Hex.{decode_sized};
 ghost use Rattle.fedbundle.specs.OptionTexts.{SaysBundleFormat, SaysExplanationForm, SaysFlag};
 ghost use Rattle.fedbundle.specs.OptionTexts.{SaysMoment, SaysStatusFormat, option_said};
 ghost use Rattle.fedbundle.specs.OptionTexts.{SaysExplanationIn, SaysNoExplanationIn};
-ghost use Rattle.fedbundle.specs.OptionTexts.{SaysNoOutputForm, SaysOutputForm, said_beside};
+ghost use Rattle.fedbundle.specs.OptionTexts.{SaysNoBundleFormat, SaysNoOutputForm};
+ghost use Rattle.fedbundle.specs.OptionTexts.{SaysNoStatusFormat, SaysOutputForm, said_beside};
 ghost use Rattle.fedbundle.specs.declared.exits.Exit.TheVariants.{BadKey, BadMoment};
 ghost use Rattle.fedbundle.specs.declared.exits.Exit.TheVariants.{BadNumber, Usage};
 
@@ -174,7 +175,8 @@ pub fn read_moment(text: &str) -> Result<Timestamp, Exit>
 /// The text is something else.
 pub fn read_bundle_format(text: Option<&str>) -> Result<BundleFormat, Exit>
     ensures ok { IfOk result (SaysBundleFormat (option_map (λ t. t.now) text.entry)) }
-    ensures refused { IfErr result (λ exit. exit ≡ Usage) }
+    ensures refused { IfErr result (λ exit. (exit ≡ Usage)
+        × SaysNoBundleFormat (option_map (λ t. t.now) text.entry)) }
 {
     match text {
         None => Ok(BundleFormat::Json),
@@ -191,7 +193,8 @@ pub fn read_bundle_format(text: Option<&str>) -> Result<BundleFormat, Exit>
 /// The text is something else.
 pub fn read_status_format(text: Option<&str>) -> Result<StatusFormat, Exit>
     ensures ok { IfOk result (SaysStatusFormat (option_map (λ t. t.now) text.entry)) }
-    ensures refused { IfErr result (λ exit. exit ≡ Usage) }
+    ensures refused { IfErr result (λ exit. (exit ≡ Usage)
+        × SaysNoStatusFormat (option_map (λ t. t.now) text.entry)) }
 {
     match text {
         None => Ok(StatusFormat::Text),
@@ -212,8 +215,8 @@ pub fn is_flag_given(text: Option<&str>) -> bool
     }
 }
 
-/// How `explain` writes a chain, by the text of its flag for short lines.
-pub fn explanation_form(short: Option<&str>) -> ExplanationForm
+// How `explain` writes a chain as lines, by the text of its flag for short ones.
+fn explanation_form(short: Option<&str>) -> ExplanationForm
     ensures { SaysExplanationForm (option_map (λ t. t.now) short.entry) result }
 {
     if is_flag_given(short) {

@@ -4,12 +4,14 @@
 use crate::keeping::{keeping_of, leave, load, lock, room_left, save};
 use crate::limited::Limited;
 use crate::streams::{input, output, output_line};
-use crate::{distrusting, options, reasons};
+use crate::{distrusting, reasons};
 use bundle_doc::MAX_DOCUMENT_BYTES;
-use bundle_view::Verdict;
 use byte_lines::{FromRead, read_up_to};
 use fed_config::Config;
-use fedbundle::{Call, CommandError, Exit, OptionName, read_key, run_observe, take_other, wanted};
+use fedbundle::{
+    Call, CommandError, Exit, OptionName, read_domain, read_verdict, run_observe, take_other,
+    wanted,
+};
 use replica_sync::read_snapshot;
 use std::io::Read;
 use trust_closure::IndexedClosure;
@@ -119,8 +121,8 @@ fn take_bundle(
     call: &Call<'_>,
     bytes: &Result<Vec<u8>, CommandError>,
 ) -> Result<(), Exit> {
-    let domain = options::domain(rt.alloc(), wanted(call, OptionName::Domain)?)?;
-    let verdict = read_verdict(rt, call)?;
+    let domain = read_domain(rt.alloc(), wanted(call, OptionName::Domain)?)?;
+    let verdict = read_verdict(rt.alloc(), call)?;
     let bytes = match bytes {
         Ok(bytes) => bytes.as_slice(),
         Err(error) => return Err(Exit::Refused(*error)),
@@ -134,10 +136,4 @@ fn take_bundle(
         &mut output(rt),
     )?;
     Ok(())
-}
-
-fn read_verdict(rt: &HostRuntime, call: &Call<'_>) -> Result<Verdict, Exit> {
-    let endpoint = options::endpoint(rt.alloc(), wanted(call, OptionName::Endpoint)?)?;
-    let key = read_key(wanted(call, OptionName::Key)?)?;
-    Ok(Verdict { endpoint, key })
 }

@@ -11,7 +11,7 @@ use crate::{
 use fed_config::Config;
 use fedbundle::{
     Call, CommandError, CommandName, Exit, OptionName, OutputForm, WordsError, given, manner_of,
-    read_output_form, read_words, run_canon_bytes, run_report_into, wanted,
+    read_domain, read_output_form, read_words, run_canon_bytes, run_report_into, wanted,
 };
 use spiffe_name::TrustDomain;
 use trust_closure::{Closure, IndexedClosure};
@@ -100,7 +100,7 @@ fn carry_out_under(rt: &HostRuntime, config: &Config, call: &Call<'_>) -> Result
 
 fn canon(rt: &HostRuntime, call: &Call<'_>) -> Result<u8, Exit> {
     let form = read_output_form(given(call, OptionName::FileFormat))?;
-    let domain = options::domain(rt.alloc(), wanted(call, OptionName::Domain)?)?;
+    let domain = read_domain(rt.alloc(), wanted(call, OptionName::Domain)?)?;
     let bytes = changing::read_bundle(rt)?;
     let done = canon_of(rt, &domain, form, bytes.as_slice());
     Ok(reasons::status_of_bundle(rt, call, done, bytes.as_slice()))

@@ -1,14 +1,9 @@
-// What a configuration says, and the report of what a state file holds, printed.
+// What a configuration says, printed.
 use crate::options;
 use crate::streams::output;
-use bundle_json::write_report_json;
-use bundle_view::write_report;
 use config_view::{write_config, write_config_difference, write_config_json};
 use fed_config::Config;
-use fedbundle::{
-    Call, CommandError, Exit, OptionName, OutputForm, RunError, given, read_output_form,
-};
-use trust_closure::IndexedClosure;
+use fedbundle::{Call, CommandError, Exit, OptionName, OutputForm, given, read_output_form};
 
 /// Prints what the configuration says, or where it differs from another one, which is text alone.
 pub(crate) fn config(rt: &HostRuntime, config: &Config, call: &Call<'_>) -> Result<u8, Exit> {
@@ -35,28 +30,4 @@ fn compare(rt: &HostRuntime, config: &Config, with: &str) -> Result<u8, Exit> {
         CommandError::from,
     )?;
     Ok(u8::from(!is_same))
-}
-
-/// Prints the report of what is held.
-pub(crate) fn report_state(
-    rt: &HostRuntime,
-    closure: &IndexedClosure,
-    call: &Call<'_>,
-) -> Result<u8, Exit> {
-    match read_output_form(given(call, OptionName::FileFormat))? {
-        OutputForm::Text => report_text(rt, closure),
-        OutputForm::Json => report_json(rt, closure),
-    }
-}
-
-fn report_json(rt: &HostRuntime, closure: &IndexedClosure) -> Result<u8, Exit> {
-    write_report_json(rt.alloc(), closure, &mut output(rt)).map_err(CommandError::from)?;
-    Ok(0)
-}
-
-fn report_text(rt: &HostRuntime, closure: &IndexedClosure) -> Result<u8, Exit> {
-    match write_report(rt.alloc(), closure, &mut output(rt)) {
-        Ok(()) => Ok(0),
-        Err(error) => Err(Exit::Refused(CommandError::from(RunError::from(error)))),
-    }
 }

@@ -1,15 +1,12 @@
-// What a state file holds, or only one of two, and how the replica stands, printed.
+// What a state file holds, or only one of two, printed.
 use crate::keeping::{leave, load};
-use crate::options;
 use crate::streams::output;
 use fed_config::Config;
 use fedbundle::{
-    Call, CommandError, Exit, OptionName, OutputForm, given, read_output_form, read_status_format,
-    wanted,
+    Call, CommandError, Exit, OptionName, OutputForm, given, read_domain, read_output_form, wanted,
 };
 use replica_view::{write_graph, write_held, write_held_difference, write_held_json};
 use spiffe_name::TrustDomain;
-use status_view::write_status;
 use trust_closure::IndexedClosure;
 
 /// Prints each receipt and each record of distrust, or those of a domain.
@@ -31,7 +28,7 @@ fn list_of(
     form: OutputForm,
     domain: &str,
 ) -> Result<u8, Exit> {
-    let domain = options::domain(rt.alloc(), domain)?;
+    let domain = read_domain(rt.alloc(), domain)?;
     list_on(rt, closure, form, Some(&domain))
 }
 
@@ -62,7 +59,7 @@ pub(crate) fn graph(
 }
 
 fn graph_of(rt: &HostRuntime, closure: &IndexedClosure, domain: &str) -> Result<u8, Exit> {
-    let domain = options::domain(rt.alloc(), domain)?;
+    let domain = read_domain(rt.alloc(), domain)?;
     graph_on(rt, closure, Some(&domain))
 }
 
@@ -92,19 +89,6 @@ pub(crate) fn diff(
 fn compare(rt: &HostRuntime, one: &IndexedClosure, other: &IndexedClosure) -> Result<u8, Exit> {
     match write_held_difference(rt.alloc(), one, other, &mut output(rt)) {
         Ok(is_same) => Ok(u8::from(!is_same)),
-        Err(error) => Err(Exit::Refused(CommandError::from(error))),
-    }
-}
-
-/// Prints how the replica stands. Where there is a warning the exit status is 1.
-pub(crate) fn status(
-    rt: &HostRuntime,
-    closure: &IndexedClosure,
-    call: &Call<'_>,
-) -> Result<u8, Exit> {
-    let format = read_status_format(given(call, OptionName::Format))?;
-    match write_status(rt.alloc(), closure, format, &mut output(rt)) {
-        Ok(is_warned) => Ok(u8::from(is_warned)),
         Err(error) => Err(Exit::Refused(CommandError::from(error))),
     }
 }

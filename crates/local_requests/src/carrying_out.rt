@@ -12,9 +12,11 @@ use crate::asked::Asked;
 use crate::changing_calls::{distrust, merge, observe};
 use crate::reply::Reply;
 use crate::request_fault::RequestFault;
-use crate::shown_calls::{bundle, explain, polls, report, status, stop};
+use crate::shown_calls::{shown, stop};
 use closure_core::Closure;
-use fedbundle::{CommandName, Exit, WordsError, manner_of, read_request};
+use fedbundle::{
+    CommandName, Exit, OptionName, WordsError, given, manner_of, read_bundle_format, read_request,
+};
 use replica_requests::read_request_words;
 use status_view::RunningStatus;
 use std::alloc::{AllocError, Global};
@@ -99,7 +101,7 @@ fn answer_call<C: Closure>(
     asked: Asked<'_>,
 ) -> Result<Reply, RequestFault>
     ensures answers { IfOk result (RepliesToCall
-        (run_of asked (state_run (C.state closure.old) (C.state closure.new)))) }
+        (run_of asked.entry (state_run (C.state closure.old) (C.state closure.new)))) }
     ensures journals { IfOk result (λ reply. JournalsChange reply.journal.items
         (state_run (C.state closure.old) (C.state closure.new))) }
     ensures memory { IfErr result (λ fault. fault ≡ NoMemory) }
@@ -113,10 +115,10 @@ fn answer_call<C: Closure>(
 }
 
 fn carry_out<C: Closure>(alloc: Global, closure: &mut C, asked: Asked<'_>) -> Result<Reply, Exit>
-    ensures answers { IfOk result (Answers asked.call.now.name
-        (run_of asked (state_run (C.state closure.old) (C.state closure.new)))) }
-    ensures ends { IfErr result (Ends asked.call.now.name
-        (run_of asked (state_run (C.state closure.old) (C.state closure.new)))) }
+    ensures answers { IfOk result (Answers asked.entry.call.now.name
+        (run_of asked.entry (state_run (C.state closure.old) (C.state closure.new)))) }
+    ensures ends { IfErr result (Ends asked.entry.call.now.name
+        (run_of asked.entry (state_run (C.state closure.old) (C.state closure.new)))) }
     ensures journals { IfOk result (λ reply. JournalsChange reply.journal.items
         (state_run (C.state closure.old) (C.state closure.new))) }
     ensures unchanged { OnErr result
@@ -124,11 +126,11 @@ fn carry_out<C: Closure>(alloc: Global, closure: &mut C, asked: Asked<'_>) -> Re
 {
     let most_bytes = manner_of(asked.call)?.most_bytes;
     match asked.call.name {
-        CommandName::Report => report(alloc, closure, asked),
-        CommandName::Bundle => bundle(alloc, closure, asked),
-        CommandName::Explain => explain(alloc, closure, asked),
-        CommandName::Polls => polls(alloc, closure, asked),
-        CommandName::Status => status(alloc, closure, asked),
+        CommandName::Bundle => {
+            // Here a bad format is told before a bad name of the domain.
+            read_bundle_format(given(asked.call, OptionName::Format))?;
+            shown(alloc, closure, asked)
+        }
         CommandName::Observe => observe(alloc, closure, asked),
         CommandName::Merge => {
             let room = most_bytes.saturating_sub(asked.running.state_bytes());
@@ -136,6 +138,6 @@ fn carry_out<C: Closure>(alloc: Global, closure: &mut C, asked: Asked<'_>) -> Re
         }
         CommandName::Distrust => distrust(alloc, closure, asked),
         CommandName::Stop => stop(alloc, closure, asked),
-        _ => Err(Exit::Usage),
+        _ => shown(alloc, closure, asked),
     }
 }
