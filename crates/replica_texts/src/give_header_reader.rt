@@ -21,39 +21,24 @@ use std::alloc::{AllocError, Global};
 
 /// What a session wants of an answer: that it is of this configuration, and about this bucket.
 #[derive(Clone, Copy)]
-pub struct Expected<'a> {
-    /// The configuration.
-    pub config: &'a Config,
-    /// The bucket.
-    pub bucket: u8,
+pub(crate) struct Expected<'a> {
+    pub(crate) config: &'a Config,
+    pub(crate) bucket: u8,
 }
 
 /// What the first line of an answer says, of format 2 with 256 buckets.
 #[derive(Clone, Copy, Debug)]
-pub struct Head {
-    /// About which bucket it is.
-    pub bucket: u8,
-    /// The digest of its configuration.
-    pub config: ConfigId,
+pub(crate) struct Head {
+    pub(crate) bucket: u8,
+    pub(crate) config: ConfigId,
     /// The number of receipts.
-    pub count: u64,
+    pub(crate) count: u64,
     /// The number of records.
-    pub distrusts: u64,
+    pub(crate) distrusts: u64,
 }
 
 /// Reads the next line as the first of an answer. The line is used up.
-///
-/// # Errors
-/// Of these the first that holds:
-/// - [`SyncError::Truncated`]: the source ends before the line does,
-/// - [`SyncError::BadHeader`]: it is no answer's first, of whatever format and number of buckets,
-///   or is about another bucket than is wanted, or has more than 8,388,608 bytes,
-/// - [`SyncError::ConfigDiffers`]: it is of another configuration than is wanted,
-/// - [`SyncError::VersionDiffers`]: it has another format than 2, or another number of buckets than
-///   256,
-/// - [`SyncError::Io`]: the source failed,
-/// - [`SyncError::NoMemory`]: memory ran out.
-pub fn next_head<R: Source>(
+pub(crate) fn next_head<R: Source>(
     alloc: Global,
     expected: Option<Expected<'_>>,
     lines: &mut LineBuf,
