@@ -18,7 +18,7 @@ use std::alloc::Global;
 /// from a configured document, each vouched for by the document before it (SPIFFE Federation,
 /// section 5.2, profile `https_spiffe`). No chain of held receipts that leads to it has fewer; of
 /// several shortest ones it is any. It is empty for a configured document, and `None` for one that
-/// is not accepted. One that is not empty is a chain to [`check_chain`](receipt_core::check_chain)
+/// is not accepted. One that is not empty is a chain to `check_chain` of the crate `chain_check`
 /// with the closure's configuration and records of distrust.
 ///
 /// # Memory and work

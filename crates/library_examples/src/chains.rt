@@ -1,9 +1,10 @@
 //! To show somebody else why a document is accepted.
 use crate::example_error::ExampleError;
 use bundle_view::{current, explain};
+use chain_check::check_chain;
 use closure_core::Closure;
 use fed_config::Config;
-use receipt_core::{Receipt, check_chain};
+use receipt_core::Receipt;
 use std::alloc::Global;
 
 /// For the current document of each domain, the chain of receipts that leads to it.

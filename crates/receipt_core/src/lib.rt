@@ -2,13 +2,11 @@
 //! distrusts.
 //!
 //! A `Receipt` and a record of distrust (`Distrust`) have one line of text each, which is read
-//! exactly. A document offers triples, a receipt needs one, and `check_chain` follows them from the
+//! exactly. A document offers triples, a receipt needs one, and `chain_check` follows them from the
 //! configuration to a document, for somebody who keeps no receipts.
 #![tactic(auto)]
 
-mod chain;
 mod distrust;
-mod given_records;
 mod known_parts;
 pub mod laws;
 mod line;
@@ -25,7 +23,6 @@ pub use byte_lines::{
     DeviceError, Fault, FromRead, FromWrite, FuseSink, FuseSource, Line, LineBuf, MemSink,
     MemSource, NextLineError, ReadUpToError, Sink, Source, read_up_to, write_all,
 };
-pub use chain::check_chain;
 pub use distrust::Distrust;
 pub use known_parts::KnownParts;
 pub use line_error::LineError;

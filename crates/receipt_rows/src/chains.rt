@@ -1,7 +1,8 @@
 //! Chains of receipts, under records of distrust or none.
 use crate::words::tell;
+use chain_check::check_chain;
 use fed_config::Config;
-use receipt_core::{Distrust, LineError, Receipt, check_chain};
+use receipt_core::{Distrust, LineError, Receipt};
 use row_script::Script;
 use std::alloc::{AllocError, Global};
 

@@ -5,12 +5,9 @@ ghost use Rattle.receipt_core.specs.Receipt.{need_of, offers_of, pair_of};
 ghost use Rattle.receipt_core.specs.Acceptance.{IsFitting, Vouches};
 ghost use Rattle.receipt_core.specs.Chain.{HasVoucher, IsChain, IsFirst, LeadsOn};
 
-use crate::distrust::Distrust;
-use crate::given_records::{GivenRecords, is_same_domain};
-use crate::line_reader::is_same;
-use crate::receipt::Receipt;
-use crate::triple::Triple;
+use crate::given_records::{GivenRecords, is_same, is_same_domain};
 use fed_config::{Config, Seed};
+use receipt_core::{Distrust, Receipt, Triple};
 use spiffe_name::SpiffeId;
 use std::cmp::Ordering;
 

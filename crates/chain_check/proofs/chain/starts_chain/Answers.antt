@@ -1,6 +1,6 @@
 use Rattle.std.proofs.Common.{refl, false}
 use Rattle.receipt_core.proofs.ChainFacts.{chain_told, no_first, told_no, not_told}
-use Rattle.receipt_core.proofs.chain.starts_chain.Goals as goal
+use Rattle.chain_check.proofs.chain.starts_chain.Goals as goal
 
 pub returns-then-is_first : goal.returns-then-is_first
 returns-then-is_first c =

@@ -1,6 +1,6 @@
 use Rattle.std.proofs.Common.{refl, false}
 use Rattle.receipt_core.proofs.ChainFacts.{seeded_told, distrusted_seeded, told_no, not_told}
-use Rattle.receipt_core.proofs.chain.is_seeded.Goals as goal
+use Rattle.chain_check.proofs.chain.is_seeded.Goals as goal
 
 pub returns-then-has_key_of : goal.returns-then-has_key_of
 returns-then-has_key_of c =

@@ -1,7 +1,7 @@
 use Rattle.std.proofs.Common.{refl, false}
 use Rattle.receipt_core.specs.Receipt.{pair_of}
 use Rattle.receipt_core.proofs.ChainFacts.{next_told, distrusted_told, told_no, not_told}
-use Rattle.receipt_core.proofs.chain.is_vouched_for.Goals as goal
+use Rattle.chain_check.proofs.chain.is_vouched_for.Goals as goal
 
 pub returns-then-has_key_of : goal.returns-then-has_key_of
 returns-then-has_key_of c =

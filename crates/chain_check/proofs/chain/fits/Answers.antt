@@ -2,7 +2,7 @@ use Rattle.std.proofs.Common.{◌≡◌, ◌↔◌, ◌∙◌, sym, refl, subst,
 use Rattle.spiffe_name.specs.SpiffeId.{Id}
 use Rattle.receipt_core.proofs.ChainFacts.{told_no}
 use Rattle.receipt_core.proofs.SearchFacts.{fits_told}
-use Rattle.receipt_core.proofs.chain.fits.Goals as goal
+use Rattle.chain_check.proofs.chain.fits.Goals as goal
 
 pub returns-in-Some : goal.returns-in-Some
 returns-in-Some c =

@@ -4,7 +4,7 @@ use Rattle.receipt_core.specs.Receipt.{triple_cmp}
 use Rattle.receipt_core.specs.Order.{triple_total}
 use Rattle.receipt_core.proofs.OrderFacts.{tells_same}
 use Rattle.receipt_core.proofs.LineFacts.{one_triple}
-use Rattle.receipt_core.proofs.chain.is_same_triple.Goals as goal
+use Rattle.chain_check.proofs.chain.is_same_triple.Goals as goal
 
 pub returns : goal.returns
 returns c =

@@ -7,7 +7,7 @@ use Rattle.receipt_core.specs.Order.{distrust_total}
 use Rattle.receipt_core.specs.declared.distrust.Distrust.{Distrust}
 use Rattle.receipt_core.proofs.LineFacts.{one_distrust}
 use Rattle.receipt_core.proofs.SearchFacts.{found_exactly}
-use Rattle.receipt_core.proofs.given_records.is_found.Goals as goal
+use Rattle.chain_check.proofs.given_records.is_found.Goals as goal
 
 pub returns : goal.returns
 returns c =

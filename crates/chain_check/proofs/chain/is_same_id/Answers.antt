@@ -1,6 +1,6 @@
 use Rattle.std.proofs.Common.{◌∙◌, sym, ap}
 use Rattle.spiffe_name.proofs.IdFacts.{one_value}
-use Rattle.receipt_core.proofs.chain.is_same_id.Goals as goal
+use Rattle.chain_check.proofs.chain.is_same_id.Goals as goal
 
 pub returns : goal.returns
 returns c =

@@ -4,9 +4,7 @@ ghost use Rattle.std.specs.List.Sorted.{IsSorted};
 ghost use Rattle.receipt_core.specs.Receipt.{distrust_cmp};
 ghost use Rattle.receipt_core.specs.Acceptance.{distrust_of};
 
-use crate::distrust::Distrust;
-use crate::line_reader::is_same;
-use crate::receipt::Receipt;
+use receipt_core::{Distrust, Receipt};
 use spiffe_name::TrustDomain;
 use std::cmp::Ordering;
 use std::marker::Model;
@@ -93,4 +91,10 @@ pub(crate) fn is_same_domain(one: &TrustDomain, other: &TrustDomain) -> bool
     ensures { IsTrue result ↔ (one.now ≡ other.now) }
 {
     is_same(one.as_str().as_bytes(), other.as_str().as_bytes())
+}
+
+pub(crate) fn is_same(text: &[u8], bytes: &[u8]) -> bool
+    ensures { IsTrue result ↔ (text.now ≡ bytes.now) }
+{
+    text == bytes
 }
