@@ -1,7 +1,7 @@
 """Copies of this machine, or of another Debian, whose changes are thrown away: an overlay over a root, and a change of root.
 
-It needs root and Linux with overlayfs. All mounts and processes are of the name spaces that `in_own_mounts` makes, and are
-gone when the test ends. Copies have one network, which is not this machine's, and devices of their own.
+It needs root and Linux with overlayfs. All mounts and processes are of the name spaces that `in_own_mounts` or the script
+makes, and are gone when the test ends. Copies have devices of their own, and one network, that of the script.
 
 `Booted` also runs systemd in a copy, in name spaces and a control group of its own. It needs cgroup2. What sysinit.target
 would start is left out there, since it sets values of the kernel, of which there is one."""
@@ -66,8 +66,14 @@ class Machine:
         """The words before a command that runs there."""
         return ["chroot", self.root]
 
-    def words(self, command):
-        return [*self.enter(), "bash", "-c", f"cd {shlex.quote(str(TOP))} 2>/dev/null || cd /; {command}"]
+    def path(self, name):
+        """Where a file of it is to be found from outside."""
+        return self.root / str(name).lstrip("/")
+
+    def words(self, command, folder=None):
+        """The words that run a line of a shell there: in this folder, or else in the repository, or in / without one."""
+        place = f"cd {shlex.quote(str(folder))} &&" if folder else f"cd {shlex.quote(str(TOP))} 2>/dev/null || cd /;"
+        return [*self.enter(), "bash", "-c", f"{place} {command}"]
 
     def attempt(self, command, **more):
         """Runs a line there, with no limit on its status."""
