@@ -1,11 +1,13 @@
 #!/usr/bin/env python3
-"""Prints what `fedbundle status` prints for a configuration and a state file, in one of its three formats.
+"""Prints what `fedbundle status` prints for a configuration and a state file, in one of its three formats; or with
+`--at`, where the bytes of the two files are given, and for each peer `ADDRESS,ENDED,CODE,RECEIPTS`, a hyphen for none.
 
 It is written from the rules alone, with Python's own json and hashlib and with canon.py and report.py, and shares
 nothing with the program. It takes files that are well formed, and refuses nothing. A state file that is not there holds
 nothing.
 
-usage: status_view.py CONFIG STATE [text|json|prometheus]     the exit status is 1 where there is a warning
+usage: status_view.py CONFIG STATE [text|json|prometheus [SNAPSHOT JOURNAL [PEER..]]]
+                                            the exit status is 1 where there is a warning
 """
 import json
 import os
@@ -108,9 +110,9 @@ def text_lines(stands):
     yield from warnings(stands)
 
 
-def head(name, what):
+def head(name, what, kind="gauge"):
     yield f"# HELP {name} {what}"
-    yield f"# TYPE {name} gauge"
+    yield f"# TYPE {name} {kind}"
 
 
 def gauge_values(stands):
@@ -152,14 +154,54 @@ def metric_lines(stands):
         yield from samples(stands, name, place)
 
 
-def lines_in(stands, shape):
+def running_of(snapshot, journal, peers):
+    """What a running replica says of itself, as the members of its JSON object."""
+    told = []
+    for peer in peers:
+        address, ended, code, receipts = peer.split(",")
+        told.append({"peer": address, "ended_well": None if ended == "-" else int(ended),
+                     "fault": None if code == "-" else code, "receipts": int(receipts)})
+    return {"snapshot_bytes": int(snapshot), "journal_bytes": int(journal), "peers": told}
+
+
+def running_lines(running):
+    yield f"snapshot {running['snapshot_bytes']} bytes"
+    yield f"journal {running['journal_bytes']} bytes"
+    for peer in running["peers"]:
+        ended, code = or_none(peer["ended_well"]), or_none(peer["fault"])
+        yield f"peer {peer['peer']} ended-well {ended} fault {code} receipts {peer['receipts']}"
+
+
+def running_metrics(running):
+    for part in ("snapshot", "journal"):
+        yield from head(f"fedbundle_{part}_bytes", f"Bytes of the {part}.")
+        yield f"fedbundle_{part}_bytes {running[part + '_bytes']}"
+    peers = [(escaped(peer["peer"]), peer) for peer in running["peers"]]
+    name = "fedbundle_peer_receipts_total"
+    yield from head(name, "Receipts that came from a peer and were not held.", "counter")
+    yield from (f'{name}{{peer="{address}"}} {peer["receipts"]}' for address, peer in peers)
+    name = "fedbundle_peer_ended_well_timestamp_seconds"
+    yield from head(name, "When the last session with a peer that ended well did so.")
+    for address, peer in peers:
+        if peer["ended_well"] is not None:
+            yield f'{name}{{peer="{address}"}} {peer["ended_well"]}'
+    name = "fedbundle_peer_fault_info"
+    yield from head(name, "The fault of the last session with a peer that had one.")
+    for address, peer in peers:
+        if peer["fault"] is not None:
+            yield f'{name}{{peer="{address}",fault="{peer["fault"]}"}} 1'
+
+
+def lines_in(stands, shape, running=None):
     if shape == "json":
-        return [json.dumps(stands, separators=(",", ":"))]
-    return list(metric_lines(stands) if shape == "prometheus" else text_lines(stands))
+        return [json.dumps({**stands, **(running or {})}, separators=(",", ":"))]
+    if shape == "prometheus":
+        return [*metric_lines(stands), *(running_metrics(running) if running else [])]
+    return [*text_lines(stands), *(running_lines(running) if running else [])]
 
 
 if __name__ == "__main__":
-    configuration_file, state, *shapes = sys.argv[1:]
+    configuration_file, state, *rest = sys.argv[1:]
     with open(configuration_file, encoding="utf-8") as file:
         configuration = json.load(file)
     held_lines = []
@@ -167,6 +209,7 @@ if __name__ == "__main__":
         with open(state, encoding="utf-8") as file:
             held_lines = file.read().splitlines()[1:-1]
     standing = status(configuration, held_lines)
-    for line in lines_in(standing, shapes[0] if shapes else "text"):
+    own = running_of(rest[1], rest[2], rest[3:]) if len(rest) > 2 else None
+    for line in lines_in(standing, rest[0] if rest else "text", own):
         print(line)
     sys.exit(int(standing["warning"]))

@@ -12,7 +12,8 @@ use crate::stop::Stop;
 use crate::trials::Trials;
 use byte_lines::MemSink;
 use closure_core::Closure;
-use trust_closure::{IndexedClosure, PlainClosure};
+use plain_closure::PlainClosure;
+use trust_closure::IndexedClosure;
 
 /// A call that was made, and made again: what each answered, and the snapshots before, between and
 /// after.

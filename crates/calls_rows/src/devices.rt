@@ -9,7 +9,8 @@ use crate::stop::Stop;
 use crate::trials::Trials;
 use byte_lines::{FromWrite, FuseSink, FuseSource, MemSink, Source};
 use closure_core::Closure;
-use trust_closure::{IndexedClosure, PlainClosure};
+use plain_closure::PlainClosure;
+use trust_closure::IndexedClosure;
 
 /// A longer text has too many places.
 const MAX_TEXT: usize = 100_000;

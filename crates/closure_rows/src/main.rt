@@ -51,9 +51,10 @@ mod words;
 
 use answering::Counting;
 use closure_core::Closure;
+use plain_closure::PlainClosure;
 use replicas::World;
 use std::io;
-use trust_closure::{IndexedClosure, PlainClosure};
+use trust_closure::IndexedClosure;
 
 fn main(rt: HostRuntime) -> io::Result<()> {
     run_over::<IndexedClosure, PlainClosure>(&rt)

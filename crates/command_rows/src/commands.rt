@@ -37,6 +37,8 @@ pub(crate) struct Case<'a> {
     pub(crate) input: &'a [u8],
     /// Whether `report` is to choose the closure itself.
     pub(crate) is_report_own: bool,
+    /// Whether the words are sent to a running replica alone.
+    pub(crate) is_request: bool,
 }
 
 impl Case<'_> {

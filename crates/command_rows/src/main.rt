@@ -14,7 +14,7 @@ mod settings;
 mod shown_forms;
 mod words;
 
-use crate::settings::{Trial, answer_run, answer_trial};
+use crate::settings::{Trial, answer_asked, answer_run, answer_trial};
 use row_script::{Row, Rows, Script, run};
 use std::alloc::{AllocError, Global};
 use std::io;
@@ -37,6 +37,7 @@ impl Rows for CommandRows {
             // These are for the built program alone.
             "built" => Ok(()),
             "run" | "session" => answer_run(alloc, script, row, answer),
+            "asked" => answer_asked(alloc, script, row, answer),
             "full_after" => answer_trial(alloc, script, row, Trial::Full, answer),
             "broken_after" => answer_trial(alloc, script, row, Trial::Broken, answer),
             "untold_after" => answer_trial(alloc, script, row, Trial::Untold, answer),

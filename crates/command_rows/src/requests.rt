@@ -7,10 +7,11 @@ use byte_lines::{FromRead, MemSink, write_all};
 use closure_core::Closure;
 use fed_config::Config;
 use fedbundle::{Call, CommandError, CommandName, OptionName, given, read_words};
-use local_requests::{Reply, answer_request, request_words};
-use replica_requests::write_request_words;
-use replica_service::{begin_journal, read_journal};
+use local_answers::{Reply, answer_request, request_words};
+use replica_journal::{begin_journal, read_journal};
 use replica_sync::{read_snapshot, write_snapshot};
+use request_lines::write_request_words;
+use status_view::RunningStatus;
 use std::alloc::{AllocError, Global};
 
 /// A running replica: its configuration, and the text of its state file, if there is one.
@@ -41,24 +42,22 @@ fn ask_call<C: Closure>(
 ) -> Result<bool, CommandError> {
     let config = given(call, OptionName::Config).and_then(|name| case.script.text(name));
     match (config, given(call, OptionName::State)) {
-        (Some(config), Some(state)) if is_for_replicas(call) => {
+        (Some(config), Some(state)) if case.is_request || is_same_of_replicas(call) => {
             ask_under::<C>(case, call, config, case.script.text(state), devices)
         }
         _ => Ok(false),
     }
 }
 
-// Of three commands a replica prints lines alone, and refuses words that say a format.
-fn is_for_replicas(call: &Call<'_>) -> bool {
+// Whether a replica replies what the command prints. Of three commands it prints lines alone, and
+// refuses words that say a format. Of `status` it says more.
+fn is_same_of_replicas(call: &Call<'_>) -> bool {
     match call.name {
         CommandName::Report | CommandName::Explain | CommandName::Polls => {
             given(call, OptionName::FileFormat).is_none()
         }
-        CommandName::Status
-        | CommandName::Bundle
-        | CommandName::Observe
-        | CommandName::Merge
-        | CommandName::Distrust => true,
+        CommandName::Bundle | CommandName::Observe | CommandName::Merge | CommandName::Distrust =>
+            true,
         _ => false,
     }
 }
@@ -102,10 +101,7 @@ fn ask_replica<C: Closure>(
 ) -> Result<(), CommandError> {
     let before = snapshot(running.alloc, closure)?;
     let line = line_of(running.alloc, call)?;
-    let bytes = running.file.map_or(0, |text| text.len()) as u64;
-    let Ok(reply) = answer_request(running.alloc, closure, bytes, line.as_bytes(), input) else {
-        return Err(CommandError::NoMemory);
-    };
+    let reply = reply_of(running, closure, line.as_str(), input)?;
     show_reply(&reply, devices)?;
     let read_back: C = with_journal(running, &reply)?;
     write_snapshot(running.alloc, &read_back, &mut devices.state)?;
@@ -121,6 +117,23 @@ fn ask_replica<C: Closure>(
         write_all(&mut devices.errors, b"the journal says something else\n")?;
     }
     Ok(())
+}
+
+fn reply_of<C: Closure>(
+    running: Running<'_>,
+    closure: &mut C,
+    line: &str,
+    input: &[u8],
+) -> Result<Reply, CommandError> {
+    let status = RunningStatus {
+        snapshot_bytes: running.file.map_or(0, |text| text.len()) as u64,
+        journal_bytes: 0,
+        peers: &[],
+    };
+    match answer_request(running.alloc, closure, &status, line.as_bytes(), input) {
+        Ok(reply) => Ok(reply),
+        Err(_) => Err(CommandError::NoMemory),
+    }
 }
 
 fn changes(call: &Call<'_>) -> bool {

@@ -4,9 +4,10 @@ use crate::devices::{AMPLE_ROOM, Devices, Limits};
 use crate::requests::ask;
 use crate::words::head_words;
 use closure_core::Closure;
+use plain_closure::PlainClosure;
 use row_script::{Answers, Row, Script};
 use std::alloc::{AllocError, Global};
-use trust_closure::{IndexedClosure, PlainClosure};
+use trust_closure::IndexedClosure;
 
 /// Which device fails.
 #[derive(Clone, Copy)]
@@ -42,6 +43,7 @@ pub(crate) fn answer_run(
         words: words.as_str(),
         input: row.text.as_slice(),
         is_report_own: false,
+        is_request: false,
     };
     answer_pieces(&case, pieces, answer)
 }
@@ -56,6 +58,28 @@ fn answer_pieces(case: &Case<'_>, pieces: &[usize], answer: &mut String) -> Resu
     }
     add_request::<IndexedClosure>(case, "indexed, as a request", &mut answers)?;
     add_request::<PlainClosure>(case, "plain, as a request", &mut answers)?;
+    answers.write(answer)
+}
+
+/// Sends a row's words to a running replica alone.
+pub(crate) fn answer_asked(
+    alloc: Global,
+    script: &Script,
+    row: &Row<'_>,
+    answer: &mut String,
+) -> Result<(), AllocError> {
+    let words = head_words(alloc, script, row.words)?;
+    let case = Case {
+        alloc,
+        script,
+        words: words.as_str(),
+        input: row.text.as_slice(),
+        is_report_own: false,
+        is_request: true,
+    };
+    let mut answers = Answers::new(alloc);
+    add_request::<IndexedClosure>(&case, "indexed", &mut answers)?;
+    add_request::<PlainClosure>(&case, "plain", &mut answers)?;
     answers.write(answer)
 }
 
@@ -104,6 +128,7 @@ pub(crate) fn answer_trial(
         words: words.as_str(),
         input: row.text.as_slice(),
         is_report_own: false,
+        is_request: false,
     };
     answer_failing(&case, limits_of(trial, number), answer)
 }

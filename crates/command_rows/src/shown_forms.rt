@@ -1,7 +1,6 @@
 //! The commands that write what they show in one of two forms.
 use crate::commands::{Case, tell};
 use crate::devices::Devices;
-use bundle_json::write_report_json;
 use bundle_view::write_report;
 use closure_core::Closure;
 use config_view::{write_config, write_config_json};
@@ -11,6 +10,7 @@ use fedbundle::{
     run_explain, run_polls_in,
 };
 use jiff::Timestamp;
+use json_reports::write_report_json;
 use poll_log::read_seconds;
 use poll_view::PollsForm;
 use replica_view::{write_graph, write_held, write_held_json};

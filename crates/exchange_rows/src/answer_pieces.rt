@@ -1,8 +1,7 @@
 //! A pull whose answers come in pieces, taken by the machine of a replica that stays.
 use byte_lines::{Sink, Source, write_all};
 use closure_core::Closure;
-use replica_service::Pulling;
-use replica_sync::{PullFault, SyncError};
+use replica_sync::{PullFault, Pulling, SyncError};
 use std::alloc::Global;
 
 /// How many bytes one read asks for.

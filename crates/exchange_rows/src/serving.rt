@@ -1,8 +1,7 @@
 //! A session whose haves come in pieces, answered by the machine of a replica that stays.
 use byte_lines::{Sink, Source, write_all};
 use closure_core::Closure;
-use replica_service::Serving;
-use replica_sync::SyncError;
+use replica_sync::{Serving, SyncError};
 use std::alloc::Global;
 
 /// How many bytes one read asks for.

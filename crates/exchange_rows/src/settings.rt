@@ -6,9 +6,10 @@ use crate::places::{Device, tell_places};
 use crate::row_call::RowCall;
 use crate::stop::Stop;
 use closure_core::Closure;
+use plain_closure::PlainClosure;
 use row_script::Answers;
 use std::alloc::AllocError;
-use trust_closure::{IndexedClosure, PlainClosure};
+use trust_closure::IndexedClosure;
 
 /// Tells what comes of the row.
 pub(crate) fn tell(row: RowCall<'_>, answer: &mut String) -> Result<(), Stop> {

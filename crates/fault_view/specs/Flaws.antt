@@ -8,38 +8,58 @@ use Rattle.url.specs.Parts.{Parts}
 use Rattle.url.specs.Parser.{parse_url}
 use Rattle.spiffe_name.specs.TrustDomain.{RefusesDomain}
 use Rattle.spiffe_name.specs.SpiffeId.{RefusesId}
+use Rattle.spiffe_name.specs.declared.error.NameError.TheVariants as name_error
 use Rattle.jwk_set.specs.Element.{HasText, IsElement}
 use Rattle.jwk_set.specs.declared.authority.Authority.{Authority}
 use Rattle.bundle_doc.specs.Refusal.{RefusesTree}
+use Rattle.bundle_doc.specs.declared.error.DocError.TheVariants as doc_error
 use Rattle.fed_config.specs.Limits.{url_limit}
 use Rattle.fed_config.specs.declared.error.ConfigError.{ConfigError}
 use Rattle.fed_config.specs.declared.error.ConfigError.TheVariants.{Shape, BadName, BadUrl}
 use Rattle.fed_config.specs.declared.error.ConfigError.TheVariants.{BadProfile, DoubleRelationship}
 use Rattle.fed_config.specs.declared.error.ConfigError.TheVariants.{BadSeed}
-use Rattle.fault_view.specs.declared.place.Place.{Place}
-use Rattle.fault_view.specs.declared.place.Place.TheVariants.{Whole, Relationship, Seed}
+use Rattle.fault_view.specs.declared.place.FlawPlace.{FlawPlace}
+use Rattle.fault_view.specs.declared.place.FlawPlace.TheVariants.{Whole, Relationship, Seed}
 use Rattle.fault_view.specs.declared.url_flaws.UrlFlaw.{UrlFlaw}
 use Rattle.fault_view.specs.declared.url_flaws.UrlFlaw.TheVariants.{TooLong, NoUrl, OtherScheme}
 use Rattle.fault_view.specs.declared.url_flaws.UrlFlaw.TheVariants.{HasUser, HasPassword}
 use Rattle.fault_view.specs.declared.flaws.Flaw.{Flaw}
 use Rattle.fault_view.specs.declared.flaws.Flaw.TheVariants as flaw
-use Rattle.fault_view.specs.declared.flaws.Found.{Found}
+use Rattle.fault_view.specs.declared.flaws.FoundFlaw.{FoundFlaw}
 
 -- ---- places
 
 -- what stands at the place, where there is something
-abbrev pub part_of : Data → Place → Option Data
+abbrev pub part_of : Data → FlawPlace → Option Data
 part_of tree Whole = Some tree
 part_of tree (Relationship number) = option_and_then (at number) (get (codes "relationships") tree)
 part_of tree (Seed number) = option_and_then (at number) (get (codes "seeds") tree)
 
 -- the members that what stands there has, and no others
-abbrev pub is_member_at : Place → List ℕ → Bool
+abbrev pub is_member_at : FlawPlace → List ℕ → Bool
 is_member_at Whole name = bytes_eq name (codes "relationships") || bytes_eq name (codes "seeds")
 is_member_at (Relationship number) name = bytes_eq name (codes "domain")
     || bytes_eq name (codes "endpoint") || bytes_eq name (codes "profile")
     || bytes_eq name (codes "url")
 is_member_at (Seed number) name = bytes_eq name (codes "bundle") || bytes_eq name (codes "domain")
+
+-- Of these members the first are texts, and the second are arrays. The `bundle` of a seed is
+-- neither: it is read as a bundle.
+abbrev pub is_text_at : FlawPlace → List ℕ → Bool
+is_text_at Whole name = false
+is_text_at (Relationship number) name = is_member_at (Relationship number) name
+is_text_at (Seed number) name = bytes_eq name (codes "domain")
+
+abbrev pub is_array_at : FlawPlace → List ℕ → Bool
+is_array_at Whole name = is_member_at Whole name
+is_array_at (Relationship number) name = false
+is_array_at (Seed number) name = false
+
+-- the place is a relationship after the one with this number
+abbrev pub IsAfter : ℕ → FlawPlace → Type 0
+IsAfter earlier Whole = ⊥
+IsAfter earlier (Relationship number) = earlier < number
+IsAfter earlier (Seed number) = ⊥
 
 -- ---- flaws
 
@@ -54,36 +74,37 @@ IsUrlFlaw text HasUser = (parts : Parts) × (parse_url None text ≡ Ok parts)
 IsUrlFlaw text HasPassword = (parts : Parts) × (parse_url None text ≡ Ok parts)
     × (parts.password ≢ [])
 
--- the relationship before this one has the same text as its domain
+-- the relationship with this number has this text as its domain
 abbrev pub HasDomainOf : Data → ℕ → List ℕ → Type 0
 HasDomainOf tree earlier text = (other : Data)
     × (part_of tree (Relationship earlier) ≡ Some other) × HasText other (codes "domain") text
 
 -- What stands at the place has the flaw. The configuration is there for what is compared with
 -- another of its parts.
-abbrev pub HasFlaw : Data → Place → Data → Flaw → Type 0
+abbrev pub HasFlaw : Data → FlawPlace → Data → Flaw → Type 0
 HasFlaw tree place value flaw.NotObject = as_object value ≡ None
 HasFlaw tree place value (flaw.UnknownMember name) = IsSome (get name.now value)
     × (is_member_at place name.now ≡ false)
 HasFlaw tree place value (flaw.MissingMember name) = (get name.now value ≡ None)
     × IsTrue (is_member_at place name.now)
 HasFlaw tree place value (flaw.NotText name) =
-    ((text : List ℕ) → HasText value name.now text → ⊥) × IsTrue (is_member_at place name.now)
+    ((text : List ℕ) → HasText value name.now text → ⊥) × IsTrue (is_text_at place name.now)
 HasFlaw tree place value (flaw.NotArray name) =
     ((items : Items) → get name.now value ≡ Some (array items) → ⊥)
-    × IsTrue (is_member_at place name.now)
+    × IsTrue (is_array_at place name.now)
 HasFlaw tree place value (flaw.BadDomain text why) = HasText value (codes "domain") text.now
-    × RefusesDomain text.now why
+    × RefusesDomain text.now why × (why ≢ name_error.NoMemory)
 HasFlaw tree place value (flaw.BadEndpoint text why) = HasText value (codes "endpoint") text.now
-    × RefusesId text.now why
+    × RefusesId text.now why × (why ≢ name_error.NoMemory)
 HasFlaw tree place value (flaw.BadUrl why) = (text : List ℕ) × HasText value (codes "url") text
     × IsUrlFlaw text why
 HasFlaw tree place value (flaw.OtherProfile text) = HasText value (codes "profile") text.now
     × (text.now ≢ codes "https_spiffe")
 HasFlaw tree place value (flaw.SameDomain text earlier) = HasText value (codes "domain") text.now
-    × HasDomainOf tree earlier text.now
+    × IsAfter earlier place × HasDomainOf tree earlier text.now
 HasFlaw tree place value (flaw.BadBundle why) = (bundle : Data)
     × (get (codes "bundle") value ≡ Some bundle) × RefusesTree bundle why
+    × (why ≢ doc_error.NoMemory)
 
 -- the cause with which a configuration that has the flaw is refused, if no other cause goes before
 abbrev pub cause_of_flaw : Flaw → ConfigError
@@ -101,12 +122,12 @@ cause_of_flaw (flaw.BadBundle why) = BadSeed
 
 -- what stands at the place has the flaw, whatever else the configuration has, and the flaw is of
 -- this cause
-abbrev pub IsFlawOf : ConfigError → Place → Data → Flaw → Type 0
+abbrev pub IsFlawOf : ConfigError → FlawPlace → Data → Flaw → Type 0
 IsFlawOf cause place value f = ((tree : Data) → HasFlaw tree place value f)
     × (cause_of_flaw f ≡ cause)
 
 -- what is named really is at fault there, and is of this cause
-pub record IsFoundFlaw (tree : Data) (cause : ConfigError) (found : Found) : Type 0 where
+pub record IsFoundFlaw (tree : Data) (cause : ConfigError) (found : FoundFlaw) : Type 0 where
   pub part : Data
   pub stands : part_of tree found.place ≡ Some part
   pub flaw : HasFlaw tree found.place part found.flaw

@@ -3,24 +3,25 @@ ghost use Rattle.std.specs.Prelude.{◌≡◌, IfSome};
 ghost use Rattle.serde_json.specs.View.{view};
 ghost use Rattle.fault_view.specs.Flaws.{HasFlaw, IsFoundFlaw, cause_of_flaw};
 
-use crate::flaws::{Flaw, Found};
+use crate::flaws::{Flaw, FoundFlaw};
 use crate::part_flaws::{bad_url, bundle_flaw, double_flaw, name_flaw, profile_flaw};
-use crate::place::Place;
+use crate::place::FlawPlace;
 use crate::shape_flaws::shape_flaw;
 use fed_config::ConfigError;
 use serde_json::Value;
 use std::alloc::Global;
 
 /// A part of the configuration that is at fault with this cause, which `Config::read` returned for
-/// it: the first of the whole, the relationships and the seeds. `None` where none is found, where
-/// memory ran out, and for the causes that are of no one part: no JSON, and too many parts.
+/// it. The whole is looked at first, then the relationships, and then the seeds; a part is passed
+/// over if memory runs out for it. `None` if none is found, and for the causes that are of no one
+/// part: no JSON, and too many parts.
 ///
 /// The work grows with the length of the configuration. For relationships with one domain it grows
 /// with the square of their number up to 1,024; those after that are compared with the first 1,024.
-pub fn find_flaw<'a>(alloc: Global, config: &'a Value, cause: ConfigError) -> Option<Found<'a>>
+pub fn find_flaw<'a>(alloc: Global, config: &'a Value, cause: ConfigError) -> Option<FoundFlaw<'a>>
     ensures { IfSome result (IsFoundFlaw (view config.now) cause) }
 {
-    if let Some(found) = look_at(alloc, config, Place::Whole, cause) {
+    if let Some(found) = look_at(alloc, config, FlawPlace::Whole, cause) {
         return Some(found);
     }
     if let Some(found) = find_in_relationships(alloc, config, cause) {
@@ -33,22 +34,22 @@ fn find_in_relationships<'a>(
     alloc: Global,
     config: &'a Value,
     cause: ConfigError,
-) -> Option<Found<'a>>
+) -> Option<FoundFlaw<'a>>
     ensures { IfSome result (IsFoundFlaw (view config.now) cause) }
 {
     'relationships: for number in 0..count_of(config, "relationships") {
-        if let Some(found) = look_at(alloc, config, Place::Relationship(number), cause) {
+        if let Some(found) = look_at(alloc, config, FlawPlace::Relationship(number), cause) {
             return Some(found);
         }
     }
     None
 }
 
-fn find_in_seeds<'a>(alloc: Global, config: &'a Value, cause: ConfigError) -> Option<Found<'a>>
+fn find_in_seeds<'a>(alloc: Global, config: &'a Value, cause: ConfigError) -> Option<FoundFlaw<'a>>
     ensures { IfSome result (IsFoundFlaw (view config.now) cause) }
 {
     'seeds: for number in 0..count_of(config, "seeds") {
-        if let Some(found) = look_at(alloc, config, Place::Seed(number), cause) {
+        if let Some(found) = look_at(alloc, config, FlawPlace::Seed(number), cause) {
             return Some(found);
         }
     }
@@ -66,21 +67,21 @@ fn count_of(config: &Value, name: &str) -> usize {
 fn look_at<'a>(
     alloc: Global,
     config: &'a Value,
-    place: Place,
+    place: FlawPlace,
     cause: ConfigError,
-) -> Option<Found<'a>>
+) -> Option<FoundFlaw<'a>>
     ensures { IfSome result (IsFoundFlaw (view config.now) cause) }
 {
     let part = place.part_in(config)?;
     let flaw = flaw_of(alloc, config, part, place, cause)?;
-    Some(Found { place, flaw })
+    Some(FoundFlaw { place, flaw })
 }
 
 fn flaw_of<'a>(
     alloc: Global,
     config: &'a Value,
     part: &'a Value,
-    place: Place,
+    place: FlawPlace,
     cause: ConfigError,
 ) -> Option<Flaw<'a>>
     ensures flaw { IfSome result (HasFlaw (view config.now) place (view part.now)) }
@@ -93,7 +94,7 @@ fn flaw_of<'a>(
         ConfigError::BadProfile => profile_flaw(part, place),
         ConfigError::BadSeed => bundle_flaw(alloc, part, place),
         ConfigError::DoubleRelationship => match place {
-            Place::Relationship(number) => double_flaw(config, part, number),
+            FlawPlace::Relationship(number) => double_flaw(config, part, number),
             _ => None,
         },
         _ => None,

@@ -1,5 +1,5 @@
 //! What can be wrong with a part of a configuration.
-use crate::place::Place;
+use crate::place::FlawPlace;
 use crate::url_flaws::UrlFlaw;
 use bundle_doc::DocError;
 use spiffe_name::NameError;
@@ -33,9 +33,9 @@ pub enum Flaw<'a> {
 
 /// A place in a configuration, and what is wrong there.
 #[derive(Clone, Copy, Debug)]
-pub struct Found<'a> {
+pub struct FoundFlaw<'a> {
     /// Where it is.
-    pub place: Place,
+    pub place: FlawPlace,
     /// What is wrong there.
     pub flaw: Flaw<'a>,
 }

@@ -16,9 +16,9 @@ mod shape_flaws;
 mod url_flaws;
 
 pub use finding::find_flaw;
-pub use flaws::{Flaw, Found};
+pub use flaws::{Flaw, FoundFlaw};
 pub use ignored_keys::is_ignored;
 pub use json_place::{JsonFault, json_fault};
-pub use place::Place;
+pub use place::FlawPlace;
 pub use quoting::{push_quoted, push_shown};
 pub use url_flaws::UrlFlaw;

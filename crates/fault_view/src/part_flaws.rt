@@ -1,12 +1,12 @@
 //! Names, URLs, profiles and bundles that are refused.
-ghost use Rattle.std.specs.Prelude.{◌≡◌, ◌↔◌, IsTrue, IfSome, codes};
+ghost use Rattle.std.specs.Prelude.{◌≡◌, ◌≢◌, ◌↔◌, IsTrue, IfSome, codes};
 ghost use Rattle.serde_json.specs.View.{view};
 ghost use Rattle.jwk_set.specs.Element.{HasText};
 ghost use Rattle.bundle_doc.specs.Refusal.{RefusesTree};
 ghost use Rattle.fault_view.specs.Flaws.{HasDomainOf, HasFlaw, IsFlawOf, cause_of_flaw};
 
 use crate::flaws::Flaw;
-use crate::place::Place;
+use crate::place::FlawPlace;
 use crate::shape_flaws::text_of;
 use crate::url_flaws::url_flaw;
 use bundle_doc::{DocError, Document};
@@ -19,7 +19,7 @@ use std::alloc::Global;
 const MOST_COMPARED: usize = 1_024;
 
 /// A `domain` or an `endpoint` that is no name.
-pub(crate) fn name_flaw<'a>(alloc: Global, part: &'a Value, place: Place) -> Option<Flaw<'a>>
+pub(crate) fn name_flaw<'a>(alloc: Global, part: &'a Value, place: FlawPlace) -> Option<Flaw<'a>>
     ensures { IfSome result (IsFlawOf ConfigError.BadName place (view part.now)) }
 {
     if let Some(flaw) = domain_flaw(alloc, part, place) {
@@ -28,7 +28,7 @@ pub(crate) fn name_flaw<'a>(alloc: Global, part: &'a Value, place: Place) -> Opt
     endpoint_flaw(alloc, part, place)
 }
 
-fn domain_flaw<'a>(alloc: Global, part: &'a Value, _place: Place) -> Option<Flaw<'a>>
+fn domain_flaw<'a>(alloc: Global, part: &'a Value, _place: FlawPlace) -> Option<Flaw<'a>>
     ensures { IfSome result (IsFlawOf ConfigError.BadName _place (view part.now)) }
 {
     let text = text_of(part, "domain")?;
@@ -38,7 +38,7 @@ fn domain_flaw<'a>(alloc: Global, part: &'a Value, _place: Place) -> Option<Flaw
     }
 }
 
-fn endpoint_flaw<'a>(alloc: Global, part: &'a Value, _place: Place) -> Option<Flaw<'a>>
+fn endpoint_flaw<'a>(alloc: Global, part: &'a Value, _place: FlawPlace) -> Option<Flaw<'a>>
     ensures { IfSome result (IsFlawOf ConfigError.BadName _place (view part.now)) }
 {
     let text = text_of(part, "endpoint")?;
@@ -49,7 +49,7 @@ fn endpoint_flaw<'a>(alloc: Global, part: &'a Value, _place: Place) -> Option<Fl
 }
 
 /// A `url` that is not that of an endpoint.
-pub(crate) fn bad_url<'a>(alloc: Global, part: &'a Value, _place: Place) -> Option<Flaw<'a>>
+pub(crate) fn bad_url<'a>(alloc: Global, part: &'a Value, _place: FlawPlace) -> Option<Flaw<'a>>
     ensures { IfSome result (IsFlawOf ConfigError.BadUrl _place (view part.now)) }
 {
     let why = url_flaw(alloc, text_of(part, "url")?)?;
@@ -57,7 +57,7 @@ pub(crate) fn bad_url<'a>(alloc: Global, part: &'a Value, _place: Place) -> Opti
 }
 
 /// A `profile` that is not `https_spiffe`.
-pub(crate) fn profile_flaw<'a>(part: &'a Value, _place: Place) -> Option<Flaw<'a>>
+pub(crate) fn profile_flaw<'a>(part: &'a Value, _place: FlawPlace) -> Option<Flaw<'a>>
     ensures { IfSome result (IsFlawOf ConfigError.BadProfile _place (view part.now)) }
 {
     let text = text_of(part, "profile")?;
@@ -70,7 +70,7 @@ pub(crate) fn profile_flaw<'a>(part: &'a Value, _place: Place) -> Option<Flaw<'a
 /// A `domain` that an earlier relationship has.
 pub(crate) fn double_flaw<'a>(config: &'a Value, part: &'a Value, number: usize) -> Option<Flaw<'a>>
     ensures flaw { IfSome result
-        (HasFlaw (view config.now) (Place.Relationship number) (view part.now)) }
+        (HasFlaw (view config.now) (FlawPlace.Relationship number) (view part.now)) }
     ensures cause { IfSome result (λ f. cause_of_flaw f ≡ ConfigError.DoubleRelationship) }
 {
     let text = text_of(part, "domain")?;
@@ -85,7 +85,7 @@ pub(crate) fn double_flaw<'a>(config: &'a Value, part: &'a Value, number: usize)
 fn has_domain_of(config: &Value, number: usize, text: &str) -> bool
     ensures { IsTrue result → HasDomainOf (view config.now) number text.now }
 {
-    match Place::Relationship(number).part_in(config) {
+    match FlawPlace::Relationship(number).part_in(config) {
         Some(part) => has_domain(part, text),
         None => false,
     }
@@ -101,7 +101,7 @@ fn has_domain(part: &Value, text: &str) -> bool
 }
 
 /// A `bundle` that is none.
-pub(crate) fn bundle_flaw<'a>(alloc: Global, part: &'a Value, _place: Place) -> Option<Flaw<'a>>
+pub(crate) fn bundle_flaw<'a>(alloc: Global, part: &'a Value, _place: FlawPlace) -> Option<Flaw<'a>>
     ensures { IfSome result (IsFlawOf ConfigError.BadSeed _place (view part.now)) }
 {
     let why = refusal_of(alloc, part.get("bundle")?)?;
@@ -109,7 +109,8 @@ pub(crate) fn bundle_flaw<'a>(alloc: Global, part: &'a Value, _place: Place) -> 
 }
 
 fn refusal_of(alloc: Global, bundle: &Value) -> Option<DocError>
-    ensures { IfSome result (RefusesTree (view bundle.now)) }
+    ensures cause { IfSome result (RefusesTree (view bundle.now)) }
+    ensures known { IfSome result (λ why. why ≢ DocError.NoMemory) }
 {
     match Document::from_value(alloc, bundle) {
         Ok(_) | Err(DocError::NoMemory) => None,

@@ -1,13 +1,13 @@
 //! Places in a configuration.
 ghost use Rattle.std.specs.Prelude.{◌≡◌, option_map};
 ghost use Rattle.serde_json.specs.View.{view};
-ghost use Rattle.fault_view.specs.Flaws.{is_member_at, part_of};
+ghost use Rattle.fault_view.specs.Flaws.{is_array_at, is_member_at, is_text_at, part_of};
 
 use serde_json::Value;
 
 /// A part of a configuration: all of it, or an element of one of its arrays, counted from 0.
 #[derive(Clone, Copy, Debug, PartialEq, Eq)]
-pub enum Place {
+pub enum FlawPlace {
     /// All of it.
     Whole,
     /// The element of `relationships` with this number.
@@ -16,24 +16,45 @@ pub enum Place {
     Seed(usize),
 }
 
-impl Place {
+impl FlawPlace {
     /// Whether what stands there has a member of this name.
     pub(crate) fn has_member(self, name: &str) -> bool
         ensures { result ≡ is_member_at self name.now }
     {
         match self {
-            Place::Whole => name == "relationships" || name == "seeds",
-            Place::Relationship(_) => is_of_relationship(name),
-            Place::Seed(_) => name == "bundle" || name == "domain",
+            FlawPlace::Whole => name == "relationships" || name == "seeds",
+            FlawPlace::Relationship(_) => is_of_relationship(name),
+            FlawPlace::Seed(_) => name == "bundle" || name == "domain",
+        }
+    }
+
+    /// Whether that member is a text.
+    pub(crate) fn has_text(self, name: &str) -> bool
+        ensures { result ≡ is_text_at self name.now }
+    {
+        match self {
+            FlawPlace::Whole => false,
+            FlawPlace::Relationship(_) => is_of_relationship(name),
+            FlawPlace::Seed(_) => name == "domain",
+        }
+    }
+
+    /// Whether it is an array.
+    pub(crate) fn has_array(self, name: &str) -> bool
+        ensures { result ≡ is_array_at self name.now }
+    {
+        match self {
+            FlawPlace::Whole => name == "relationships" || name == "seeds",
+            FlawPlace::Relationship(_) | FlawPlace::Seed(_) => false,
         }
     }
 
     /// The names of these members.
     pub(crate) fn member_names(self) -> &'static [&'static str] {
         match self {
-            Place::Whole => WHOLE.as_slice(),
-            Place::Relationship(_) => RELATIONSHIP.as_slice(),
-            Place::Seed(_) => SEED.as_slice(),
+            FlawPlace::Whole => WHOLE.as_slice(),
+            FlawPlace::Relationship(_) => RELATIONSHIP.as_slice(),
+            FlawPlace::Seed(_) => SEED.as_slice(),
         }
     }
 
@@ -42,9 +63,9 @@ impl Place {
         ensures { option_map (λ v. view v.now) result ≡ part_of (view config.now) self }
     {
         match self {
-            Place::Whole => Some(config),
-            Place::Relationship(number) => config.get("relationships")?.get(number),
-            Place::Seed(number) => config.get("seeds")?.get(number),
+            FlawPlace::Whole => Some(config),
+            FlawPlace::Relationship(number) => config.get("relationships")?.get(number),
+            FlawPlace::Seed(number) => config.get("seeds")?.get(number),
         }
     }
 }
@@ -56,7 +77,7 @@ static RELATIONSHIP: [&str; 4] = ["domain", "endpoint", "profile", "url"];
 static SEED: [&str; 2] = ["bundle", "domain"];
 
 fn is_of_relationship(name: &str) -> bool
-    ensures { result ≡ is_member_at (Place.Relationship 0) name.now }
+    ensures { result ≡ is_member_at (FlawPlace.Relationship 0) name.now }
 {
     name == "domain" || name == "endpoint" || name == "profile" || name == "url"
 }

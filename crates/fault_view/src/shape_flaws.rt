@@ -7,12 +7,12 @@ ghost use Rattle.jwk_set.specs.Forms.{FindsMember};
 ghost use Rattle.fault_view.specs.Flaws.{IsFlawOf, is_member_at};
 
 use crate::flaws::Flaw;
-use crate::place::Place;
+use crate::place::FlawPlace;
 use fed_config::ConfigError;
 use serde_json::{Map, Value};
 
 /// What is wrong with the shape of what stands at a place.
-pub(crate) fn shape_flaw<'a>(part: &'a Value, place: Place) -> Option<Flaw<'a>>
+pub(crate) fn shape_flaw<'a>(part: &'a Value, place: FlawPlace) -> Option<Flaw<'a>>
     ensures { IfSome result (IsFlawOf ConfigError.Shape place (view part.now)) }
 {
     let Some(members) = part.as_object() else {
@@ -32,7 +32,7 @@ pub(crate) fn shape_flaw<'a>(part: &'a Value, place: Place) -> Option<Flaw<'a>>
 fn unknown_member<'a>(
     part: &'a Value,
     members: &'a Map<String, Value>,
-    place: Place,
+    place: FlawPlace,
 ) -> Option<Flaw<'a>>
     ensures { IfSome result (IsFlawOf ConfigError.Shape place (view part.now)) }
 {
@@ -44,7 +44,7 @@ fn unknown_member<'a>(
     None
 }
 
-fn is_unknown(part: &Value, place: Place, name: &str) -> bool
+fn is_unknown(part: &Value, place: FlawPlace, name: &str) -> bool
     ensures { IsTrue result → IsSome (get name.now (view part.now))
         × (is_member_at place name.now ≡ false) }
 {
@@ -52,7 +52,7 @@ fn is_unknown(part: &Value, place: Place, name: &str) -> bool
 }
 
 // What is wrong with a member that has to be there.
-fn member_flaw<'a>(part: &Value, place: Place, name: &'a str) -> Option<Flaw<'a>>
+fn member_flaw<'a>(part: &Value, place: FlawPlace, name: &'a str) -> Option<Flaw<'a>>
     ensures { IfSome result (IsFlawOf ConfigError.Shape place (view part.now)) }
 {
     if !place.has_member(name) {
@@ -61,14 +61,13 @@ fn member_flaw<'a>(part: &Value, place: Place, name: &'a str) -> Option<Flaw<'a>
     let Some(member) = part.get(name) else {
         return Some(Flaw::MissingMember(name));
     };
-    match place {
-        Place::Whole if member.as_array().is_none() => Some(Flaw::NotArray(name)),
-        Place::Relationship(_) if member.as_str().is_none() => Some(Flaw::NotText(name)),
-        Place::Seed(_) if name == "domain" && member.as_str().is_none() => Some(Flaw::NotText(
-            name,
-        )),
-        _ => None,
+    if place.has_array(name) && member.as_array().is_none() {
+        return Some(Flaw::NotArray(name));
     }
+    if place.has_text(name) && member.as_str().is_none() {
+        return Some(Flaw::NotText(name));
+    }
+    None
 }
 
 /// The text of a member.

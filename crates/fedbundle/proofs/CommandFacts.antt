@@ -6,11 +6,11 @@ use Rattle.byte_lines.specs.declared.error.DeviceError.TheVariants.{Io as Source
 use Rattle.byte_lines.specs.declared.error.DeviceError.TheVariants.{NoMemory as NoMemoryForBytes}
 use Rattle.closure_core.specs.Changes.{HeldAndRoom, IsUnchanged}
 use Rattle.fedbundle.specs.CommandRun.{CommandRun, DeviceRun, HasFailed, Reads, WritesNothing, run_of, state_run}
-use Rattle.fedbundle.specs.Canon.{RunsCanon, RunsCanonOn}
+use Rattle.fedbundle.specs.Canon.{RunsCanon, RunsCanonOn, canon_call}
 use Rattle.fedbundle.specs.Errors.{of_read}
 use Rattle.fedbundle.specs.Explain.{ExplanationCall, RunsExplain}
 use Rattle.fedbundle.specs.Observe.{Fetched, RefusesToMake, RunsObserve}
-use Rattle.fedbundle.specs.declared.option_texts.OutputForm.{OutputForm}
+use Rattle.command_line.specs.declared.option_texts.OutputForm.{OutputForm}
 use Rattle.fedbundle.specs.declared.error.CommandError.{CommandError}
 use Rattle.fedbundle.specs.declared.error.CommandError.TheVariants.{Config, Document, Full, Io, Journal, Name}
 use Rattle.fedbundle.specs.declared.error.CommandError.TheVariants.{NoMemory, Observe, Poll, Pull, Sync, Take}
@@ -23,7 +23,7 @@ canon_unread run domain form NoMemoryForBytes failed same = same
 
 -- Where the source gave these bytes, what `canon` does to its sink on them is what it does.
 pub canon_read : (run : CommandRun) (bytes domain : List ℕ) (form : OutputForm) (r : Result (Unit {0}) CommandError) → Reads run.source bytes
-    → RunsCanonOn bytes run.sink domain form r → RunsCanon run domain form r
+    → RunsCanonOn bytes run.sink (canon_call domain form) r → RunsCanon run domain form r
 canon_read run bytes domain form (Ok u) read (d, is, written) =
     record { document = d; read = record { bytes = bytes; read = read; is = is }; written = written }
 canon_read run bytes domain form (Err Io) read (d, is, cut) = inr (record { document = d; read = record { bytes = bytes; read = read; is = is }; cut = cut })

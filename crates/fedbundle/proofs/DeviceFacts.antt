@@ -9,7 +9,7 @@ use Rattle.bundle_view.specs.Report.{is_report_fault}
 use Rattle.bundle_view.specs.declared.error.ReportError.{ReportError}
 use Rattle.bundle_view.specs.declared.error.ReportError.TheVariants.{Io as SinkFailed}
 use Rattle.bundle_view.specs.declared.error.ReportError.TheVariants.{NoMemory as NoMemoryForReport}
-use Rattle.replica_sync.specs.Snapshots.{is_io}
+use Rattle.replica_texts.specs.Snapshots.{is_io}
 use Rattle.replica_core.specs.declared.error.SyncError.{SyncError}
 use Rattle.replica_core.specs.declared.error.SyncError.TheVariants.{BadHeader, ConfigDiffers, VersionDiffers}
 use Rattle.replica_core.specs.declared.error.SyncError.TheVariants.{NotCanonical, NotRising, BadCount, Truncated}

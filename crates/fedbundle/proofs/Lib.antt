@@ -1,10 +1,7 @@
-mod WordsFacts
-mod OptionTextFacts
 mod TakenFacts
 mod ComplaintFacts
 mod RunFacts
 mod ComplaintOrderFacts
-mod SessionsFacts
 mod DeviceFacts
 mod CommandFacts
 mod MigrateFacts

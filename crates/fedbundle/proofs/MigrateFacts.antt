@@ -5,7 +5,7 @@ use Rattle.byte_lines.specs.declared.error.DeviceError.{DeviceError}
 use Rattle.byte_lines.specs.declared.error.DeviceError.TheVariants.{Io as DeviceIo, NoMemory as DeviceNoMemory}
 use Rattle.receipt_core.specs.Acceptance.{Meaning}
 use Rattle.migration.specs.Carry.{CarriesOver, StopsCarrying}
-use Rattle.replica_sync.specs.WrittenSnapshot.{written_snapshot}
+use Rattle.replica_texts.specs.WrittenSnapshot.{written_snapshot}
 use Rattle.fedbundle.specs.CommandRun.{DeviceRun, BeginsText, WritesNothing, IsAsSound}
 use Rattle.fedbundle.specs.Errors.{of_read}
 use Rattle.fedbundle.specs.Migrate.{Move, carry_of, RunsMigrate}

@@ -10,9 +10,9 @@ use Rattle.bundle_doc.specs.Refusal.{RefusesBytes}
 use Rattle.fedbundle.specs.CommandRun.{CommandRun, DeviceRun, ReadsDocument, RefusesDocument}
 use Rattle.fedbundle.specs.CommandRun.{PrintsText}
 use Rattle.fedbundle.specs.CommandRun.{WritesNothing, CutsOff, FailsToRead}
-use Rattle.bundle_json.specs.DocumentJson.{document_json}
-use Rattle.fedbundle.specs.declared.option_texts.OutputForm.{OutputForm}
-use Rattle.fedbundle.specs.declared.option_texts.OutputForm.TheVariants.{Text, Json}
+use Rattle.json_reports.specs.DocumentJson.{document_json}
+use Rattle.command_line.specs.declared.option_texts.OutputForm.{OutputForm}
+use Rattle.command_line.specs.declared.option_texts.OutputForm.TheVariants.{Text, Json}
 use Rattle.fedbundle.specs.declared.error.CommandError.{CommandError}
 use Rattle.fedbundle.specs.declared.error.CommandError.TheVariants.{Document, NoMemory, Io}
 
@@ -65,15 +65,22 @@ RunsCanon run domain form (Err NoMemory) = WritesNothing run.sink
 RunsCanon run domain form (Err (Document why)) = RefusesDocument run why
 RunsCanon run domain form (Err _) = ⊥
 
+-- of which domain a document is, and how it is written
+pub record CanonCall : Type 0 where
+  pub domain : List ℕ
+  pub form : OutputForm
+
+abbrev pub canon_call : List ℕ → OutputForm → CanonCall
+canon_call domain form = record { domain = domain; form = form }
+
 -- The same of bytes that were read already: by the answer, the text of the document was written;
 -- the sink failed; nothing was written, as memory ran out or the bytes are no document.
-abbrev pub RunsCanonOn : List ℕ → DeviceRun → List ℕ → OutputForm
-    → Result (Unit {0}) CommandError → Type 0
-RunsCanonOn bytes sink domain form (Ok _) = (document : Bundle) × IsDocument bytes document
-    × PrintsText sink (canon_in form domain document)
-RunsCanonOn bytes sink domain form (Err Io) = (document : Bundle) × IsDocument bytes document
-    × CutsOff sink (canon_in form domain document)
-RunsCanonOn bytes sink domain form (Err NoMemory) = WritesNothing sink
-RunsCanonOn bytes sink domain form (Err (Document why)) = RefusesBytes bytes why
+abbrev pub RunsCanonOn : List ℕ → DeviceRun → CanonCall → Result (Unit {0}) CommandError → Type 0
+RunsCanonOn bytes sink call (Ok _) = (document : Bundle) × IsDocument bytes document
+    × PrintsText sink (canon_in call.form call.domain document)
+RunsCanonOn bytes sink call (Err Io) = (document : Bundle) × IsDocument bytes document
+    × CutsOff sink (canon_in call.form call.domain document)
+RunsCanonOn bytes sink call (Err NoMemory) = WritesNothing sink
+RunsCanonOn bytes sink call (Err (Document why)) = RefusesBytes bytes why
     × WritesNothing sink
-RunsCanonOn bytes sink domain form (Err _) = ⊥
+RunsCanonOn bytes sink call (Err _) = ⊥

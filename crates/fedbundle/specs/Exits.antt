@@ -1,6 +1,8 @@
 -- Why a command ends before it is done: the line that says so, and the exit status.
 use Rattle.std.specs.Prelude.{◌≡◌, ℕ, List, Option, codes}
 use Rattle.std.specs.Io.KnownBytes.{Appends}
+use Rattle.command_line.specs.declared.option_error.OptionError.{OptionError}
+use Rattle.command_line.specs.declared.option_error.OptionError.TheVariants as unread
 use Rattle.fedbundle.specs.Fault.{fault_line}
 use Rattle.fedbundle.specs.Status.{status_of}
 use Rattle.fedbundle.specs.declared.exits.Exit.{Exit}
@@ -46,3 +48,9 @@ IsExitLine (Refused e) line = (text : List ℕ) × (line ≡ fault_line text)
 -- such a line was written, and nothing else
 abbrev pub AppendsExit : Exit → Option (List ℕ) → Option (List ℕ) → Type 0
 AppendsExit exit held holds = (line : List ℕ) × IsExitLine exit line × Appends held holds line
+
+-- how a command ends where an option is not read
+abbrev pub exit_of_option : OptionError → Exit
+exit_of_option unread.Usage = Usage
+exit_of_option (unread.BadNumber name) = BadNumber name
+exit_of_option unread.BadKey = BadKey

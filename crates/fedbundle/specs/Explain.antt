@@ -7,12 +7,13 @@ use Rattle.receipt_core.specs.Acceptance.{Meaning, IsMember}
 use Rattle.receipt_core.specs.Receipt.{Receipt, Pair, line}
 use Rattle.closure_core.specs.AcceptedList.{document_of}
 use Rattle.bundle_view.specs.Explain.{IsShortest}
-use Rattle.bundle_json.specs.ChainJson.{chain_json, root_id}
+use Rattle.json_reports.specs.ChainJson.{chain_json, root_id}
 use Rattle.fedbundle.specs.CommandRun.{CommandRun, DeviceRun, ReadsDocument, RefusesDocument}
 use Rattle.fedbundle.specs.CommandRun.{PrintsText, WritesNothing, CutsOff, FailsToRead}
 use Rattle.text_lines.specs.TextLines.{number_or_none}
-use Rattle.fedbundle.specs.declared.chain_text.ExplanationForm.{ExplanationForm}
-use Rattle.fedbundle.specs.declared.chain_text.ExplanationForm.TheVariants.{Receipts, Steps, Json}
+use Rattle.command_line.specs.declared.option_texts.ExplanationForm.{ExplanationForm}
+use Rattle.command_line.specs.declared.option_texts.ExplanationForm.TheVariants.{Receipts, Steps}
+use Rattle.command_line.specs.declared.option_texts.ExplanationForm.TheVariants.{Json}
 use Rattle.fedbundle.specs.declared.error.CommandError.{CommandError}
 use Rattle.fedbundle.specs.declared.error.CommandError.TheVariants.{Document, NoMemory, Io}
 

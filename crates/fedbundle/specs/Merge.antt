@@ -3,7 +3,7 @@ use Rattle.std.specs.Prelude.{◌≡◌, ℕ, List, codes, Result, Ok, Err}
 use Rattle.receipt_core.specs.Acceptance.{Meaning}
 use Rattle.closure_core.specs.Changes.{HasMerged, HasRefusedMerge}
 use Rattle.closure_core.specs.declared.error.TakeError.{TakeError}
-use Rattle.replica_sync.specs.Snapshots.{IsSnapshot, RefusesSnapshot}
+use Rattle.replica_texts.specs.Snapshots.{IsSnapshot, RefusesSnapshot}
 use Rattle.replica_core.specs.declared.error.SyncError.{SyncError}
 use Rattle.replica_core.specs.declared.error.SyncError.TheVariants.{Io as StreamFailed}
 use Rattle.fedbundle.specs.CommandRun.{CommandRun, StateRun, IsReadOut, PrintsText, WritesNothing}

@@ -4,7 +4,7 @@ use Rattle.fed_config.specs.Configuration.{Configuration}
 use Rattle.receipt_core.specs.Acceptance.{Meaning}
 use Rattle.migration.specs.Carry.{CarryRun, carry_run, CarriesOver, StopsCarrying}
 use Rattle.migration.specs.declared.carrying.Choice.{Choice}
-use Rattle.replica_sync.specs.WrittenSnapshot.{written_snapshot}
+use Rattle.replica_texts.specs.WrittenSnapshot.{written_snapshot}
 use Rattle.fedbundle.specs.CommandRun.{DeviceRun, PrintsText, BeginsText, WritesNothing}
 use Rattle.fedbundle.specs.CommandRun.{HasFailed, IsAsSound}
 use Rattle.fedbundle.specs.declared.error.CommandError.{CommandError}

@@ -47,16 +47,23 @@ pub record RefusesLines (run : CommandRun) (m : Meaning) (why : PollError) : Typ
   pub fault : why ≡ SourceFailed → HasFailed run.source
   pub unwritten : WritesNothing run.sink
 
+-- at which moment polls are shown, and how that is written
+pub record PollsCall : Type 0 where
+  pub form : PollsForm
+  pub now : ℤ
+
+abbrev pub polls_call : PollsForm → ℤ → PollsCall
+polls_call form now = record { form = form; now = now }
+
 -- By the answer: the text was written; the sink failed; memory ran out for the text; the lines are
 -- refused. There is no other error.
-abbrev pub RunsPollsIn : PollsForm → CommandRun → Meaning → ℤ → Result (Unit {0}) CommandError
-    → Type 0
-RunsPollsIn form run m now (Ok _) = PrintsPolls form run m now
-RunsPollsIn form run m now (Err Io) = CutsPolls form run m now
-RunsPollsIn form run m now (Err NoMemory) = WritesNothing run.sink
-RunsPollsIn form run m now (Err (Poll why)) = RefusesLines run m why
-RunsPollsIn form run m now (Err _) = ⊥
+abbrev pub RunsPollsIn : CommandRun → Meaning → PollsCall → Result (Unit {0}) CommandError → Type 0
+RunsPollsIn run m call (Ok _) = PrintsPolls call.form run m call.now
+RunsPollsIn run m call (Err Io) = CutsPolls call.form run m call.now
+RunsPollsIn run m call (Err NoMemory) = WritesNothing run.sink
+RunsPollsIn run m call (Err (Poll why)) = RefusesLines run m why
+RunsPollsIn run m call (Err _) = ⊥
 
 -- the same as lines
 abbrev pub RunsPolls : CommandRun → Meaning → ℤ → Result (Unit {0}) CommandError → Type 0
-RunsPolls run m now result = RunsPollsIn Lines run m now result
+RunsPolls run m now result = RunsPollsIn run m (polls_call Lines now) result

@@ -3,7 +3,7 @@ use Rattle.std.specs.Prelude.{◌≡◌, ◌↔◌, Contains}
 use Rattle.receipt_core.specs.Acceptance.{Meaning, IsMeaning}
 use Rattle.receipt_core.specs.Receipt.{Receipt}
 use Rattle.receipt_core.specs.declared.distrust.Distrust.{Distrust}
-use Rattle.replica_sync.specs.Snapshots.{snapshot_text}
+use Rattle.replica_texts.specs.Snapshots.{snapshot_text}
 
 -- Both are what a replica can hold; their configurations are equal, each receipt that the one holds
 -- the other holds too, and so each record of distrust.

@@ -2,7 +2,7 @@
 use Rattle.std.specs.Prelude.{◌≡◌, ℕ, ◌⊎◌, List, codes, Result, Ok, Err}
 use Rattle.receipt_core.specs.Acceptance.{Meaning}
 use Rattle.replica_sync.specs.SessionRun.{session_run}
-use Rattle.replica_sync.specs.Haves.{Serves}
+use Rattle.replica_sync.specs.Serving.{Serves}
 use Rattle.replica_core.specs.declared.error.SyncError.{SyncError}
 use Rattle.replica_core.specs.declared.error.SyncError.TheVariants.{Io as StreamFailed}
 use Rattle.fedbundle.specs.CommandRun.{CommandRun, HasFailed}

@@ -1,25 +1,25 @@
 //! `canon`: a bundle document as it was fetched, printed in its canonical form with its ids.
 ghost use Rattle.std.specs.Prelude.{◌≡◌, ◌++◌, IfOk, IsErrOf, OnOk};
-ghost use Rattle.fedbundle.specs.Canon.{RunsCanon, RunsCanonOn, canon_in, canon_text, digest_line};
-ghost use Rattle.fedbundle.specs.Canon.{key_line, key_lines};
+ghost use Rattle.fedbundle.specs.Canon.{RunsCanon, RunsCanonOn, canon_call, canon_in, canon_text};
+ghost use Rattle.fedbundle.specs.Canon.{digest_line, key_line, key_lines};
 ghost use Rattle.fedbundle.specs.CommandRun.{device_run, run_of};
 ghost use Rattle.fedbundle.specs.declared.error.CommandError.TheVariants.{Io};
 ghost use Rattle.bundle_doc.specs.Bundle.{canonical_text};
 ghost use Rattle.jwk_set.specs.Element.{key_id_of};
 
 use crate::error::CommandError;
-use crate::option_texts::OutputForm;
 use crate::two_parts::write_both;
 use bundle_doc::{Document, MAX_DOCUMENT_BYTES};
-use bundle_json::document_json;
 use byte_lines::{Sink, Source, push_digits, read_up_to};
+use command_line::OutputForm;
+use json_reports::document_json;
 use jwk_set::Authority;
 use spiffe_name::TrustDomain;
 use std::alloc::{AllocError, Global};
 
 /// Reads a bundle document of the domain and writes its canonical text, a line `id` with its
 /// document id, and for each X.509 authority a line `key` with its key id, in the order of the
-/// canonical text; or the same as JSON ([`bundle_json::document_json`]).
+/// canonical text; or the same as JSON ([`json_reports::document_json`]).
 ///
 /// It reads at most one byte more than a document may have. Nothing is written before the whole
 /// text is made.
@@ -61,7 +61,7 @@ pub fn run_canon_bytes<W: Sink>(
     sink: &mut W,
 ) -> Result<(), CommandError>
     ensures runs { RunsCanonOn bytes.now (device_run W.contents W.has_failed sink.old sink.new)
-        domain.now form result }
+        (canon_call domain.now form) result }
 
     // A fault of the sink is not passed over, or reported as another error.
     ensures sound { (IsErrOf result Io → ⊥) → (W.has_failed sink.new ≡ W.has_failed sink.old) }

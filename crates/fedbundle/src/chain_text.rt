@@ -5,24 +5,13 @@ ghost use Rattle.fedbundle.specs.Explain.{receipt_line, root_line, step_line};
 ghost use Rattle.fedbundle.specs.Explain.{vouched_part};
 
 use bundle_doc::{DocId, Document};
-use bundle_json::{chain_json, root_id};
 use byte_lines::push_digits;
+use command_line::ExplanationForm;
+use json_reports::{chain_json, root_id};
 use receipt_core::Receipt;
 use spiffe_name::TrustDomain;
 use std::alloc::{AllocError, Global};
 use text_lines::push_number_or_none;
-
-/// How an explanation is written.
-#[derive(Clone, Copy, Debug, PartialEq, Eq)]
-pub enum ExplanationForm {
-    /// The lines of the receipts, from the configured document on; none for a configured one.
-    Receipts,
-    /// A line for each step, from the document back to the configured one: `<document id> sequence
-    /// <n> <- key <key id> of <document id>`, and at the end `<document id> configured`.
-    Steps,
-    /// A compact JSON object ([`bundle_json::chain_json`]).
-    Json,
-}
 
 /// The text of the chain, which leads to the document.
 pub(crate) fn explanation_text(

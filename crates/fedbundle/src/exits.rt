@@ -3,15 +3,15 @@
 ghost use Rattle.std.specs.Prelude.{◌≡◌, ◌≤◌, true, OnOk, IfErr, IsErr};
 ghost use Rattle.std.specs.Io.KnownBytes.{Appends};
 ghost use Rattle.byte_lines.specs.Device.{AppendsBeginning};
-ghost use Rattle.fedbundle.specs.Exits.{AppendsExit, exit_status_of};
+ghost use Rattle.fedbundle.specs.Exits.{AppendsExit, exit_of_option, exit_status_of};
 ghost use Rattle.fedbundle.specs.declared.error.CommandError.TheVariants.{NoMemory};
 ghost use Rattle.fedbundle.specs.declared.exits.Exit.TheVariants.{Refused};
 
-use crate::command_name::OptionName;
 use crate::error::{CommandError, status};
 use crate::fault::write_fault;
-use crate::state::FileFault;
+use crate::file_fault::FileFault;
 use byte_lines::{Sink, write_all};
+use command_line::{OptionError, OptionName};
 use std::alloc::AllocError;
 
 /// Why a command ends before it is done. It owns nothing, so a function may hold it beside what it
@@ -143,6 +143,18 @@ impl From<CommandError> for Exit {
 
     fn from(error: CommandError) -> Exit {
         Exit::Refused(error)
+    }
+}
+
+impl From<OptionError> for Exit {
+    ghost from_gives = { λ e x. x ≡ exit_of_option e };
+
+    fn from(error: OptionError) -> Exit {
+        match error {
+            OptionError::Usage => Exit::Usage,
+            OptionError::BadNumber(option) => Exit::BadNumber(option),
+            OptionError::BadKey => Exit::BadKey,
+        }
     }
 }
 

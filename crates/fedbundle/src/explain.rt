@@ -2,12 +2,13 @@
 ghost use Rattle.fedbundle.specs.CommandRun.{device_run, run_of};
 ghost use Rattle.fedbundle.specs.Explain.{RunsExplain, explanation_call};
 
-use crate::chain_text::{ExplanationForm, explanation_text};
+use crate::chain_text::explanation_text;
 use crate::error::CommandError;
 use bundle_doc::{Document, MAX_DOCUMENT_BYTES};
 use bundle_view::explain;
 use byte_lines::{Sink, Source, read_up_to, write_all};
 use closure_core::Closure;
+use command_line::ExplanationForm;
 use spiffe_name::TrustDomain;
 use std::alloc::Global;
 

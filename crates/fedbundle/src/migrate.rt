@@ -2,7 +2,7 @@
 ghost use Rattle.std.specs.Prelude.{◌≡◌, ◌||◌, IfOk, OnOk};
 ghost use Rattle.std.specs.Io.KnownBytes.{Appends};
 ghost use Rattle.byte_lines.specs.Device.{AppendsBeginning, is_source_fault};
-ghost use Rattle.replica_sync.specs.WrittenSnapshot.{written_snapshot};
+ghost use Rattle.replica_texts.specs.WrittenSnapshot.{written_snapshot};
 ghost use Rattle.fedbundle.specs.CommandRun.{device_run};
 ghost use Rattle.fedbundle.specs.Errors.{of_snapshot};
 ghost use Rattle.fedbundle.specs.Migrate.{RunsMigrate, move_to};

@@ -1,6 +1,6 @@
 //! `polls`: when each domain is polled next.
 ghost use Rattle.fedbundle.specs.CommandRun.{device_run, run_of};
-ghost use Rattle.fedbundle.specs.Polls.{RunsPolls, RunsPollsIn};
+ghost use Rattle.fedbundle.specs.Polls.{RunsPolls, RunsPollsIn, polls_call};
 
 use crate::error::CommandError;
 use byte_lines::{Sink, Source, write_all};
@@ -48,10 +48,10 @@ pub fn run_polls_in<C: Closure, R: Source, W: Sink>(
     source: &mut R,
     sink: &mut W,
 ) -> Result<(), CommandError>
-    ensures { RunsPollsIn form
+    ensures { RunsPollsIn
         (run_of (device_run R.remaining R.has_failed source.old source.new)
         (device_run W.contents W.has_failed sink.old sink.new))
-        (C.state closure.now).meaning now.nanosecond result }
+        (C.state closure.now).meaning (polls_call form now.nanosecond) result }
 {
     let log = read_polls(alloc, closure.config(), source)?;
     let text = polls_text(alloc, closure, form, &log, now)?;

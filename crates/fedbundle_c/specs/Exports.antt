@@ -11,24 +11,28 @@ use Rattle.closure_core.specs.declared.outcome.Distrusted.TheVariants.{Already a
 use Rattle.receipt_core.specs.Acceptance.{Meaning}
 use Rattle.closure_core.specs.Changes.{HeldAndRoom}
 use Rattle.replica_core.specs.Session.{have_of}
-use Rattle.replica_sync.specs.Messages.{have_text}
-use Rattle.replica_sync.specs.WrittenSnapshot.{written_snapshot}
-use Rattle.replica_bytes.specs.CallErrors.{IsWantOfMemory, RefusesDomainText}
-use Rattle.replica_bytes.specs.Changes.{TakesLineBytes, HasRefusedLineBytes, DistrustsBytes}
-use Rattle.replica_bytes.specs.Changes.{HasRefusedKeyBytes, MergesBytes, HasRefusedSnapshotBytes}
-use Rattle.replica_bytes.specs.Changes.{AbsorbsBytes, HasRefusedGiveBytes, ObservesFetched}
-use Rattle.replica_bytes.specs.Changes.{HasRefusedFetched}
-use Rattle.replica_bytes.specs.Opening.{OpensBytes, RefusesOpening}
-use Rattle.replica_bytes.specs.Outcomes.{Refuses, ReturnsDone, ReturnsAlready, ReturnsNeedsRoom}
-use Rattle.replica_bytes.specs.Outcomes.{CountsNone, FitsOut, WritesOut, LacksOut, RefusesOut}
-use Rattle.replica_bytes.specs.Texts.{HasNoCurrentBundle, IsCurrentBundle, IsNotAccepted}
-use Rattle.replica_bytes.specs.Texts.{HasChainText, RefusesDocumentBytes, AnswersBytes}
-use Rattle.replica_bytes.specs.Texts.{RefusesHaveBytes}
-use Rattle.replica_bytes.specs.declared.bundle_observing.FetchedBytes.{FetchedBytes}
-use Rattle.replica_bytes.specs.declared.bundle_observing.ObservedBytes.{ObservedBytes}
-use Rattle.replica_bytes.specs.declared.bundle_observing.ObservedBytes.TheVariants.{Held, NeedsRoom}
-use Rattle.replica_bytes.specs.declared.call_error.CallError.{CallError}
-use Rattle.replica_bytes.specs.declared.call_error.CallError.TheVariants.{Usage}
+use Rattle.replica_texts.specs.Messages.{have_text}
+use Rattle.replica_texts.specs.WrittenSnapshot.{written_snapshot}
+use Rattle.replica_c_calls.specs.CallErrors.{IsWantOfMemory, RefusesDomainText}
+use Rattle.replica_c_calls.specs.Changes.{TakesLineBytes, HasRefusedLineBytes, DistrustsBytes}
+use Rattle.replica_c_calls.specs.Changes.{key_bytes}
+use Rattle.replica_c_calls.specs.Changes.{HasRefusedKeyBytes, MergesBytes, HasRefusedSnapshotBytes}
+use Rattle.replica_c_calls.specs.Changes.{AbsorbsBytes, HasRefusedGiveBytes, ObservesFetched}
+use Rattle.replica_c_calls.specs.Changes.{fetched_for}
+use Rattle.replica_c_calls.specs.Changes.{HasRefusedFetched}
+use Rattle.replica_c_calls.specs.Opening.{OpensBytes, RefusesOpening}
+use Rattle.replica_c_calls.specs.Outcomes.{Refuses, ReturnsDone, ReturnsAlready, ReturnsNeedsRoom}
+use Rattle.replica_c_calls.specs.Outcomes.{CountsNone, FitsOut, WritesOut, LacksOut, RefusesOut}
+use Rattle.replica_c_calls.specs.Outcomes.{OutRun, out_run}
+use Rattle.replica_c_calls.specs.Texts.{HasNoCurrentBundle, IsCurrentBundle, IsNotAccepted}
+use Rattle.replica_c_calls.specs.Texts.{HasChainText, RefusesDocumentBytes, AnswersBytes}
+use Rattle.replica_c_calls.specs.Texts.{RefusesHaveBytes}
+use Rattle.replica_c_calls.specs.declared.bundle_observing.FetchedBytes.{FetchedBytes}
+use Rattle.replica_c_calls.specs.declared.bundle_observing.ObservedBytes.{ObservedBytes}
+use Rattle.replica_c_calls.specs.declared.bundle_observing.ObservedBytes.TheVariants.{Held}
+use Rattle.replica_c_calls.specs.declared.bundle_observing.ObservedBytes.TheVariants.{NeedsRoom}
+use Rattle.replica_c_calls.specs.declared.call_error.CallError.{CallError}
+use Rattle.replica_c_calls.specs.declared.call_error.CallError.TheVariants.{Usage}
 use Rattle.fedbundle_c.specs.declared.held_replica.Replica.{Replica}
 
 -- ---- handles
@@ -120,8 +124,8 @@ pub record HasDistrustedKey (held : Replica) (domain key : List ℕ)
   pub is : run.new ≡ Some after
   pub outcome : Result Distrusted CallError
   pub distrusts : MatchResult outcome
-      (DistrustsBytes (meaning_in held) domain key (meaning_in after))
-      (HasRefusedKeyBytes (meaning_in held) domain key (meaning_in after))
+      (DistrustsBytes (meaning_in held) (key_bytes domain key) (meaning_in after))
+      (HasRefusedKeyBytes (meaning_in held) (key_bytes domain key) (meaning_in after))
   pub says : SaysOfRecord outcome run.said run.returned
 
 abbrev pub DistrustsByHandle : HandleRun → List ℕ → List ℕ → Type 0
@@ -163,22 +167,26 @@ pub record BufferRun : Type 0 where
   pub before : List ℕ
   pub after : List ℕ
 
+-- what a caller reads of a call
+abbrev pub out_of : BufferRun → HandleRun → OutRun
+out_of buffer run = out_run buffer.before buffer.after run.said run.returned
+
 -- The handle is closed: the call is refused, and the handle stays closed and the buffer as it was.
 pub record IsShownClosed (buffer : BufferRun) (run : HandleRun) : Type 0 where
   pub closed : run.new ≡ None
-  pub refused : RefusesOut Usage buffer.before buffer.after run.said run.returned
+  pub refused : RefusesOut Usage (out_of buffer run)
 
 -- A text of which this holds is written, or there is no room for it.
 pub record PutsText (P : List ℕ → Type 0) (buffer : BufferRun) (run : HandleRun) : Type 0 where
   pub text : List ℕ
   pub is : P text
-  pub written : WritesOut text buffer.before buffer.after run.said run.returned
+  pub written : WritesOut text (out_of buffer run)
 
 -- There is none, for this cause, and the buffer is as it was.
 pub record PutsFault (Q : CallError → Type 0) (buffer : BufferRun) (run : HandleRun) : Type 0 where
   pub error : CallError
   pub cause : Q error
-  pub refused : RefusesOut error buffer.before buffer.after run.said run.returned
+  pub refused : RefusesOut error (out_of buffer run)
 
 -- The handle keeps what it holds, and one of the two is so.
 pub record PutsOfHeld (held : Replica) (P : List ℕ → Type 0) (Q : CallError → Type 0)
@@ -208,12 +216,10 @@ AnswersByHandle asked = PutsByHandle (λ m. AnswersBytes m asked) (λ m. Refuses
 
 -- what is said of it, and written
 abbrev pub SaysOfFetched : Result ObservedBytes CallError → BufferRun → HandleRun → Type 0
-SaysOfFetched (Ok (Held text)) buffer run =
-    FitsOut text.items buffer.before buffer.after run.said run.returned
+SaysOfFetched (Ok (Held text)) buffer run = FitsOut text.items (out_of buffer run)
 SaysOfFetched (Ok (NeedsRoom needed)) buffer run = (buffer.after ≡ buffer.before)
     × (run.said ≡ needed) × ReturnsNeedsRoom run.returned
-SaysOfFetched (Err e) buffer run =
-    RefusesOut e buffer.before buffer.after run.said run.returned
+SaysOfFetched (Err e) buffer run = RefusesOut e (out_of buffer run)
 
 -- It was observed or refused, and that is said.
 pub record HasObservedFetched (held : Replica) (fetched : FetchedBytes) (buffer : BufferRun)
@@ -222,7 +228,8 @@ pub record HasObservedFetched (held : Replica) (fetched : FetchedBytes) (buffer 
   pub is : run.new ≡ Some after
   pub outcome : Result ObservedBytes CallError
   pub observes : MatchResult outcome
-      (ObservesFetched (state_in held) fetched (length buffer.before) (state_in after))
+      (ObservesFetched (state_in held) (fetched_for fetched (length buffer.before))
+      (state_in after))
       (HasRefusedFetched (state_in held) fetched (state_in after))
   pub says : SaysOfFetched outcome buffer run
 
@@ -235,7 +242,7 @@ ObservesByHandle fetched buffer run = MatchOption run.old (IsShownClosed buffer 
 -- There is none, and the buffer is as it was.
 pub record PutsNone (N : Type 0) (buffer : BufferRun) (run : HandleRun) : Type 0 where
   pub absent : N
-  pub none : LacksOut buffer.before buffer.after run.said run.returned
+  pub none : LacksOut (out_of buffer run)
 
 pub record FindsHeld (held : Replica) (N : Type 0) (P : List ℕ → Type 0) (Q : CallError → Type 0)
     (buffer : BufferRun) (run : HandleRun) : Type 0 where

@@ -5,7 +5,7 @@ ghost use Rattle.fedbundle_c.specs.Exports.{ObservesByHandle, TakesByHandle};
 
 use crate::handle::Handle;
 use closure_core::{Distrusted, Taken};
-use replica_bytes::{
+use replica_c_calls::{
     ALREADY, CallError, CallOutcome, FetchedBytes, ObservedBytes, distrust_bytes, merge_bytes,
     observe_bytes, take_line_bytes,
 };

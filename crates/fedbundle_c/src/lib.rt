@@ -1,5 +1,5 @@
-//! Replicas for C: each export calls one function of `replica_bytes` or `command_bytes`, which has
-//! its contract.
+//! Replicas for C: each export calls one function of `replica_c_calls` or `command_c_calls`, which
+//! has its contract.
 //!
 //! A handle is where a caller keeps a replica: a pointer that is null, or a box of a replica.
 //! `handle` and `loose` make the one of the other; they alone have raw pointers, and are proved by

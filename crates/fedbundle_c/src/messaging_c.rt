@@ -3,7 +3,7 @@ ghost use Rattle.std.specs.Prelude.{◌≡◌, ◌≤◌};
 ghost use Rattle.fedbundle_c.specs.Exports.{AbsorbsByHandle, AnswersByHandle, HavesByHandle};
 
 use crate::handle::Handle;
-use replica_bytes::{CallError, CallOutcome, absorb_bytes, answer_bytes, have_bytes};
+use replica_c_calls::{CallError, CallOutcome, absorb_bytes, answer_bytes, have_bytes};
 use std::alloc::Global;
 
 /// Writes the have of a bucket: what the replica holds of it.

@@ -2,23 +2,23 @@
 ghost use Rattle.std.specs.Prelude.{◌≡◌, ◌≤◌, codes, MatchResult};
 ghost use Rattle.std.specs.declared.option.Option.TheVariants.{None};
 ghost use Rattle.fedbundle_c.specs.Exports.{OpensHandle, meaning_in};
-ghost use Rattle.replica_bytes.specs.Opening.{OpensBytes, RefusesOpening};
-ghost use Rattle.replica_bytes.specs.Outcomes.{WritesOut};
+ghost use Rattle.replica_c_calls.specs.Opening.{OpensBytes, RefusesOpening};
+ghost use Rattle.replica_c_calls.specs.Outcomes.{WritesOut, out_run};
 
 use crate::handle::Handle;
 use crate::held_replica::Replica;
-use replica_bytes::{CallError, CallOutcome, DONE, open_bytes};
+use replica_c_calls::{CallError, CallOutcome, DONE, open_bytes};
 use std::alloc::Global;
 use trust_closure::ExchangeClosure;
 
 /// Writes the version of the library, without a line feed.
 #[unsafe(no_mangle)]
 pub extern "C" fn fedbundle_raw_version(out: &mut [u8], outcome: &mut CallOutcome) -> i64
-    ensures does { WritesOut (codes "0.2.0") out.old out.new outcome.new.length result }
+    ensures does { WritesOut (codes "0.3.0") (out_run out.old out.new outcome.new.length result) }
     ensures count { outcome.new.count ≡ 0 }
     ensures fault { outcome.new.fault_length ≤ 240 }
 {
-    outcome.put(b"0.2.0", out)
+    outcome.put(b"0.3.0", out)
 }
 
 /// Opens a closed handle: it holds a replica of the configuration then, with what the snapshot

@@ -4,7 +4,7 @@ ghost use Rattle.fedbundle_c.specs.Exports.{CurrentByHandle, ExplainsByHandle, R
 ghost use Rattle.fedbundle_c.specs.Exports.{SnapshotsByHandle};
 
 use crate::handle::Handle;
-use replica_bytes::{
+use replica_c_calls::{
     CallError, CallOutcome, current_bytes, explain_bytes, report_bytes, snapshot_bytes,
 };
 use std::alloc::Global;
@@ -64,7 +64,7 @@ pub extern "C" fn fedbundle_raw_snapshot(
 }
 
 /// Writes the current bundle of a domain in its canonical form, with a line feed, or returns
-/// [`NONE`](replica_bytes::NONE) where there is none.
+/// [`NONE`](replica_c_calls::NONE) where there is none.
 #[unsafe(no_mangle)]
 pub extern "C" fn fedbundle_raw_current(
     alloc: Global,
@@ -93,7 +93,7 @@ pub extern "C" fn fedbundle_raw_current(
 }
 
 /// Writes the lines of a shortest chain of receipts to a document of a domain, or returns
-/// [`NONE`](replica_bytes::NONE) where the document is not accepted.
+/// [`NONE`](replica_c_calls::NONE) where the document is not accepted.
 #[unsafe(no_mangle)]
 pub extern "C" fn fedbundle_raw_explain(
     alloc: Global,

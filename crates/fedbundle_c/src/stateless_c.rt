@@ -2,8 +2,8 @@
 ghost use Rattle.std.specs.Prelude.{◌≤◌};
 ghost use Rattle.fedbundle_c.specs.Stateless.{CanonsByBytes, ReportsByBytes};
 
-use command_bytes::{canon_bytes, report_lines};
-use replica_bytes::CallOutcome;
+use command_c_calls::{canon_bytes, report_lines};
+use replica_c_calls::CallOutcome;
 use std::alloc::Global;
 
 /// Writes the report of what is accepted from the receipts of these lines. It counts the lines

@@ -2,7 +2,7 @@
 use crate::streams::input;
 use byte_lines::read_up_to;
 use fedbundle::{Call, CommandError, CommandName, Exit};
-use local_requests::{MOST_INPUT, request_words};
+use local_answers::{MOST_INPUT, request_words};
 use replica_loop::{AskFault, ask_replica};
 
 /// Hands the words and, where the command reads it, standard input to the replica that listens at

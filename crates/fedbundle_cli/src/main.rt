@@ -3,27 +3,19 @@
 // are safety and, where the system's calls return, that it returns.
 #![tactic(auto)]
 
-mod anew;
 mod at_replica;
-mod changing;
-mod command_line;
 mod commands;
 mod connection;
-mod distrusting;
-mod exchange;
 mod exit;
-mod keeping;
-mod lacking;
-mod limited;
+mod fault_places;
+mod limited_reader;
+mod missing_words;
 mod options;
-mod printing;
+mod process_words;
 mod reasons;
-mod second_look;
-mod showing;
-mod speaking;
-mod staying;
+mod state_access;
 mod streams;
-mod viewing;
+mod verbose_lines;
 
 use exit::print_exit;
 use fedbundle::{CommandError, Exit};

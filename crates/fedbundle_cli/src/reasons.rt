@@ -2,8 +2,8 @@
 // the part of it that is at fault. A fault keeps no more than numbers, so this looks a second time
 // at what the command was given, and only where these lines are wanted.
 use crate::exit::print_exit;
-use crate::second_look::{say_bundle, say_config, say_state, say_stream};
-use crate::speaking::{quoted, say, shown, speaks, words_of};
+use crate::fault_places::{say_bundle, say_config, say_state, say_stream};
+use crate::verbose_lines::{is_verbose_for, quoted, say, shown, words_of};
 use fed_config::Config;
 use fedbundle::{
     Call, CommandError, CommandName, Exit, OptionName, Step, SystemFault, given, status,
@@ -21,7 +21,7 @@ pub(crate) fn status_of(rt: &HostRuntime, call: &Call<'_>, done: Result<u8, Exit
         Ok(status) => status,
         Err(exit) => {
             let ended = print_exit(rt, &exit);
-            if speaks(rt, call) {
+            if is_verbose_for(rt, call) {
                 // That memory ran out for it changes nothing.
                 let _ = say_why(rt, call, &exit);
             }
@@ -39,7 +39,7 @@ pub(crate) fn status_of_bundle(
 ) -> u8 {
     let is_refused = done.is_err();
     let ended = status_of(rt, call, done);
-    if speaks(rt, call) {
+    if is_verbose_for(rt, call) {
         // As above.
         let _ = say_bundle(rt, bytes, is_refused);
     }

@@ -393,6 +393,7 @@ stops_first choice k m a = record {
   receipts = [];
   later_receipts = chosen_receipts choice m;
   first_receipts = refl;
+  records_first = inl refl;
   lines = [];
   left = record { of_records = []; of_receipts = []; both = refl; each_record = refl; each_receipt = refl };
   begun = (0, Appends-nil a);
@@ -410,6 +411,7 @@ stops_records choice k kr m a b er stops =
       receipts = [];
       later_receipts = chosen_receipts choice m;
       first_receipts = refl;
+      records_first = inl refl;
       lines = one.lines;
       left = record { of_records = one.lines; of_receipts = []; both = sym (append-nil one.lines); each_record = one.left; each_receipt = refl };
       begun = one.begun;
@@ -429,6 +431,7 @@ stops_receipts choice k kr kc m kept a b d n er ec first stops =
       receipts = two.first;
       later_receipts = two.later;
       first_receipts = two.front;
+      records_first = inr refl;
       lines = one.lines ++ two.lines;
       left = record { of_records = one.lines; of_receipts = two.lines; both = refl; each_record = one.left; each_receipt = two.left };
       begun = (

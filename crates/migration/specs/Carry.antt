@@ -101,7 +101,8 @@ pub record CarriesOver (run : CarryRun) (carried : Meaning) (n : ℕ) : Type 0 w
   pub written : Appends run.before run.after (concat lines)
   pub counted : n ≡ length lines
 
--- A beginning of the lines of some first records and some first receipts was written.
+-- A beginning of the lines of some first records, or of all records and some first receipts, was
+-- written.
 pub record StopsCarrying (run : CarryRun) : Type 0 where
   pub records : List Distrust
   pub later_records : List Distrust
@@ -109,6 +110,7 @@ pub record StopsCarrying (run : CarryRun) : Type 0 where
   pub receipts : List Receipt
   pub later_receipts : List Receipt
   pub first_receipts : chosen_receipts run.choice run.old ≡ receipts ++ later_receipts
+  pub records_first : (receipts ≡ []) ⊎ (later_records ≡ [])
   pub lines : List (List ℕ)
   pub left : AreLinesOf run.config records receipts lines
   pub begun : AppendsBeginning run.before run.after (concat lines)

@@ -1,7 +1,7 @@
 //! The other side of a local request: the words and the input go to the replica, and its reply
 //! goes to the standard streams.
 use memchr::memchr;
-use replica_requests::{ReplyHead, read_reply_head, write_request_words};
+use request_lines::{ReplyHead, read_reply_head, write_request_words};
 use std::alloc::{AllocError, AllocFailed, Global};
 use std::io::{ErrorKind, Read, Write};
 use std::net::{Net, Shutdown};

@@ -1,13 +1,13 @@
 //! The connections that there are, and how many there may be.
-use crate::fresh_lines::Held;
-use crate::journal::Journal;
-use crate::live_connection::{BYTES_A_TURN, Connection};
+use crate::held_state::HeldState;
+use crate::live_connection::{BYTES_A_TURN, LiveConnection};
 use crate::local_talk::Surroundings;
 use crate::socket::Socket;
 use crate::talk::Talk;
 use closure_core::Closure;
 use fedbundle::FileFault;
 use mio::Poll;
+use state_files::Journal;
 use std::alloc::{AllocError, Global};
 use std::net::SocketAddr;
 use std::time::{Duration, Instant};
@@ -21,13 +21,13 @@ const MOST_LOCAL: usize = 64;
 /// reply that there are too many of that, and for a pull.
 const MOST_SERVED: usize = 48;
 
-/// The number of the first connection; those below it are of the gates.
+/// The number of the first connection; those below it are of the listeners.
 const FIRST_SERIAL: usize = 2;
 
 /// The connections, and the buffer into which each reads.
 #[derive(Drop)]
 pub(crate) struct ConnectionTable {
-    connections: Vec<Connection>,
+    connections: Vec<LiveConnection>,
     serial: usize,
     buffer: Vec<u8>,
 }
@@ -85,7 +85,7 @@ impl ConnectionTable {
             return false;
         }
         self.serial = serial.checked_add(1).unwrap_or(FIRST_SERIAL);
-        let conn = Connection::new(socket, talk, peer, serial, now);
+        let conn = LiveConnection::new(socket, talk, peer, serial, now);
         self.connections.push(conn).is_ok()
     }
 
@@ -107,7 +107,7 @@ impl ConnectionTable {
     pub(crate) fn read<C: Closure>(
         &mut self,
         alloc: Global,
-        held: &mut Held<C>,
+        held: &mut HeldState<C>,
         around: &Surroundings<'_>,
     ) {
         for conn in &mut self.connections {
@@ -156,7 +156,7 @@ impl ConnectionTable {
         self.connections.retain(|conn| conn.ending.is_none());
     }
 
-    pub(crate) fn all(&self) -> &[Connection] {
+    pub(crate) fn all(&self) -> &[LiveConnection] {
         self.connections.as_slice()
     }
 
@@ -168,7 +168,7 @@ impl ConnectionTable {
     }
 }
 
-fn time_of(conn: &Connection, now: Instant) -> Duration {
+fn time_of(conn: &LiveConnection, now: Instant) -> Duration {
     if conn.is_busy() {
         Duration::ZERO
     } else {
@@ -176,14 +176,14 @@ fn time_of(conn: &Connection, now: Instant) -> Duration {
     }
 }
 
-fn is_stop(conn: &Connection) -> bool {
+fn is_stop(conn: &LiveConnection) -> bool {
     match &conn.talk {
         Talk::Local(talk) => talk.is_stop(),
         _ => false,
     }
 }
 
-fn has_reply(conn: &Connection) -> bool {
+fn has_reply(conn: &LiveConnection) -> bool {
     match &conn.talk {
         Talk::Local(talk) => conn.ending.is_none() && !talk.output().is_empty(),
         _ => false,

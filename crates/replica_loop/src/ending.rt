@@ -1,5 +1,6 @@
 //! How a connection ended.
 use replica_sync::SyncError;
+use status_view::PeerFault;
 use std::alloc::AllocError;
 
 /// How a connection ended. It owns nothing.
@@ -11,6 +12,17 @@ pub(crate) enum Ending {
     Fault(SyncError),
     /// The other side sent more than the limit says.
     TooManyBytes,
+}
+
+impl Ending {
+    /// Why it failed, where it did.
+    pub(crate) fn fault(self) -> Option<PeerFault> {
+        match self {
+            Ending::Well => None,
+            Ending::Fault(why) => Some(PeerFault::Session(why)),
+            Ending::TooManyBytes => Some(PeerFault::TooManyBytes),
+        }
+    }
 }
 
 impl From<SyncError> for Ending {

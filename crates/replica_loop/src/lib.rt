@@ -6,33 +6,31 @@
 //! that each turn returns where the system's calls do; the rest is shown by runs of the program.
 //!
 //! `replica` begins and ends a replica, and `turn` is one round of the loop: what came is read, the
-//! changes go to the journal (`journal`), and only then anything is written; a long journal goes
-//! into the snapshot (`fold_files`). Connections come in at the `gates`. `connection_table` has
-//! them, `live_connection` is one of them, and what is said on it is a `talk`. `own_status` is what
-//! `status` shows beside what is held. `client` is the other side of a local request.
+//! changes go to the journal, and only then anything is written; a long journal goes into the
+//! snapshot. `state_files` has these files. Connections come in at the `listeners`.
+//! `connection_table` has them, `live_connection` is one of them, and what is said on it is a
+//! `talk`. `peers` has what `status` shows of the peers. `client` is the other side of a local
+//! request.
 #![tactic(auto)]
 
 mod client;
 mod connection_table;
 mod ending;
-mod fold_files;
-mod fresh_lines;
-mod gates;
-mod journal;
+mod event_log;
+mod held_state;
+mod listeners;
 mod live_connection;
 mod local_talk;
-mod own_status;
 mod peers;
 mod pull_talk;
 mod replica;
-mod rest;
-mod saying;
 mod served_talk;
 mod settings;
 mod socket;
 mod step_fault;
 mod talk;
 mod turn;
+mod unread_bytes;
 
 pub use client::{AskFault, ask_replica};
 pub use replica::run_replica;

@@ -1,6 +1,6 @@
 //! One connection: its socket, what is said on it, and how long it has been quiet.
 use crate::ending::Ending;
-use crate::fresh_lines::Held;
+use crate::held_state::HeldState;
 use crate::local_talk::Surroundings;
 use crate::socket::{Progress, Socket};
 use crate::talk::Talk;
@@ -23,7 +23,7 @@ const MAX_AGE_SECONDS: u64 = 600;
 
 /// A connection of any kind.
 #[derive(Drop)]
-pub(crate) struct Connection {
+pub(crate) struct LiveConnection {
     pub(crate) talk: Talk,
     socket: Socket,
     /// The address of the other side, where it has one.
@@ -40,7 +40,7 @@ pub(crate) struct Connection {
     pub(crate) ending: Option<Ending>,
 }
 
-impl Connection {
+impl LiveConnection {
     /// A connection that came, or one that is being made. What came is looked at at once.
     pub(crate) fn new(
         socket: Socket,
@@ -48,9 +48,9 @@ impl Connection {
         peer: Option<SocketAddr>,
         serial: usize,
         now: Instant,
-    ) -> Connection {
+    ) -> LiveConnection {
         let is_connected = !matches!(talk, Talk::Pull(_));
-        Connection {
+        LiveConnection {
             is_connected,
             talk,
             socket,
@@ -91,7 +91,7 @@ impl Connection {
     pub(crate) fn read<C: Closure>(
         &mut self,
         alloc: Global,
-        held: &mut Held<C>,
+        held: &mut HeldState<C>,
         around: &Surroundings<'_>,
         buffer: &mut [u8],
     ) {
@@ -111,7 +111,7 @@ impl Connection {
     fn take_pieces<C: Closure>(
         &mut self,
         alloc: Global,
-        held: &mut Held<C>,
+        held: &mut HeldState<C>,
         around: &Surroundings<'_>,
         buffer: &mut [u8],
     ) -> Result<(), Ending> {
@@ -131,7 +131,7 @@ impl Connection {
     fn take_piece<C: Closure>(
         &mut self,
         alloc: Global,
-        held: &mut Held<C>,
+        held: &mut HeldState<C>,
         around: &Surroundings<'_>,
         buffer: &mut [u8],
     ) -> Result<usize, Ending> {

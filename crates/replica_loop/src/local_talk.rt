@@ -1,17 +1,17 @@
 //! A connection of this machine, on which one request comes and one reply goes.
 use crate::ending::Ending;
-use crate::fresh_lines::Held;
-use crate::own_status::{OwnStatus, add_own_status, format_of};
+use crate::held_state::HeldState;
 use closure_core::Closure;
-use local_requests::{Reply, RequestFault, RequestParts, Sending, answer_request};
+use local_answers::{Reply, RequestFault, RequestParts, Sending, answer_request};
+use status_view::RunningStatus;
 use std::alloc::Global;
 use std::time::Instant;
 
-/// What a request may ask for beside what is held.
+/// The time, and what the replica says of itself.
 #[derive(Clone, Copy)]
 pub(crate) struct Surroundings<'a> {
     pub(crate) now: Instant,
-    pub(crate) own: OwnStatus<'a>,
+    pub(crate) running: RunningStatus<'a>,
 }
 
 /// The reply where a change could not be put on the disk. It takes no memory.
@@ -21,12 +21,12 @@ static DISK_FAILED: &[u8] = b"{\"errors\":17,\"output\":0,\"status\":3}\nfedbund
 #[derive(Drop)]
 pub(crate) struct LocalTalk {
     parts: RequestParts,
-    answer: Answer,
+    answer: LocalAnswer,
 }
 
 // What is being sent.
 #[derive(Drop)]
-enum Answer {
+enum LocalAnswer {
     // Nothing, as long as the request comes.
     Awaited,
     // What is left of a reply that says why there is none of a command.
@@ -38,7 +38,7 @@ impl LocalTalk {
     pub(crate) fn new(alloc: Global) -> LocalTalk {
         LocalTalk {
             parts: RequestParts::new(alloc),
-            answer: Answer::Awaited,
+            answer: LocalAnswer::Awaited,
         }
     }
 
@@ -46,12 +46,12 @@ impl LocalTalk {
     pub(crate) fn refused(alloc: Global) -> LocalTalk {
         LocalTalk {
             parts: RequestParts::new(alloc),
-            answer: Answer::Fault(RequestFault::TooManyRequests.reply()),
+            answer: LocalAnswer::Fault(RequestFault::TooManyRequests.reply()),
         }
     }
 
     pub(crate) fn wants_bytes(&self) -> bool {
-        matches!(self.answer, Answer::Awaited)
+        matches!(self.answer, LocalAnswer::Awaited)
     }
 
     /// Takes bytes of the request. Where they are too many, that is replied at once.
@@ -65,11 +65,11 @@ impl LocalTalk {
     pub(crate) fn answer<C: Closure>(
         &mut self,
         alloc: Global,
-        held: &mut Held<C>,
+        held: &mut HeldState<C>,
         around: &Surroundings<'_>,
     ) {
         match self.carry_out(alloc, held, around) {
-            Ok(reply) => self.reply_with(alloc, Answer::Whole(Sending::new(reply))),
+            Ok(reply) => self.reply_with(alloc, LocalAnswer::Whole(Sending::new(reply))),
             Err(fault) => self.refuse(alloc, fault),
         }
     }
@@ -77,31 +77,25 @@ impl LocalTalk {
     fn carry_out<C: Closure>(
         &self,
         alloc: Global,
-        held: &mut Held<C>,
+        held: &mut HeldState<C>,
         around: &Surroundings<'_>,
     ) -> Result<Reply, RequestFault> {
         let request = self.parts.whole()?;
-        let status = format_of(alloc, request.words)?;
-        let mut reply = answer_request(
+        answer_request(
             alloc,
             &mut held.closure,
-            around.own.state_bytes(),
+            &around.running,
             request.words,
             request.input,
-        )?;
-        // From here on a change may not be forgotten; the status changes nothing.
-        if let Some(format) = status {
-            add_own_status(alloc, &around.own, format, &mut reply)?;
-        }
-        Ok(reply)
+        )
     }
 
     fn refuse(&mut self, alloc: Global, fault: RequestFault) {
-        self.reply_with(alloc, Answer::Fault(fault.reply()));
+        self.reply_with(alloc, LocalAnswer::Fault(fault.reply()));
     }
 
     // Nothing more is read, so what was read is let go.
-    fn reply_with(&mut self, alloc: Global, answer: Answer) {
+    fn reply_with(&mut self, alloc: Global, answer: LocalAnswer) {
         self.parts = RequestParts::new(alloc);
         self.answer = answer;
     }
@@ -109,14 +103,14 @@ impl LocalTalk {
     /// The lines that are to be on the disk before anything is sent.
     pub(crate) fn journal(&self) -> &[u8] {
         match &self.answer {
-            Answer::Whole(sending) => sending.journal(),
+            LocalAnswer::Whole(sending) => sending.journal(),
             _ => b"".as_slice(),
         }
     }
 
     /// The lines are on the disk.
     pub(crate) fn settle(&mut self) {
-        if let Answer::Whole(sending) = &mut self.answer {
+        if let LocalAnswer::Whole(sending) = &mut self.answer {
             sending.settle();
         }
     }
@@ -124,9 +118,9 @@ impl LocalTalk {
     /// The lines of this turn could not be put on the disk: a reply of which nothing is sent says
     /// that in the place of what it said, which may show what is not on the disk.
     pub(crate) fn fail(&mut self) {
-        if let Answer::Whole(sending) = &self.answer {
+        if let LocalAnswer::Whole(sending) = &self.answer {
             if !sending.has_begun() {
-                self.answer = Answer::Fault(DISK_FAILED);
+                self.answer = LocalAnswer::Fault(DISK_FAILED);
             }
         }
     }
@@ -134,25 +128,25 @@ impl LocalTalk {
     /// Whether it asks the replica to end.
     pub(crate) fn is_stop(&self) -> bool {
         match &self.answer {
-            Answer::Whole(sending) => sending.ends(),
+            LocalAnswer::Whole(sending) => sending.ends(),
             _ => false,
         }
     }
 
     pub(crate) fn output(&self) -> &[u8] {
         match &self.answer {
-            Answer::Awaited => b"".as_slice(),
-            Answer::Fault(text) => text,
-            Answer::Whole(sending) => sending.output(),
+            LocalAnswer::Awaited => b"".as_slice(),
+            LocalAnswer::Fault(text) => text,
+            LocalAnswer::Whole(sending) => sending.output(),
         }
     }
 
     /// So many bytes of the output were sent, or all where there are no more.
     pub(crate) fn wrote(&mut self, count: usize) {
         match &mut self.answer {
-            Answer::Awaited => {}
-            Answer::Fault(text) => *text = &text[count.min(text.len())..],
-            Answer::Whole(sending) => {
+            LocalAnswer::Awaited => {}
+            LocalAnswer::Fault(text) => *text = &text[count.min(text.len())..],
+            LocalAnswer::Whole(sending) => {
                 let count = count.min(sending.output().len());
                 sending.wrote(count);
             }

@@ -1,26 +1,17 @@
 //! The replicas from which this one pulls, and when.
 use crate::ending::Ending;
+use status_view::PeerStatus;
 use std::alloc::{AllocError, Global};
 use std::net::SocketAddr;
 use std::time::{Duration, Instant};
-
-/// A replica from which this one pulls, and what its sessions brought.
-#[derive(Clone, Copy, Debug)]
-pub(crate) struct Peer {
-    pub(crate) address: SocketAddr,
-    /// The Unix second at which the last session that ended well did so.
-    pub(crate) ended_well: Option<u64>,
-    /// How the last session ended that was at fault.
-    pub(crate) fault: Option<Ending>,
-    /// How many receipts came from it.
-    pub(crate) receipts: u64,
-}
 
 /// The peers, of which each is asked in turn. A round begins a fixed time after the one before it
 /// began, or when that has ended.
 #[derive(Drop)]
 pub(crate) struct Peers {
-    list: Vec<Peer>,
+    addresses: Vec<SocketAddr>,
+    // What is said of each, in the same order.
+    statuses: Vec<PeerStatus>,
     next: usize,
     is_asking: bool,
     round: Instant,
@@ -30,21 +21,24 @@ pub(crate) struct Peers {
 impl Peers {
     pub(crate) fn new(
         alloc: Global,
-        addresses: &[SocketAddr],
+        peers: &[SocketAddr],
         every: Duration,
         now: Instant,
     ) -> Result<Peers, AllocError> {
-        let mut list = Vec::new(alloc);
-        for address in addresses {
-            list.push(Peer {
-                address: *address,
+        let mut addresses = Vec::new(alloc);
+        let mut statuses = Vec::new(alloc);
+        for peer in peers {
+            addresses.push(*peer)?;
+            statuses.push(PeerStatus {
+                address: format!(in alloc; "{peer}")?,
                 ended_well: None,
                 fault: None,
                 receipts: 0,
             })?;
         }
         Ok(Peers {
-            list,
+            addresses,
+            statuses,
             next: 0,
             is_asking: false,
             round: now,
@@ -52,14 +46,15 @@ impl Peers {
         })
     }
 
-    pub(crate) fn list(&self) -> &[Peer] {
-        self.list.as_slice()
+    /// What is said of each peer, in the order in which they are asked.
+    pub(crate) fn statuses(&self) -> &[PeerStatus] {
+        self.statuses.as_slice()
     }
 
     /// How long until the next session may begin: `None` where one is under way, or there are no
     /// peers.
     pub(crate) fn time_left(&self, now: Instant) -> Option<Duration> {
-        if self.is_asking || self.list.is_empty() {
+        if self.is_asking || self.addresses.is_empty() {
             return None;
         }
         if self.next > 0 {
@@ -76,24 +71,23 @@ impl Peers {
         if self.next == 0 {
             self.round = now.checked_add(self.every).unwrap_or(now);
         }
-        let peer = self.list.get(self.next)?;
+        let peer = self.addresses.get(self.next)?;
         self.is_asking = true;
-        Some(peer.address)
+        Some(*peer)
     }
 
     /// The session has ended.
     pub(crate) fn end(&mut self, ending: Ending, receipts: u64, unix_seconds: Option<u64>) {
-        if let Some(peer) = self.list.get_mut(self.next) {
+        if let Some(peer) = self.statuses.get_mut(self.next) {
             peer.receipts = peer.receipts.saturating_add(receipts);
-            if ending == Ending::Well {
-                peer.ended_well = unix_seconds;
-            } else {
-                peer.fault = Some(ending);
+            match ending.fault() {
+                Some(fault) => peer.fault = Some(fault),
+                None => peer.ended_well = unix_seconds,
             }
         }
         self.is_asking = false;
         self.next = self.next.saturating_add(1);
-        if self.next >= self.list.len() {
+        if self.next >= self.addresses.len() {
             self.next = 0;
         }
     }

@@ -1,10 +1,9 @@
 //! A connection on which this replica asks another one.
 use crate::ending::Ending;
-use crate::fresh_lines::Held;
-use crate::rest::Rest;
+use crate::held_state::HeldState;
+use crate::unread_bytes::UnreadBytes;
 use closure_core::Closure;
-use replica_service::Pulling;
-use replica_sync::SyncError;
+use replica_sync::{Pulling, SyncError};
 use std::alloc::Global;
 
 /// How many lines are taken at most in one turn: no more can come in one read.
@@ -14,7 +13,7 @@ const MOST_LINES: usize = 65_536;
 #[derive(Drop)]
 pub(crate) struct PullTalk {
     pulling: Pulling,
-    rest: Rest,
+    rest: UnreadBytes,
     // How many more bytes may come.
     bytes_left: u64,
 }
@@ -27,7 +26,7 @@ impl PullTalk {
     ) -> Result<PullTalk, SyncError> {
         Ok(PullTalk {
             pulling: Pulling::new(alloc, closure)?,
-            rest: Rest::new(alloc),
+            rest: UnreadBytes::new(alloc),
             bytes_left: most_bytes,
         })
     }
@@ -49,7 +48,7 @@ impl PullTalk {
     pub(crate) fn take<C: Closure>(
         &mut self,
         alloc: Global,
-        held: &mut Held<C>,
+        held: &mut HeldState<C>,
         piece: &[u8],
     ) -> Result<(), Ending> {
         let left = usize::try_from(self.bytes_left).unwrap_or(usize::MAX);
@@ -67,7 +66,7 @@ impl PullTalk {
     pub(crate) fn go_on<C: Closure>(
         &mut self,
         alloc: Global,
-        held: &mut Held<C>,
+        held: &mut HeldState<C>,
     ) -> Result<(), Ending> {
         for _ in 0..MOST_LINES {
             if !self.has_work() {
@@ -81,7 +80,7 @@ impl PullTalk {
     fn take_line<C: Closure>(
         &mut self,
         alloc: Global,
-        held: &mut Held<C>,
+        held: &mut HeldState<C>,
     ) -> Result<(), SyncError> {
         let piece = self.rest.left();
         let used = self

@@ -1,23 +1,23 @@
 //! The beginning and the end of a replica that stays.
-use crate::fresh_lines::Held;
-use crate::saying::{Event, say};
+use crate::event_log::{LogEvent, log_event};
+use crate::held_state::HeldState;
 use crate::settings::Settings;
 use crate::step_fault::file_at_step;
-use crate::turn::{Works, turn};
+use crate::turn::{RunningReplica, turn};
 use closure_core::Closure;
 use fed_config::Config;
-use fedbundle::{
-    CommandError, Exit, StateLock, Step, is_marked, journal_path, load_state, save_state,
-    state_bytes, try_lock_state,
-};
+use fedbundle::{CommandError, Exit, Step};
 use mio::Events;
+use state_files::{
+    FoundFiles, StateBeginning, StateLock, has_journal, is_marked, state_bytes, try_lock_state,
+};
 use std::alloc::Global;
+use std::fs;
 use std::fs::{File, Files};
 use std::io::{Eprint, Print};
 use std::net::Net;
 use std::rt::Runtime;
 use std::time::Clock;
-use std::{fs, io};
 use trust_closure::ExchangeClosure;
 
 /// How many events one wait returns at most.
@@ -46,9 +46,10 @@ pub fn run_replica<R: Runtime<File = File, A = Global> + Net>(
 ) -> Result<(), Exit> {
     let alloc = rt.alloc();
     let _lock = lock(rt, alloc, settings.state)?;
-    let closure: ExchangeClosure = load(rt, alloc, config, settings)?;
-    let mut held = Held::new(alloc, closure);
-    run_held(rt, alloc, &mut held, settings)
+    let mut beginning = find(rt, alloc, settings)?;
+    let closure: ExchangeClosure = load(rt, alloc, config, &mut beginning, settings.state)?;
+    let mut held = HeldState::new(alloc, closure);
+    run_held(rt, alloc, &mut held, beginning, settings)
 }
 
 fn lock<R: Files<File = File>>(rt: &R, alloc: Global, path: &str) -> Result<StateLock, Exit> {
@@ -62,44 +63,48 @@ fn lock<R: Files<File = File>>(rt: &R, alloc: Global, path: &str) -> Result<Stat
     }
 }
 
+// How it begins with the files that there are.
+fn find<R: Files<File = File>>(
+    rt: &R,
+    alloc: Global,
+    settings: &Settings<'_, '_>,
+) -> Result<StateBeginning, Exit> {
+    let has_journal = has_journal(rt, alloc, settings.state)?;
+    let has_state = file_at_step(Step::See, state_bytes(rt, settings.state))?.is_some();
+    let found = FoundFiles {
+        has_state,
+        has_journal,
+    };
+    match StateBeginning::of(alloc, settings.state, found, settings.is_new)? {
+        Some(beginning) => Ok(beginning),
+        None => Err(Exit::NoState),
+    }
+}
+
 // What is held, all of which is in the snapshot then.
 fn load<C: Closure, R: Files<File = File>>(
     rt: &R,
     alloc: Global,
     config: &Config,
-    settings: &Settings<'_, '_>,
+    beginning: &mut StateBeginning,
+    path: &str,
 ) -> Result<C, Exit> {
-    let has_journal = has_journal(rt, alloc, settings.state)?;
-    let has_state = file_at_step(Step::See, state_bytes(rt, settings.state))?.is_some();
-    if !has_state && !has_journal && !settings.is_new {
-        return Err(Exit::NoState);
-    }
-    let closure: C = load_state(rt, alloc, config, settings.state)?;
-    if has_journal || !has_state {
-        file_at_step(Step::Save, save_state(rt, alloc, &closure, settings.state))?;
-    }
+    let closure: C = beginning.load(rt, alloc, config, path)?;
+    file_at_step(Step::Save, beginning.save(rt, alloc, &closure, path))?;
     Ok(closure)
-}
-
-// A journal of which the system does not say whether it is there is found when it is read.
-fn has_journal<R: Files>(rt: &R, alloc: Global, path: &str) -> Result<bool, Exit> {
-    let name = journal_path(alloc, path)?;
-    match fs::metadata(rt, name.as_str()) {
-        Ok(_) => Ok(true),
-        Err(error) => Ok(error.kind() != io::ErrorKind::NotFound),
-    }
 }
 
 fn run_held<C: Closure, R: Files<File = File> + Net + Clock + Print + Eprint>(
     rt: &R,
     alloc: Global,
-    held: &mut Held<C>,
+    held: &mut HeldState<C>,
+    beginning: StateBeginning,
     settings: &Settings<'_, '_>,
 ) -> Result<(), Exit> {
-    let mut works = Works::begin(rt, alloc, held.closure.config(), settings)?;
+    let mut running = RunningReplica::begin(rt, alloc, &held.closure, beginning, settings)?;
     let mut events = Events::with_capacity(alloc, MOST_EVENTS)?;
     print_ready(rt, alloc, &held.closure)?;
-    let ended = run_turns(rt, alloc, held, &mut works, &mut events, settings);
+    let ended = run_turns(rt, alloc, held, &mut running, &mut events, settings);
     // A socket that stays is replaced by the next replica.
     let _ = fs::remove_file(rt, settings.socket);
     ended
@@ -108,17 +113,17 @@ fn run_held<C: Closure, R: Files<File = File> + Net + Clock + Print + Eprint>(
 fn run_turns<C: Closure, R: Files<File = File> + Net + Clock + Eprint>(
     rt: &R,
     alloc: Global,
-    held: &mut Held<C>,
-    works: &mut Works,
+    held: &mut HeldState<C>,
+    running: &mut RunningReplica,
     events: &mut Events,
     settings: &Settings<'_, '_>,
 ) -> Result<(), Exit> {
     for _ in 0..u64::MAX {
-        match turn(rt, alloc, held, works, events, settings) {
+        match turn(rt, alloc, held, running, events, settings) {
             Ok(true) => break,
             Ok(false) => {}
             Err(fault) => {
-                say(rt, alloc, Event::Journal(fault.why));
+                log_event(rt, alloc, LogEvent::Journal(fault.why));
                 return Err(Exit::of_file(Step::Journal, fault));
             }
         }

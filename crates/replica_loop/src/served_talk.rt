@@ -1,15 +1,15 @@
 //! A connection on which another replica asks.
 use crate::ending::Ending;
-use crate::rest::Rest;
+use crate::unread_bytes::UnreadBytes;
 use closure_core::Closure;
-use replica_service::Serving;
+use replica_sync::Serving;
 use std::alloc::Global;
 
 /// A connection on which another replica asks, and is answered.
 #[derive(Drop)]
 pub(crate) struct ServedTalk {
     serving: Serving,
-    rest: Rest,
+    rest: UnreadBytes,
     // Whether the other side has sent all that it will.
     has_ended: bool,
 }
@@ -18,7 +18,7 @@ impl ServedTalk {
     pub(crate) fn new(alloc: Global) -> ServedTalk {
         ServedTalk {
             serving: Serving::new(alloc),
-            rest: Rest::new(alloc),
+            rest: UnreadBytes::new(alloc),
             has_ended: false,
         }
     }

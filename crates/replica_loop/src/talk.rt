@@ -1,7 +1,7 @@
 //! What is said on a connection: a local request, an answer to another replica, or a question to
 //! one.
 use crate::ending::Ending;
-use crate::fresh_lines::Held;
+use crate::held_state::HeldState;
 use crate::local_talk::{LocalTalk, Surroundings};
 use crate::pull_talk::PullTalk;
 use crate::served_talk::ServedTalk;
@@ -43,7 +43,7 @@ impl Talk {
     pub(crate) fn take<C: Closure>(
         &mut self,
         alloc: Global,
-        held: &mut Held<C>,
+        held: &mut HeldState<C>,
         piece: &[u8],
     ) -> Result<(), Ending> {
         match self {
@@ -60,7 +60,7 @@ impl Talk {
     pub(crate) fn go_on<C: Closure>(
         &mut self,
         alloc: Global,
-        held: &mut Held<C>,
+        held: &mut HeldState<C>,
     ) -> Result<(), Ending> {
         match self {
             Talk::Local(_) => Ok(()),
@@ -73,7 +73,7 @@ impl Talk {
     pub(crate) fn end_input<C: Closure>(
         &mut self,
         alloc: Global,
-        held: &mut Held<C>,
+        held: &mut HeldState<C>,
         around: &Surroundings<'_>,
     ) -> Result<(), Ending> {
         match self {

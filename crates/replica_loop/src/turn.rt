@@ -2,27 +2,25 @@
 //! anything is written. So nobody is shown a change that a kill could take back.
 use crate::connection_table::ConnectionTable;
 use crate::ending::Ending;
-use crate::fold_files::{FoldFault, fold_state};
-use crate::fresh_lines::Held;
-use crate::gates::{Arrival, Gates};
-use crate::journal::Journal;
-use crate::live_connection::Connection;
+use crate::event_log::{LogEvent, log_event};
+use crate::held_state::HeldState;
+use crate::listeners::{Arrival, Listeners};
+use crate::live_connection::LiveConnection;
 use crate::local_talk::{LocalTalk, Surroundings};
-use crate::own_status::OwnStatus;
 use crate::peers::Peers;
 use crate::pull_talk::PullTalk;
-use crate::saying::{Event, say};
 use crate::served_talk::ServedTalk;
 use crate::settings::Settings;
 use crate::socket::Socket;
 use crate::step_fault::{at_step, file_at_step};
 use crate::talk::Talk;
 use closure_core::Closure;
-use fed_config::Config;
 use fedbundle::{Exit, FileFault, Step};
 use mio::Events;
 use mio::net::TcpStream;
 use replica_sync::SyncError;
+use state_files::{FoldFault, Journal, StateBeginning, fold_state};
+use status_view::RunningStatus;
 use std::alloc::Global;
 use std::fs::{File, Files};
 use std::io::{Eprint, ErrorKind};
@@ -36,7 +34,7 @@ const MAX_WAIT_SECONDS: u64 = 60;
 /// How long it waits where the system does not say what is ready.
 const PAUSE_MILLIS: u64 = 100;
 
-/// How many connections are accepted at each gate in one turn.
+/// How many connections are accepted at each listener in one turn.
 const ARRIVALS_A_TURN: usize = 32;
 
 /// How long replies may still be sent after the replica was asked to end.
@@ -44,8 +42,8 @@ const LAST_SECONDS: u64 = 1;
 
 /// What a replica works with, beside what it holds.
 #[derive(Drop)]
-pub(crate) struct Works {
-    gates: Gates,
+pub(crate) struct RunningReplica {
+    listeners: Listeners,
     table: ConnectionTable,
     peers: Peers,
     journal: Journal,
@@ -57,19 +55,20 @@ pub(crate) struct Works {
     has_reported: bool,
 }
 
-impl Works {
+impl RunningReplica {
     /// Begins the journal, and listens.
-    pub(crate) fn begin<R: Files<File = File> + Net + Clock>(
+    pub(crate) fn begin<C: Closure, R: Files<File = File> + Net + Clock>(
         rt: &R,
         alloc: Global,
-        config: &Config,
+        closure: &C,
+        beginning: StateBeginning,
         settings: &Settings<'_, '_>,
-    ) -> Result<Works, Exit> {
+    ) -> Result<RunningReplica, Exit> {
         let now = at_step(Step::Socket, Instant::now(rt))?;
-        let gates = Gates::open(rt, settings)?;
-        let journal = Journal::begin(rt, alloc, config, settings.state);
-        Ok(Works {
-            gates,
+        let listeners = Listeners::open(rt, settings)?;
+        let journal = beginning.begin_journal(rt, alloc, closure, settings.state);
+        Ok(RunningReplica {
+            listeners,
             table: ConnectionTable::new(alloc)?,
             peers: Peers::new(alloc, settings.peers, settings.every, now)?,
             journal: file_at_step(Step::Journal, journal)?,
@@ -82,10 +81,10 @@ impl Works {
     /// Waits until something is ready or due.
     pub(crate) fn wait<R: Clock + Eprint>(&mut self, rt: &R, alloc: Global, events: &mut Events) {
         let wait = self.time_left();
-        if let Err(error) = self.gates.poll.poll(events, Some(wait)) {
+        if let Err(error) = self.listeners.poll.poll(events, Some(wait)) {
             // A signal came, as where the process was stopped and goes on.
             if error.kind() != ErrorKind::Interrupted {
-                say(rt, alloc, Event::Poll);
+                log_event(rt, alloc, LogEvent::Poll);
                 thread::sleep(rt, Duration::from_millis(PAUSE_MILLIS));
             }
         }
@@ -97,7 +96,7 @@ impl Works {
             let serial = event.token().0;
             let can_read = event.is_readable() || event.is_error();
             let can_write = event.is_writable() || event.is_error();
-            self.gates.mark(serial);
+            self.listeners.mark(serial);
             self.table.mark(serial, can_read, can_write);
         }
     }
@@ -105,7 +104,7 @@ impl Works {
     fn time_left(&self) -> Duration {
         let most = Duration::from_secs(MAX_WAIT_SECONDS);
         let table = self.table.time_left(self.now).unwrap_or(most);
-        let gates = self.gates.time_left(self.now).unwrap_or(most);
+        let listeners = self.listeners.time_left(self.now).unwrap_or(most);
         let peers = match self.peers.time_left(self.now) {
             Some(left) if self.may_pull() => left,
             _ => most,
@@ -114,7 +113,7 @@ impl Works {
             Some(moment) => moment.duration_since(self.now),
             None => most,
         };
-        most.min(table).min(gates).min(peers).min(end)
+        most.min(table).min(listeners).min(peers).min(end)
     }
 
     fn may_pull(&self) -> bool {
@@ -124,13 +123,13 @@ impl Works {
     /// Takes in the connections that came.
     pub(crate) fn accept<R: Eprint>(&mut self, rt: &R, alloc: Global) {
         for _ in 0..ARRIVALS_A_TURN {
-            let arrival = self.gates.accept_local(self.now);
+            let arrival = self.listeners.accept_local(self.now);
             if !self.take_in(rt, alloc, arrival) {
                 break;
             }
         }
         for _ in 0..ARRIVALS_A_TURN {
-            let arrival = self.gates.accept_gossip(self.now);
+            let arrival = self.listeners.accept_gossip(self.now);
             if !self.take_in(rt, alloc, arrival) {
                 break;
             }
@@ -143,7 +142,7 @@ impl Works {
             Arrival::Nobody => false,
             Arrival::Left => true,
             Arrival::Failed => {
-                self.report_once(rt, alloc, Event::Accept);
+                self.report_once(rt, alloc, LogEvent::Accept);
                 false
             }
             Arrival::Came(socket, peer) => {
@@ -176,22 +175,22 @@ impl Works {
         peer: Option<SocketAddr>,
     ) {
         if !self.table.has_room_for(&talk) {
-            self.report_once(rt, alloc, Event::Refuse);
+            self.report_once(rt, alloc, LogEvent::Refuse);
             return;
         }
         if self
             .table
-            .add(&self.gates.poll, socket, talk, peer, self.now)
+            .add(&self.listeners.poll, socket, talk, peer, self.now)
         {
             self.has_reported = false;
         } else {
-            self.report_once(rt, alloc, Event::Accept);
+            self.report_once(rt, alloc, LogEvent::Accept);
         }
     }
 
-    fn report_once<R: Eprint>(&mut self, rt: &R, alloc: Global, event: Event) {
+    fn report_once<R: Eprint>(&mut self, rt: &R, alloc: Global, event: LogEvent) {
         if !self.has_reported {
-            say(rt, alloc, event);
+            log_event(rt, alloc, event);
             self.has_reported = true;
         }
     }
@@ -210,13 +209,11 @@ impl Works {
         let Some(peer) = self.peers.begin(self.now) else {
             return;
         };
-        let left = most_bytes.saturating_sub(OwnStatus::of(
-            &self.journal,
-            &self.peers,
-        ).state_bytes());
+        let held = running_status(&self.journal, &self.peers).state_bytes();
+        let left = most_bytes.saturating_sub(held);
         if let Err(ending) = self.connect(rt, alloc, closure, peer, left) {
             self.peers.end(ending, 0, None);
-            say(rt, alloc, Event::Pull(peer, 0, Duration::ZERO, ending));
+            log_event(rt, alloc, LogEvent::Pull(peer, 0, Duration::ZERO, ending));
         }
     }
 
@@ -239,7 +236,7 @@ impl Works {
         let talk = Talk::Pull(talk);
         if self
             .table
-            .add(&self.gates.poll, socket, talk, Some(peer), self.now)
+            .add(&self.listeners.poll, socket, talk, Some(peer), self.now)
         {
             Ok(())
         } else {
@@ -248,10 +245,10 @@ impl Works {
     }
 
     /// Takes what came on each connection.
-    pub(crate) fn read<C: Closure>(&mut self, alloc: Global, held: &mut Held<C>) {
+    pub(crate) fn read<C: Closure>(&mut self, alloc: Global, held: &mut HeldState<C>) {
         let around = Surroundings {
             now: self.now,
-            own: OwnStatus::of(&self.journal, &self.peers),
+            running: running_status(&self.journal, &self.peers),
         };
         self.table.read(alloc, held, &around);
         if self.ends_at.is_none() && self.table.is_stopped() {
@@ -261,7 +258,7 @@ impl Works {
     }
 
     /// Puts on the disk what came in this turn. Where that fails, the replies say so.
-    pub(crate) fn commit<C: Closure>(&mut self, held: &mut Held<C>) -> Result<(), FileFault> {
+    pub(crate) fn commit<C: Closure>(&mut self, held: &mut HeldState<C>) -> Result<(), FileFault> {
         match self.put_on_disk(held.fresh.as_slice()) {
             Ok(()) => {
                 held.fresh.clear();
@@ -299,7 +296,7 @@ impl Works {
                 let time = self.now.duration_since(conn.begun);
                 note_pull(rt, &mut self.peers, conn, ending);
                 if let Some(event) = event_of(conn, ending, time, is_verbose) {
-                    say(rt, alloc, event);
+                    log_event(rt, alloc, event);
                 }
             }
         }
@@ -320,12 +317,12 @@ impl Works {
         match fold_state(rt, alloc, closure, path) {
             Ok(Some(file)) => {
                 self.journal = Journal::of_file(rt, file, path)?;
-                say(rt, alloc, Event::Fold(self.journal.snapshot_bytes()));
+                log_event(rt, alloc, LogEvent::Fold(self.journal.snapshot_bytes()));
             }
             Ok(None) => self.journal.put_off(),
             Err(FoldFault::Kept(fault)) => {
                 self.journal.put_off();
-                say(rt, alloc, Event::FoldFault(fault.why));
+                log_event(rt, alloc, LogEvent::FoldFault(fault.why));
             }
             Err(FoldFault::Emptying(fault)) => return Err(fault),
         }
@@ -341,8 +338,17 @@ impl Works {
     }
 }
 
+// What the replica says of itself.
+fn running_status<'a>(journal: &Journal, peers: &'a Peers) -> RunningStatus<'a> {
+    RunningStatus {
+        snapshot_bytes: journal.snapshot_bytes(),
+        journal_bytes: journal.bytes(),
+        peers: peers.statuses(),
+    }
+}
+
 // Counts what a session brought.
-fn note_pull<R: Clock>(rt: &R, peers: &mut Peers, conn: &Connection, ending: Ending) {
+fn note_pull<R: Clock>(rt: &R, peers: &mut Peers, conn: &LiveConnection, ending: Ending) {
     if let Talk::Pull(talk) = &conn.talk {
         peers.end(ending, talk.taken(), unix_seconds(rt));
     }
@@ -356,12 +362,17 @@ fn unix_seconds<R: Clock>(rt: &R) -> Option<u64> {
 }
 
 // What is reported of a connection that has ended.
-fn event_of(conn: &Connection, ending: Ending, time: Duration, is_verbose: bool) -> Option<Event> {
+fn event_of(
+    conn: &LiveConnection,
+    ending: Ending,
+    time: Duration,
+    is_verbose: bool,
+) -> Option<LogEvent> {
     let is_said = is_verbose || ending != Ending::Well;
     match &conn.talk {
-        Talk::Pull(talk) => Some(Event::Pull(conn.peer?, talk.taken(), time, ending)),
-        Talk::Served(_) if is_said => Some(Event::Serve(conn.peer, time, ending)),
-        Talk::Local(_) if is_said => Some(Event::Local(time, ending)),
+        Talk::Pull(talk) => Some(LogEvent::Pull(conn.peer?, talk.taken(), time, ending)),
+        Talk::Served(_) if is_said => Some(LogEvent::Serve(conn.peer, time, ending)),
+        Talk::Local(_) if is_said => Some(LogEvent::Local(time, ending)),
         _ => None,
     }
 }
@@ -370,18 +381,18 @@ fn event_of(conn: &Connection, ending: Ending, time: Duration, is_verbose: bool)
 pub(crate) fn turn<C: Closure, R: Files<File = File> + Net + Clock + Eprint>(
     rt: &R,
     alloc: Global,
-    held: &mut Held<C>,
-    works: &mut Works,
+    held: &mut HeldState<C>,
+    running: &mut RunningReplica,
     events: &mut Events,
     settings: &Settings<'_, '_>,
 ) -> Result<bool, FileFault> {
-    works.wait(rt, alloc, events);
-    works.accept(rt, alloc);
-    works.begin_pull(rt, alloc, &held.closure, settings.most_bytes);
-    works.read(alloc, held);
-    works.commit(held)?;
-    works.write();
-    works.end_connections(rt, alloc, settings.is_verbose);
-    works.fold(rt, alloc, &held.closure, settings.state)?;
-    Ok(works.has_ended())
+    running.wait(rt, alloc, events);
+    running.accept(rt, alloc);
+    running.begin_pull(rt, alloc, &held.closure, settings.most_bytes);
+    running.read(alloc, held);
+    running.commit(held)?;
+    running.write();
+    running.end_connections(rt, alloc, settings.is_verbose);
+    running.fold(rt, alloc, &held.closure, settings.state)?;
+    Ok(running.has_ended())
 }

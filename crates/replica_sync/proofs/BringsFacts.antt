@@ -18,7 +18,7 @@ use Rattle.replica_core.proofs.ExchangeFacts.{lacking, named-held}
 use Rattle.replica_core.proofs.ContainsFacts.{each-from, each-to, filter-from, filter-to}
 use Rattle.replica_sync.specs.SessionRun.{known_run}
 use Rattle.replica_sync.specs.Pulling.{HasDistinctIds, PullsAll, after_gives, have_in}
-use Rattle.replica_sync.specs.Haves.{ServesAll}
+use Rattle.replica_sync.specs.Serving.{ServesAll}
 use Rattle.replica_sync.proofs.UnderstandingFacts.{all-asked, receipt-of-either, record-of-either}
 use Rattle.replica_sync.proofs.WelcomeFacts.{IsRisingState, exact-receipts, exact-records, meaning-within, rising-after, rising-joined, rising-meaning}
 use Rattle.replica_sync.proofs.WelcomeFacts.{within-after}

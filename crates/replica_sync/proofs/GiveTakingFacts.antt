@@ -5,17 +5,17 @@ use Rattle.fed_config.specs.Configuration.{Configuration, config_id_of}
 use Rattle.receipt_core.specs.Acceptance.{Meaning}
 use Rattle.replica_core.specs.State.{State, no_state}
 use Rattle.replica_core.specs.Session.{GiveMessage}
-use Rattle.replica_sync.specs.Snapshots.{ended, text_of_lines}
+use Rattle.replica_texts.specs.Snapshots.{ended, text_of_lines}
 use Rattle.replica_core.specs.declared.error.SyncError.{SyncError}
 use Rattle.replica_core.specs.declared.error.SyncError.TheVariants.{Io, NoMemory}
-use Rattle.replica_sync.proofs.SnapshotFacts.{consumes_both}
-use Rattle.replica_sync.specs.Messages.{give_header_of, give_header_text, give_text}
-use Rattle.replica_sync.specs.FirstLines.{Expected, IsGiveHeader}
-use Rattle.replica_sync.specs.Gives.{RefusesHead, content_lines}
-use Rattle.replica_sync.specs.Inside.Spelling.{HasHead, IsHeadLine, header_by_head}
+use Rattle.replica_texts.proofs.SnapshotFacts.{consumes_both}
+use Rattle.replica_texts.specs.Messages.{give_header_of, give_header_text, give_text}
+use Rattle.replica_texts.specs.FirstLines.{Expected, IsGiveHeader}
+use Rattle.replica_texts.specs.Gives.{RefusesHead, content_lines}
+use Rattle.replica_texts.specs.Inside.Spelling.{HasHead, IsHeadLine, header_by_head}
 use Rattle.replica_sync.specs.Inside.Taking.{StopsGive, StopsWithin, TakesLines, TakesGive}
-use Rattle.replica_sync.specs.declared.give_header_reader.Head.{Head}
-use Rattle.replica_sync.proofs.ContentFacts.{text_of_content}
+use Rattle.replica_texts.specs.declared.give_header_reader.Head.{Head}
+use Rattle.replica_texts.proofs.ContentFacts.{text_of_content}
 
 -- what a session wants of an answer
 abbrev pub wish : Configuration → ℕ → Option Expected

@@ -1,30 +1,6 @@
-mod HeaderFacts
-mod HeldFacts
-mod SnapshotFacts
-mod SoleLineFacts
-mod WritingFacts
-mod FeedFacts
-mod OneFacts
-mod DigestFacts
-mod CountFacts
-mod NextFacts
-mod ApartFacts
-mod GlueFacts
-mod PieceFacts
-mod ScanFacts
-mod HaveLineFacts
-mod GiveHeaderFacts
-mod IdListFacts
-mod FirstLineFacts
-mod FeedlessFacts
-mod OneHaveFacts
-pub mod ContentFacts
-mod GatherFacts
-pub mod GiveTakingFacts
-mod GiveFacts
-mod WrittenPieceFacts
+mod GiveTakingFacts
 mod ServingFacts
-pub mod TakingFacts
+mod TakingFacts
 pub mod PullingFacts
 mod WelcomeFacts
 mod SessionFacts
@@ -32,6 +8,11 @@ mod OwnMessageFacts
 mod UnderstandingFacts
 mod WorldFacts
 mod BringsFacts
-mod MessageFaultFacts
-mod SnapshotFaultFacts
+mod CutFacts
+mod ServedPieceFacts
+mod ServeLawFacts
+mod NewEntryFacts
+mod PulledPieceFacts
+mod PullStepFacts
+mod PullLawFacts
 mod StandardFacts

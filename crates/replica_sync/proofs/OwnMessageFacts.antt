@@ -26,12 +26,12 @@ use Rattle.replica_core.specs.State.{State, id_cmp, ids_held, is_of_bucket, rece
 use Rattle.replica_core.specs.Session.{HaveMessage, have_of, give_of, state_of}
 use Rattle.replica_core.proofs.BucketFacts.{digest-bytes}
 use Rattle.replica_core.proofs.RisingListFacts.{rising_nil}
-use Rattle.replica_sync.specs.Messages.{as_any_have, any_have_text, quoted}
-use Rattle.replica_sync.specs.Haves.{IsAskable}
-use Rattle.replica_sync.specs.Gives.{IsGive}
-use Rattle.replica_sync.proofs.GiveFacts.{short-number}
-use Rattle.replica_sync.proofs.HeldFacts.{lines_rise}
-use Rattle.replica_sync.proofs.IdListFacts.{later_text, length-quoted}
+use Rattle.replica_texts.specs.Messages.{as_any_have, any_have_text, quoted}
+use Rattle.replica_texts.specs.Haves.{IsAskable}
+use Rattle.replica_texts.specs.Gives.{IsGive}
+use Rattle.replica_texts.proofs.GiveFacts.{short-number}
+use Rattle.replica_texts.proofs.HeldFacts.{lines_rise}
+use Rattle.replica_texts.proofs.IdListFacts.{later_text, length-quoted}
 
 -- ---- digests
 

@@ -20,13 +20,12 @@ use Rattle.replica_core.specs.Session.{HaveMessage, GiveMessage, have_of, state_
 use Rattle.replica_core.specs.declared.error.SyncError.{SyncError}
 use Rattle.replica_core.specs.declared.error.SyncError.TheVariants.{BadHeader, ConfigDiffers, VersionDiffers, NotCanonical, NotRising, BadCount, Truncated}
 use Rattle.replica_core.specs.declared.error.SyncError.TheVariants.{Refused, Io, NoMemory}
-use Rattle.replica_sync.specs.SessionRun.{session_run}
-use Rattle.replica_sync.proofs.SnapshotFacts.{consumes_both}
-use Rattle.replica_sync.specs.Messages.{have_text, give_text}
-use Rattle.replica_sync.specs.Haves.{IsWritten}
+use Rattle.replica_sync.specs.SessionRun.{session_run, IsWritten}
+use Rattle.replica_texts.proofs.SnapshotFacts.{consumes_both}
+use Rattle.replica_texts.specs.Messages.{have_text, give_text}
 use Rattle.replica_sync.specs.Pulling.{AreGives, IsGiveAbout, PullsAll, PullsUpTo, Session, after_gives, line_count, have_in, haves_of}
 use Rattle.replica_sync.specs.Inside.Taking.{AskedUpTo, StopsGive, TakesGive}
-use Rattle.replica_sync.proofs.WrittenPieceFacts.{begins-second}
+use Rattle.replica_texts.proofs.WrittenPieceFacts.{begins-second}
 
 -- ---- one answer more
 

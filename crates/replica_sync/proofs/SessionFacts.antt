@@ -12,19 +12,20 @@ use Rattle.closure_core.specs.declared.error.TakeError.TheVariants.{NoMemory as 
 use Rattle.replica_core.specs.State.{State, joined, meaning_of_state}
 use Rattle.replica_core.specs.Session.{HaveMessage, GiveMessage, state_of}
 use Rattle.replica_sync.specs.SessionRun.{ReadSame, SessionRun}
-use Rattle.replica_sync.specs.Snapshots.{ended, last_of}
-use Rattle.replica_sync.specs.declared.entry_line.Wanted.{Wanted}
+use Rattle.replica_texts.specs.Snapshots.{ended, last_of}
+use Rattle.replica_texts.specs.declared.entry_line.Wanted.{Wanted}
 use Rattle.replica_core.specs.declared.error.SyncError.{SyncError}
 use Rattle.replica_core.specs.declared.error.SyncError.TheVariants.{BadHeader, ConfigDiffers, VersionDiffers, NotCanonical, NotRising, BadCount, Truncated}
 use Rattle.replica_core.specs.declared.error.SyncError.TheVariants.{Refused, Io, NoMemory}
-use Rattle.replica_sync.specs.Messages.{as_any_have, any_have_text, have_text, give_text}
-use Rattle.replica_sync.specs.Haves.{IsHaveOf, RefusesFurther, RefusesHave, ServesAll, ServesUpTo}
-use Rattle.replica_sync.specs.Entries.{IsRefused}
-use Rattle.replica_sync.specs.Gives.{IsContent, content_lines}
+use Rattle.replica_texts.specs.Messages.{as_any_have, any_have_text, have_text, give_text}
+use Rattle.replica_texts.specs.Haves.{IsHaveOf, RefusesFurther, RefusesHave}
+use Rattle.replica_sync.specs.Serving.{ServesAll, ServesUpTo}
+use Rattle.replica_texts.specs.Entries.{IsRefused}
+use Rattle.replica_texts.specs.Gives.{IsContent, content_lines}
 use Rattle.replica_sync.specs.Pulling.{AreGives, IsGiveAbout, PullsAll, PullsUpTo, RefusesGiveAbout, after_gives, line_count, refused_line}
-use Rattle.replica_sync.proofs.OneHaveFacts.{no-have-fault, same-have}
-use Rattle.replica_sync.proofs.GatherFacts.{short-entry}
-use Rattle.replica_sync.proofs.GiveFacts.{IsGood, no-fault-after, no-head-fault, same-give}
+use Rattle.replica_texts.proofs.OneHaveFacts.{no-have-fault, same-have}
+use Rattle.replica_texts.proofs.GatherFacts.{short-entry}
+use Rattle.replica_texts.proofs.GiveFacts.{IsGood, no-fault-after, no-head-fault, same-give}
 use Rattle.replica_sync.proofs.WelcomeFacts.{IsRisingState, meaning-within, none-refused, rising-joined, rising-meaning, within-after}
 
 -- ---- haves

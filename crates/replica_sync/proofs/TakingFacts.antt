@@ -2,30 +2,47 @@
 use Rattle.std.proofs.Common.{◌≡◌, ℕ, ◌+◌, List, [], ◌∷◌, ◌++◌, length, refl, sym, ap, ◌∙◌, subst, arith, length-append, Option, None, Some}
 use Rattle.std.specs.Io.KnownBytes.{Consumes}
 use Rattle.std.specs.List.Sorted.{IsStrictlySortedBy}
-use Rattle.receipt_core.specs.Receipt.{IsReceipt, IsDistrust}
+use Rattle.receipt_core.specs.Receipt.{IsReceipt, IsDistrust, receipt_cmp, distrust_cmp}
+use Rattle.receipt_core.specs.Rising.{with_items}
 use Rattle.receipt_core.specs.Acceptance.{Meaning}
 use Rattle.byte_lines.specs.Lines.{HasLine}
-use Rattle.replica_core.specs.State.{State, no_state}
+use Rattle.replica_core.specs.State.{State, no_state, meaning_of_state}
 use Rattle.replica_core.specs.Session.{state_of}
 use Rattle.std.proofs.KnownBytes.{Consumes-nil}
 use Rattle.replica_core.proofs.RisingListFacts.{rising_nil}
-use Rattle.replica_sync.specs.Snapshots.{last_of, text_of_lines}
-use Rattle.replica_sync.specs.Entries.{IsNextEntry, IsWanted, RefusesEntryLine, entry_line, placed_line}
-use Rattle.replica_sync.specs.Inside.EntrySteps.{TakesEntryText}
+use Rattle.replica_texts.specs.Snapshots.{last_of, text_of_lines}
+use Rattle.replica_texts.specs.Entries.{IsNextEntry, IsWanted, RefusesEntryLine, entry_line, placed_line}
+use Rattle.replica_texts.specs.Inside.EntrySteps.{TakesEntryText}
 use Rattle.replica_core.specs.Absorbing.{with_entry}
 use Rattle.replica_core.specs.declared.entry.Entry.{Entry}
 use Rattle.replica_core.specs.declared.entry.Entry.TheVariants.{Record, Receipt as AReceipt}
-use Rattle.replica_sync.specs.declared.entry_line.Wanted.{Wanted}
-use Rattle.replica_sync.specs.declared.entry_line.Wanted.TheVariants.{Records, Receipts, Either}
+use Rattle.replica_texts.specs.declared.entry_line.Wanted.{Wanted}
+use Rattle.replica_texts.specs.declared.entry_line.Wanted.TheVariants.{Records, Receipts, Either}
 use Rattle.replica_core.specs.declared.error.SyncError.{SyncError}
 use Rattle.replica_core.specs.declared.error.SyncError.TheVariants.{BadHeader, ConfigDiffers, VersionDiffers, NotCanonical, NotRising, BadCount, Truncated}
 use Rattle.replica_core.specs.declared.error.SyncError.TheVariants.{Refused, Io, NoMemory}
-use Rattle.replica_sync.proofs.HeldFacts.{text_cmp, last_pushed}
-use Rattle.replica_sync.specs.Gives.{content_lines, IsBegun, IsContent, RefusesNextEntry, Wants, next_entry_number}
-use Rattle.replica_sync.specs.Inside.Gathering.{pushed}
+use Rattle.replica_texts.proofs.HeldFacts.{text_cmp, last_pushed}
+use Rattle.replica_texts.specs.Gives.{content_lines, IsBegun, IsContent, RefusesNextEntry, Wants, next_entry_number}
+use Rattle.replica_texts.specs.Inside.Gathering.{pushed}
 use Rattle.replica_sync.specs.Pulling.{refused_line}
 use Rattle.replica_sync.specs.Inside.Taking.{meaning_gained, HasNotTaken, HasTakenPart, IsNextOf, RefusesTakingLine, StopsWithin, TakenSoFar, TakesNext}
-use Rattle.replica_sync.proofs.ContentFacts.{HasPlace, all_pushed, consumes_one, gained_pushed, lines_pushed, rising_pushed}
+use Rattle.replica_texts.proofs.ContentFacts.{HasPlace, all_pushed, consumes_one, joined_one, lines_pushed, rising_pushed}
+
+-- ---- what is held
+
+-- To hold one more entry is to hold all that was gained and this.
+pub gained_pushed : (old : Meaning) (content : State) (entry : Entry)
+    → with_entry entry (meaning_gained old content) ≡ meaning_gained old (pushed entry content)
+gained_pushed old content (Record x) =
+    ap (λ records. meaning_of_state old.config
+    (record { held = with_items receipt_cmp content.held old.held; records = records }))
+    (sym (joined_one distrust_cmp content.records old.records x))
+gained_pushed old content (AReceipt r) =
+    ap (λ held. meaning_of_state old.config (record {
+      held = held;
+      records =
+          with_items distrust_cmp content.records old.records;
+    })) (sym (joined_one receipt_cmp content.held old.held r))
 
 -- ---- so much of an answer
 

@@ -25,10 +25,11 @@ use Rattle.replica_core.specs.Session.{HaveMessage, GiveMessage, give_of, state_
 use Rattle.replica_core.specs.declared.error.SyncError.{SyncError}
 use Rattle.replica_core.specs.declared.error.SyncError.TheVariants.{BadHeader, ConfigDiffers, VersionDiffers, NotCanonical, NotRising, BadCount, Truncated}
 use Rattle.replica_core.specs.declared.error.SyncError.TheVariants.{Refused, Io, NoMemory}
-use Rattle.replica_sync.specs.SessionRun.{known_run, session_run}
+use Rattle.replica_sync.specs.SessionRun.{known_run, session_run, IsWritten}
 use Rattle.replica_sync.specs.declared.pulling.PullFault.{PullFault}
-use Rattle.replica_sync.specs.Messages.{have_text, give_text}
-use Rattle.replica_sync.specs.Haves.{IsHaveOf, IsWritten, ServesAll, ServesUpTo, gives_text}
+use Rattle.replica_texts.specs.Messages.{have_text, give_text}
+use Rattle.replica_texts.specs.Haves.{IsHaveOf}
+use Rattle.replica_sync.specs.Serving.{ServesAll, ServesUpTo, gives_text}
 use Rattle.replica_sync.specs.Pulling.{AreGives, PullsAll, PullsUpTo, Pulls, after_gives, line_count, have_in, haves_of}
 use Rattle.replica_sync.proofs.OwnMessageFacts.{answer-given, askable-have}
 use Rattle.replica_sync.proofs.PullingFacts.{longer_with_items}

@@ -21,12 +21,12 @@ use Rattle.replica_core.specs.Absorbing.{RefusesEntry}
 use Rattle.replica_core.specs.declared.entry.Entry.{Entry}
 use Rattle.replica_core.specs.declared.entry.Entry.TheVariants.{Record, Receipt as AReceipt}
 use Rattle.replica_core.proofs.FitFacts.{fits_right}
-use Rattle.replica_sync.specs.Entries.{IsRefused, IsWanted, entry_line}
-use Rattle.replica_sync.specs.declared.entry_line.Wanted.{Wanted}
-use Rattle.replica_sync.specs.declared.entry_line.Wanted.TheVariants.{Records, Receipts, Either}
-use Rattle.replica_sync.specs.Gives.{IsContent, content_lines}
+use Rattle.replica_texts.specs.Entries.{IsRefused, IsWanted, entry_line}
+use Rattle.replica_texts.specs.declared.entry_line.Wanted.{Wanted}
+use Rattle.replica_texts.specs.declared.entry_line.Wanted.TheVariants.{Records, Receipts, Either}
+use Rattle.replica_texts.specs.Gives.{IsContent, content_lines}
 use Rattle.replica_sync.specs.Pulling.{after_gives}
-use Rattle.replica_sync.proofs.OneFacts.{apart}
+use Rattle.replica_texts.proofs.OneFacts.{apart}
 use Rattle.replica_sync.proofs.PullingFacts.{longer_with_items}
 
 -- ---- what is held only grows

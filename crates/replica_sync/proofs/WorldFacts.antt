@@ -24,17 +24,16 @@ use Rattle.replica_core.proofs.ExchangeFacts.{absorbed-is, answered-is, asked-is
 use Rattle.replica_core.specs.declared.error.SyncError.{SyncError}
 use Rattle.replica_core.specs.declared.error.SyncError.TheVariants.{Io, NoMemory}
 use Rattle.replica_sync.specs.SessionRun.{known_run}
-use Rattle.replica_sync.specs.Snapshots.{ended, text_of_lines}
-use Rattle.replica_sync.specs.Messages.{give_text}
-use Rattle.replica_sync.specs.Gives.{GiveBegins, content_lines}
+use Rattle.replica_texts.specs.Snapshots.{ended, text_of_lines}
+use Rattle.replica_texts.specs.Messages.{give_text}
+use Rattle.replica_texts.specs.Gives.{GiveBegins, content_lines}
 use Rattle.replica_sync.specs.Events.{EndsCut, Link, cut_exchange, whole_exchange, whole_exchanges}
 use Rattle.replica_sync.specs.Pulling.{AreGives, IsGiveAbout, PullsAll, PullsUpTo, RefusesGiveAbout, after_gives, line_count, have_in, haves_of}
-use Rattle.replica_sync.specs.Haves.{ServesAll}
+use Rattle.replica_sync.specs.Serving.{ServesAll}
 use Rattle.replica_sync.proofs.SessionFacts.{both-gives, joined-texts, give_texts}
-use Rattle.replica_sync.proofs.GiveFacts.{is-part, same-give}
+use Rattle.replica_texts.proofs.GiveFacts.{is-part, same-give}
 use Rattle.replica_sync.proofs.OwnMessageFacts.{answer-given}
-use Rattle.replica_sync.proofs.UnderstandingFacts.{all-asked, all-gives, last-asked, length-asked, own-have, part-asked, gives-in-turn, replied-is}
-use Rattle.replica_sync.proofs.UnderstandingFacts.{whole-asked}
+use Rattle.replica_sync.proofs.UnderstandingFacts.{all-asked, all-gives, last-asked, length-asked, own-have, part-asked, gives-in-turn, replied-is, whole-asked}
 use Rattle.replica_sync.proofs.WelcomeFacts.{IsWithin, meaning-within, rising-after, rising-meaning, within-after, within-itself, within-joined}
 
 -- ---- one event

@@ -1,15 +1,10 @@
--- What a caller cites stands in the first ten; `Inside` has what the records of the code say, and
--- the steps of reading, writing and sessions.
-pub mod Entries
-pub mod Snapshots
-pub mod WrittenSnapshot
-pub mod Writing
-pub mod Messages
-pub mod FirstLines
+-- What a caller cites stands in the first eight; `Inside` has the steps of sessions.
 pub mod SessionRun
-pub mod Haves
-pub mod Gives
+pub mod Serving
 pub mod Pulling
 pub mod Events
-pub mod SoleLines
+pub mod Pieces
+pub mod ServedPieces
+pub mod PulledPieces
+pub mod PullSessions
 pub mod Inside

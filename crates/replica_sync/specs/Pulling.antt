@@ -7,15 +7,14 @@ use Rattle.receipt_core.specs.Receipt.{Receipt, receipt_id_of}
 use Rattle.receipt_core.specs.Acceptance.{Meaning}
 use Rattle.replica_core.specs.State.{State, no_state, joined, meaning_of_state}
 use Rattle.replica_core.specs.Session.{HaveMessage, GiveMessage, have_of, state_of}
-use Rattle.replica_sync.specs.Entries.{RefusesEntryLine, placed_line}
-use Rattle.replica_sync.specs.declared.entry_line.Wanted.{Wanted}
+use Rattle.replica_texts.specs.Entries.{RefusesEntryLine, placed_line}
+use Rattle.replica_texts.specs.declared.entry_line.Wanted.{Wanted}
 use Rattle.replica_core.specs.declared.error.SyncError.{SyncError}
-use Rattle.replica_sync.specs.Messages.{have_text, give_text}
-use Rattle.replica_sync.specs.Snapshots.{is_io}
-use Rattle.replica_sync.specs.Gives.{IsGive, GiveBegins, RefusesHead, RefusesNextEntry}
-use Rattle.replica_sync.specs.Gives.{next_entry_number}
-use Rattle.replica_sync.specs.SessionRun.{SessionRun}
-use Rattle.replica_sync.specs.Haves.{IsWritten}
+use Rattle.replica_texts.specs.Messages.{have_text, give_text}
+use Rattle.replica_texts.specs.Snapshots.{is_io}
+use Rattle.replica_texts.specs.Gives.{IsGive, GiveBegins, RefusesHead, RefusesNextEntry}
+use Rattle.replica_texts.specs.Gives.{next_entry_number}
+use Rattle.replica_sync.specs.SessionRun.{SessionRun, IsWritten}
 use Rattle.replica_sync.specs.declared.pulling.PullFault.{PullFault}
 
 -- It is an answer of this configuration about the bucket.

@@ -1,5 +1,9 @@
 -- What a session does to its devices, in the words that sessions of both sides share.
 use Rattle.std.specs.Prelude.{◌≡◌, ℕ, List, [], Option, Some}
+use Rattle.std.specs.Io.KnownBytes.{Appends}
+use Rattle.byte_lines.specs.Device.{AppendsBeginning}
+use Rattle.replica_core.specs.declared.error.SyncError.{SyncError}
+use Rattle.replica_core.specs.declared.error.SyncError.TheVariants.{Io, NoMemory}
 
 -- The bytes that the source has when the session begins, and those that the sink holds before and
 -- after it, where the devices tell them.
@@ -18,3 +22,9 @@ known_run read written = session_run (Some read) (Some []) (Some written)
 -- Both have the same bytes to read, and the devices tell them.
 abbrev pub ReadSame : SessionRun → SessionRun → Type 0
 ReadSame one other = (bytes : List ℕ) × (one.source ≡ Some bytes) × (other.source ≡ Some bytes)
+
+-- all that was due is written; where the device failed or memory ran out, a beginning of it
+abbrev pub IsWritten : SyncError → Option (List ℕ) → Option (List ℕ) → List ℕ → Type 0
+IsWritten Io old new text = AppendsBeginning old new text
+IsWritten NoMemory old new text = AppendsBeginning old new text
+IsWritten _ old new text = Appends old new text

@@ -1,95 +1,98 @@
-//! What is so of every snapshot and of every stream of messages; the laws of worlds are handed on.
-//! A call that needs a law calls its function, which does nothing, and cites what it ensures.
+//! What is so of every session; the laws of worlds and of texts are handed on. A call that needs a
+//! law calls its function, which does nothing, and cites what it ensures.
 ghost use Rattle.std.specs.Prelude.{◌≡◌, ◌≢◌, ◌++◌, ◌<◌, [], IfErr, List, Option, Result, Some};
-ghost use Rattle.std.specs.Prelude.{length, true, ℕ};
-ghost use Rattle.std.specs.Io.KnownBytes.{Consumes};
-ghost use Rattle.fed_config.specs.Configuration.{Configuration, IsConfiguration, config_id_of};
-ghost use Rattle.byte_lines.specs.Lines.{HasNoFeed};
+ghost use Rattle.std.specs.Prelude.{length, true, ℕ, ◌∷◌, drop, None, Ok, Err};
+ghost use Rattle.fed_config.specs.Configuration.{IsConfiguration, config_id_of};
+ghost use Rattle.byte_lines.specs.Lines.{lines_of, with_line};
 ghost use Rattle.receipt_core.specs.Acceptance.{Meaning, IsMeaning};
 ghost use Rattle.closure_core.specs.declared.error.TakeError.{TakeError};
 ghost use Rattle.replica_core.specs.Convergence.{AreEvents, HasAll, Settles};
-ghost use Rattle.replica_core.specs.Session.{HaveMessage, GiveMessage, have_of, give_of, state_of};
+ghost use Rattle.replica_core.specs.Session.{HaveMessage, have_of, give_of, state_of};
 ghost use Rattle.replica_core.specs.State.{is_within_limits, joined, meaning_of_state};
 ghost use Rattle.replica_core.specs.World.{World, WorldRun, rules_of, rules_in, run_from};
 ghost use Rattle.replica_core.specs.World.{world_after, held_by, followed_by};
-ghost use Rattle.replica_core.specs.declared.entry.Entry.{Entry};
 ghost use Rattle.replica_core.specs.declared.event.Event.{Event};
 ghost use Rattle.replica_core.specs.declared.error.SyncError.{SyncError};
 ghost use Rattle.replica_core.specs.declared.error.SyncError.TheVariants.{Io, NoMemory, Refused};
-ghost use Rattle.replica_sync.specs.Entries.{entry_line};
-ghost use Rattle.replica_sync.specs.Messages.{have_text, give_text};
-ghost use Rattle.replica_sync.specs.FirstLines.{HasDigestOf};
-ghost use Rattle.replica_sync.specs.Haves.{IsAskable, RefusesHave, ServesAll, ServesUpTo};
-ghost use Rattle.replica_sync.specs.Gives.{IsGive, RefusesGive};
+ghost use Rattle.replica_core.specs.declared.error.SyncError.TheVariants.{Truncated};
+ghost use Rattle.replica_texts.specs.Haves.{IsAskable};
+ghost use Rattle.replica_sync.specs.Serving.{ServesAll, ServesUpTo, Serves};
+ghost use Rattle.replica_texts.specs.Gives.{IsGive};
 ghost use Rattle.replica_sync.specs.SessionRun.{ReadSame, SessionRun, known_run, session_run};
 ghost use Rattle.replica_sync.specs.Events.{EndsCut, whole_exchanges};
 ghost use Rattle.replica_sync.specs.Pulling.{HasDistinctIds, Pulls, PullsAll, PullsUpTo};
-ghost use Rattle.replica_sync.specs.Snapshots.{IsSnapshot, RefusesSnapshot, snapshot_text};
-ghost use Rattle.replica_sync.specs.SoleLines.{IsWellFormed, written_header};
-ghost use Rattle.replica_sync.specs.declared.format.Format.TheVariants.{Second};
+ghost use Rattle.replica_texts.specs.WrittenSnapshot.{written_snapshot};
 ghost use Rattle.replica_sync.specs.declared.pulling.PullFault.{PullFault};
+ghost use Rattle.replica_sync.specs.Pieces.{EndsLine, GoesOn, PieceRun};
+ghost use Rattle.replica_sync.specs.PulledPieces.{AreAlone, PulledPiece, bytes_pulled};
+ghost use Rattle.replica_sync.specs.PullSessions.{HasPulledPieces, IsOverPulling, count_of_pulling};
+ghost use Rattle.replica_sync.specs.PullSessions.{due_have, fault_of_pulling};
+ghost use Rattle.replica_sync.specs.ServedPieces.{Came, HasServedPieces, IsStill, bytes_came};
+ghost use Rattle.replica_sync.specs.ServedPieces.{due_give, fault_of_serving, kept_have};
+ghost use Rattle.replica_sync.specs.ServedPieces.{lines_came};
+ghost use Rattle.replica_sync.specs.declared.piece_pulling.Pulling.{Pulling};
+ghost use Rattle.replica_sync.specs.declared.piece_serving.Serving.{Serving};
 
 pub use replica_core::laws::{agreement, effects, exchange, persistence, provenance, validity};
+pub use replica_texts::laws::{gives, haves, snapshots, sole_lines};
 
-/// What a stream says is one: it is the text of one set at most, and none that a replica of a valid
-/// configuration reads has a fault. Only a source that fails, or lack of memory, may keep it from
-/// being read.
-///
-/// - `one`: of two sets whose text it is, both are the same.
-/// - `read`: it has no fault where it is the text of a set.
-/// - `one_cause`: where it is none, it has one fault.
-pub fn snapshots()
-    ensures one { (config : Configuration) (bytes : List ℕ) (m n : Meaning)
-        → IsSnapshot config (Some bytes) m → IsSnapshot config (Some bytes) n → m ≡ n }
-    ensures read { (config : Configuration) (bytes : List ℕ) (m : Meaning) (e : SyncError)
-        → IsConfiguration config → e ≢ Io → e ≢ NoMemory
-        → IsSnapshot config (Some bytes) m → RefusesSnapshot config (Some bytes) e → ⊥ }
-    ensures one_cause { (config : Configuration) (bytes : List ℕ) (d e : SyncError)
-        → IsConfiguration config → d ≢ Io → d ≢ NoMemory → e ≢ Io → e ≢ NoMemory
-        → RefusesSnapshot config (Some bytes) d → RefusesSnapshot config (Some bytes) e → d ≡ e }
+/// A line that ends in a piece is the first line of what was kept, of the piece, and of all that
+/// comes after it; and what is kept within a line is what came. So the lines are those of the whole
+/// stream, wherever it is cut.
+pub fn cuts()
+    ensures ends { (run : PieceRun) (used : ℕ) (after text : List ℕ) → EndsLine run used text
+        → lines_of ((run.old ++ run.piece) ++ after)
+        ≡ with_line text (lines_of (drop used run.piece ++ after)) }
+    ensures goes_on { (run : PieceRun) (new after : List ℕ) → GoesOn run new
+        → lines_of ((run.old ++ run.piece) ++ after) ≡ lines_of (new ++ after) }
+    ensures rests { (run : PieceRun) (new : List ℕ) → GoesOn run new
+        → lines_of (run.old ++ run.piece) ≡ record { whole = []; rest = new } }
 {}
 
-/// What a stream asks is one, and a have that a line can ask is read. Only a source that fails,
-/// or lack of memory, may keep it from being read.
+/// Where what is held does not change, a session whose haves come in pieces does what `serve_one`
+/// does over the joined bytes, wherever they are cut.
 ///
-/// - `one`: of two haves that it begins with, both are the same, and so is what follows them.
-/// - `read`: where it begins with a have, of the configuration if one is wanted, it has no
-///   fault there.
-/// - `one_cause`: where it begins with none, it has one fault there.
-pub fn haves()
-    ensures one { (bytes : List ℕ) (p q : HaveMessage) (left rest : Option (List ℕ))
-        → IsAskable p → IsAskable q
-        → Consumes (Some bytes) left (have_text p)
-        → Consumes (Some bytes) rest (have_text q)
-        → (p ≡ q) × (left ≡ rest) }
-    ensures read { (config : Option Configuration) (bytes : List ℕ) (q : HaveMessage)
-        (left new : Option (List ℕ)) (e : SyncError)
-        → IsAskable q → HasDigestOf config q.config → e ≢ Io → e ≢ NoMemory
-        → Consumes (Some bytes) left (have_text q) → RefusesHave config (Some bytes) new e
-        → ⊥ }
-    ensures one_cause { (config : Option Configuration) (bytes : List ℕ)
-        (new since : Option (List ℕ)) (d e : SyncError) → d ≢ Io → d ≢ NoMemory → e ≢ Io
-        → e ≢ NoMemory → RefusesHave config (Some bytes) new d
-        → RefusesHave config (Some bytes) since e → d ≡ e }
+/// - `all`: where the stream ends after whole haves.
+/// - `cut`: where it ends within a have.
+/// - `stopped`: at a fault. It is the one that ends such a session of `serve_one` as soon as a line
+///   feed comes.
+pub fn served_pieces()
+    ensures all { (s : Serving) (m : Meaning) (came : List Came) (written : List ℕ)
+        → HasServedPieces s came written → IsStill m came → fault_of_serving s ≡ None
+        → kept_have s ≡ [] → due_give s ≡ []
+        → Serves (known_run (bytes_came came) written) m (Ok (length (lines_came came).lines)) }
+    ensures cut { (s : Serving) (m : Meaning) (came : List Came) (written : List ℕ)
+        → HasServedPieces s came written → IsStill m came → fault_of_serving s ≡ None
+        → (kept_have s ≡ [] → ⊥) → due_give s ≡ []
+        → Serves (known_run (bytes_came came) written) m (Err Truncated) }
+    ensures stopped { (s : Serving) (m : Meaning) (came : List Came)
+        (written more after : List ℕ) (e : SyncError)
+        → HasServedPieces s came written → IsStill m came → fault_of_serving s ≡ Some e
+        → due_give s ≡ []
+        → Serves (known_run (bytes_came came ++ (more ++ (10 ∷ after))) written) m (Err e) }
 {}
 
-/// What a stream answers is one, and an answer that is there to its last byte is read. Only a
-/// source that fails, or lack of memory, may keep it from being read.
+/// Where nothing else changes what is held, a session whose answers come in pieces does what `pull`
+/// does over the joined bytes, wherever they are cut.
 ///
-/// - `one`: of two answers that it begins with, both are the same, and so is what follows them.
-/// - `read`: where it begins with a whole answer, it has no fault before that answer's end.
-/// - `one_cause`: where it begins with none, it has one fault.
-pub fn gives()
-    ensures one { (bytes : List ℕ) (a b : GiveMessage) (left rest : Option (List ℕ))
-        → IsGive a → IsGive b
-        → Consumes (Some bytes) left (give_text a) → Consumes (Some bytes) rest (give_text b)
-        → (a ≡ b) × (left ≡ rest) }
-    ensures read { (bytes : List ℕ) (a : GiveMessage) (left new : Option (List ℕ)) (e : SyncError)
-        → IsGive a → e ≢ Io → e ≢ NoMemory
-        → Consumes (Some bytes) left (give_text a) → RefusesGive (Some bytes) new e → ⊥ }
-    ensures one_cause { (bytes : List ℕ) (new since : Option (List ℕ)) (d e : SyncError)
-        → d ≢ Io → d ≢ NoMemory → e ≢ Io → e ≢ NoMemory
-        → RefusesGive (Some bytes) new d → RefusesGive (Some bytes) since e → d ≡ e }
+/// - `all`: after the last answer.
+/// - `cut`: where the stream ends before it.
+/// - `stopped`: at a fault. It is the one that ends such a `pull` as soon as a line feed comes.
+pub fn pulled_pieces()
+    ensures all { (p : Pulling) (m held : Meaning) (came : List PulledPiece) (written : List ℕ)
+        → HasPulledPieces p m came written → AreAlone m came held → fault_of_pulling p ≡ None
+        → IsOverPulling p → due_have p ≡ []
+        → Pulls (known_run (bytes_pulled came) written) m held (Ok (count_of_pulling p)) }
+    ensures cut { (p : Pulling) (m held : Meaning) (came : List PulledPiece) (written : List ℕ)
+        → HasPulledPieces p m came written → AreAlone m came held → fault_of_pulling p ≡ None
+        → (IsOverPulling p → ⊥) → due_have p ≡ []
+        → Pulls (known_run (bytes_pulled came) written) m held
+        (Err (record { why = Truncated; taken = count_of_pulling p })) }
+    ensures stopped { (p : Pulling) (m held : Meaning) (came : List PulledPiece)
+        (written more after : List ℕ) (e : SyncError)
+        → HasPulledPieces p m came written → AreAlone m came held → fault_of_pulling p ≡ Some e
+        → Pulls (known_run (bytes_pulled came ++ (more ++ (10 ∷ after))) written) m held
+        (Err (record { why = e; taken = count_of_pulling p })) }
 {}
 
 /// No session is both carried out and ended by a fault of its stream, and what it does is
@@ -179,8 +182,8 @@ pub fn convergence()
     ensures same_snapshots { (past : WorldRun) (since : List Event) (i j : ℕ)
         → AreEvents past.events → i < past.replicas → j < past.replicas
         → Settles (rules_in past) (world_after past) since
-        → snapshot_text Second (meaning_of_state past.config (held_by (followed_by past since) i))
-        ≡ snapshot_text Second
+        → written_snapshot (meaning_of_state past.config (held_by (followed_by past since) i))
+        ≡ written_snapshot
         (meaning_of_state past.config (held_by (followed_by past since) j)) }
 {
     agreement();
@@ -214,10 +217,4 @@ pub fn world_of_sessions()
         → bytes ++ lost ≡ replied ++ rest
         → PullsUpTo (known_run bytes asked) m held e → e ≢ Io → e ≢ NoMemory
         → EndsCut (rules_of m.config n) w (record { puller = i; server = j }) (state_of held) }
-{}
-
-/// No line of a receipt or a record has a line feed in it, and no first line of a snapshot has one.
-pub fn sole_lines()
-    ensures first { (config : Configuration) → HasNoFeed (written_header config) }
-    ensures entry { (entry : Entry) → IsWellFormed entry → HasNoFeed (entry_line entry) }
 {}

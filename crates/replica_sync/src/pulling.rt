@@ -4,20 +4,19 @@ ghost use Rattle.std.specs.Prelude.{true, false};
 ghost use Rattle.std.specs.Io.KnownBytes.{Appends};
 ghost use Rattle.byte_lines.specs.Streams.{stream_of, left_of};
 ghost use Rattle.replica_core.specs.Session.{have_of};
-ghost use Rattle.replica_sync.specs.Messages.{have_text, WritesText};
-ghost use Rattle.replica_sync.specs.Snapshots.{is_io};
-ghost use Rattle.replica_sync.specs.SessionRun.{session_run};
-ghost use Rattle.replica_sync.specs.Haves.{IsWritten};
+ghost use Rattle.replica_texts.specs.Messages.{have_text, WritesText};
+ghost use Rattle.replica_texts.specs.Snapshots.{is_io};
+ghost use Rattle.replica_sync.specs.SessionRun.{session_run, IsWritten};
 ghost use Rattle.replica_sync.specs.Pulling.{Pulls, PullsAll, PullsUpTo, is_pull_io};
 ghost use Rattle.replica_sync.specs.Inside.Taking.{TakesGive, StopsGive};
 ghost use Rattle.replica_core.specs.declared.error.SyncError.TheVariants.{Io, NoMemory};
 
-use crate::have_writer::write_have;
 use crate::taking::{Place, take_give};
 use byte_lines::{LineBuf, Sink, Source};
 use closure_core::Closure;
 use receipt_core::KnownParts;
 use replica_core::{SyncError, have};
+use replica_texts::write_have;
 use std::alloc::Global;
 use thiserror::Error;
 

@@ -1,17 +1,16 @@
 //! Sessions that are served.
 ghost use Rattle.std.specs.Prelude.{◌≡◌, ◌<◌, ◌⊎◌, IfOk, IsErrOf, true, false};
 ghost use Rattle.byte_lines.specs.Streams.{stream_of, left_of};
-ghost use Rattle.replica_sync.specs.Snapshots.{is_io};
+ghost use Rattle.replica_texts.specs.Snapshots.{is_io};
 ghost use Rattle.replica_sync.specs.SessionRun.{session_run};
-ghost use Rattle.replica_sync.specs.Haves.{Serves};
+ghost use Rattle.replica_sync.specs.Serving.{Serves};
 ghost use Rattle.replica_sync.specs.Inside.Serving.{ServesNext};
 ghost use Rattle.replica_core.specs.declared.error.SyncError.TheVariants.{Io};
 
-use crate::give_writer::write_answer;
-use crate::have_reader::next_own;
 use byte_lines::{LineBuf, Sink, Source};
 use closure_core::Closure;
 use replica_core::{SyncError, answer};
+use replica_texts::{next_own, write_answer};
 use std::alloc::Global;
 
 /// Answers the haves of the source, one after another, until it ends where a have would

@@ -2,18 +2,17 @@
 ghost use Rattle.std.specs.Prelude.{◌≡◌, ◌+◌, ◌<◌, ◌≤◌, ◌^◌, ◌⊎◌, ◌||◌, true, [], OnOk, IfErr};
 ghost use Rattle.std.specs.Prelude.{IsErrOf, MatchResult, Some};
 ghost use Rattle.byte_lines.specs.Streams.{stream_of, left_of};
-ghost use Rattle.replica_sync.specs.Snapshots.{is_io};
+ghost use Rattle.replica_texts.specs.Snapshots.{is_io};
 ghost use Rattle.replica_sync.specs.Inside.Taking.{TakesGive, StopsGive, TakesLines, StopsWithin};
 ghost use Rattle.replica_sync.specs.Inside.Taking.{IsNextOf, TakesNext, HasNotTaken, TakesHere};
 ghost use Rattle.replica_sync.specs.Inside.Taking.{HasRefusedHere};
 ghost use Rattle.replica_core.specs.declared.error.SyncError.TheVariants.{Io};
 
-use crate::entry_line::{Wanted, take_line};
-use crate::give_header_reader::{Expected, Head, next_head};
 use byte_lines::{Line, LineBuf, Source};
 use closure_core::Closure;
 use receipt_core::KnownParts;
 use replica_core::SyncError;
+use replica_texts::{Expected, Head, Wanted, next_head, take_line};
 use std::alloc::Global;
 
 /// How far the answers of a session were read: how many lines, and the last one of those after the

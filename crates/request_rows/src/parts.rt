@@ -1,6 +1,6 @@
 //! The bytes of a request, in pieces, and the replies of faults.
-use local_requests::{RequestFault, RequestParts};
-use replica_requests::read_reply_head;
+use local_answers::{RequestFault, RequestParts};
+use request_lines::read_reply_head;
 use std::alloc::{AllocError, Global};
 use std::str;
 

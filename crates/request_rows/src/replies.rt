@@ -1,6 +1,6 @@
 //! The first lines of replies.
 use crate::requests::text_of;
-use replica_requests::{ReplyHead, read_reply_head, write_reply_head};
+use request_lines::{ReplyHead, read_reply_head, write_reply_head};
 use std::alloc::{AllocError, Global};
 
 pub(crate) fn read(alloc: Global, line: &[u8], answer: &mut String) -> Result<(), AllocError> {

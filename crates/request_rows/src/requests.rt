@@ -1,5 +1,5 @@
 //! The words of requests.
-use replica_requests::{RequestError, read_request_words, write_request_words};
+use request_lines::{RequestError, read_request_words, write_request_words};
 use std::alloc::{AllocError, Global};
 
 pub(crate) fn read(alloc: Global, line: &[u8], answer: &mut String) -> Result<(), AllocError> {

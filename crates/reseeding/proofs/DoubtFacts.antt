@@ -60,16 +60,14 @@ listed m domain d some = record { given = some.item; held = some.has; of_domain 
 pub listed_back : (m : Meaning) (domain : List ℕ) (d : Bundle) → ListsDistrusted m domain d → HasSome (IsListedRecord domain d) m.records
 listed_back m domain d lists = record { item = lists.given; has = lists.held; is = (lists.of_domain, lists.lists) }
 
--- a document of this sequence number that is another one
-abbrev pub IsOther : ℕ → Bundle → Bundle → Type 0
-IsOther sequence d rival = (rival.rank ≡ Some sequence) × (canonical_text rival ≢ canonical_text d)
+-- a document with the same sequence number, or with none as this one, that is another one
+abbrev pub IsOther : Bundle → Bundle → Type 0
+IsOther d rival = (rival.rank ≡ d.rank) × (canonical_text rival ≢ canonical_text d)
 
 -- some accepted document is one of this kind
-pub rivals : (m : Meaning) (domain : List ℕ) (d : Bundle) (sequence : ℕ) (documents : List Bundle) → IsAcceptedList m domain documents
-    → d.rank ≡ Some sequence → HasSome (IsOther sequence d) documents → HasRival m domain d
-rivals m domain d sequence documents are numbered some = record {
-  sequence = sequence;
-  numbered = numbered;
+pub rivals : (m : Meaning) (domain : List ℕ) (d : Bundle) (documents : List Bundle) → IsAcceptedList m domain documents
+    → HasSome (IsOther d) documents → HasRival m domain d
+rivals m domain d documents are some = record {
   rival = some.item;
   accepted = are.sound some.item some.has;
   same = some.is.0;
@@ -77,10 +75,10 @@ rivals m domain d sequence documents are numbered some = record {
 }
 
 -- and the other way
-pub rivals_back : (m : Meaning) (domain : List ℕ) (d : Bundle) (sequence : ℕ) (documents : List Bundle) → IsAcceptedList m domain documents
-    → d.rank ≡ Some sequence → HasRival m domain d → HasSome (IsOther sequence d) documents
-rivals_back m domain d sequence documents are numbered has = record {
+pub rivals_back : (m : Meaning) (domain : List ℕ) (d : Bundle) (documents : List Bundle) → IsAcceptedList m domain documents
+    → HasRival m domain d → HasSome (IsOther d) documents
+rivals_back m domain d documents are has = record {
   item = has.rival;
   has = are.complete has.rival has.accepted;
-  is = (has.same ∙ sym has.numbered ∙ numbered, has.other);
+  is = (has.same, has.other);
 }

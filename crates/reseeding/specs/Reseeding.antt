@@ -1,6 +1,6 @@
 -- The configuration of a start anew, and which domains are refused.
 use Rattle.std.specs.Prelude.{◌≡◌, ◌≢◌, ℕ, List, [], ◌∷◌, ◌++◌, map, flat_map, codes, Bool, false}
-use Rattle.std.specs.Prelude.{Contains, Option, Some, None, cond}
+use Rattle.std.specs.Prelude.{Contains, Option, Some, None, IsSome, cond}
 use Rattle.std.specs.Str.{bytes_eq}
 use Rattle.bundle_doc.specs.Bundle.{Bundle, HasKeyId, canonical_text}
 use Rattle.fed_config.specs.Configuration.{AreDomains, Configuration, config_text}
@@ -11,6 +11,7 @@ use Rattle.closure_core.specs.AcceptedList.{document_of}
 use Rattle.bundle_view.specs.Current.{IsCurrent}
 use Rattle.reseeding.specs.declared.doubt.SeedDoubt.{SeedDoubt}
 use Rattle.reseeding.specs.declared.doubt.SeedDoubt.TheVariants.{DistrustedKey, Rival}
+use Rattle.reseeding.specs.declared.doubt.SeedDoubt.TheVariants.{Unnumbered}
 use Rattle.reseeding.specs.declared.starting_anew.Reseeded.{Reseeded}
 use Rattle.reseeding.specs.declared.starting_anew.Reseeded.TheVariants.{NewConfig, Refusals}
 
@@ -23,20 +24,22 @@ pub record ListsDistrusted (m : Meaning) (domain : List ℕ) (d : Bundle) : Type
   pub of_domain : given.domain ≡ domain
   pub lists : HasKeyId d.authorities given.key
 
--- Another accepted document of the domain has the same sequence number.
+-- Another accepted document of the domain has the same sequence number, or has none as this one:
+-- which of them is current is decided by their texts alone.
 pub record HasRival (m : Meaning) (domain : List ℕ) (d : Bundle) : Type 0 where
-  pub sequence : ℕ
-  pub numbered : d.rank ≡ Some sequence
   pub rival : Bundle
   pub accepted : IsMember m (document_of domain rival)
-  pub same : rival.rank ≡ Some sequence
+  pub same : rival.rank ≡ d.rank
   pub other : canonical_text rival ≢ canonical_text d
 
--- what stands against the document, the first of the two where both do
+-- what stands against the document: a distrusted key is named before a rival
 abbrev pub IsDoubt : Meaning → List ℕ → Bundle → Option SeedDoubt → Type 0
 IsDoubt m domain d None = (ListsDistrusted m domain d → ⊥) × (HasRival m domain d → ⊥)
 IsDoubt m domain d (Some DistrustedKey) = ListsDistrusted m domain d
 IsDoubt m domain d (Some Rival) = (ListsDistrusted m domain d → ⊥) × HasRival m domain d
+    × IsSome d.rank
+IsDoubt m domain d (Some Unnumbered) = (ListsDistrusted m domain d → ⊥) × HasRival m domain d
+    × (d.rank ≡ None)
 
 -- the same of a domain's current document, where there is one
 abbrev pub IsDoubtOf : Meaning → List ℕ → Option Bundle → Option SeedDoubt → Type 0
@@ -48,6 +51,7 @@ IsDoubtOf m domain (Some d) why = IsDoubt m domain d why
 abbrev pub doubt_text : SeedDoubt → List ℕ
 doubt_text DistrustedKey = codes ": the current bundle lists a distrusted key\n"
 doubt_text Rival = codes ": another bundle has the current one's sequence\n"
+doubt_text Unnumbered = codes ": another bundle has no sequence either\n"
 
 -- the domain that is allowed, whatever stands against it, if one is
 abbrev pub is_allowed : Option (List ℕ) → List ℕ → Bool

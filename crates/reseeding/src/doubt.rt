@@ -1,5 +1,5 @@
 //! What stands against a domain's current document as a seed.
-ghost use Rattle.std.specs.Prelude.{◌≡◌, ◌≢◌, ◌↔◌, IsTrue, Some};
+ghost use Rattle.std.specs.Prelude.{◌≡◌, ◌≢◌, ◌↔◌, IsTrue};
 ghost use Rattle.bundle_doc.specs.Bundle.{HasKeyId, canonical_text};
 ghost use Rattle.reseeding.specs.Reseeding.{HasRival, IsDoubt, ListsDistrusted};
 
@@ -15,6 +15,8 @@ pub enum SeedDoubt {
     DistrustedKey,
     /// Another accepted document of the domain has its sequence number.
     Rival,
+    /// It has no sequence number, and another accepted document of the domain has none either.
+    Unnumbered,
 }
 
 /// What stands against the document, which is a domain's current one.
@@ -28,10 +30,13 @@ pub(crate) fn doubt_of<C: Closure>(
     if lists_distrusted(closure, domain, document) {
         return Some(SeedDoubt::DistrustedKey);
     }
-    if has_rival(closure, domain, document) {
-        return Some(SeedDoubt::Rival);
+    if !has_rival(closure, domain, document) {
+        return None;
     }
-    None
+    match document.rank() {
+        Some(_) => Some(SeedDoubt::Rival),
+        None => Some(SeedDoubt::Unnumbered),
+    }
 }
 
 fn lists_distrusted<C: Closure>(closure: &C, domain: &TrustDomain, document: &Document) -> bool
@@ -56,20 +61,17 @@ fn is_listed(of: &TrustDomain, key: &KeyId, domain: &TrustDomain, document: &Doc
 fn has_rival<C: Closure>(closure: &C, domain: &TrustDomain, document: &Document) -> bool
     ensures { IsTrue result ↔ HasRival (C.state closure.now).meaning domain.now document.now }
 {
-    let Some(sequence) = document.rank() else {
-        return false;
-    };
     for other in closure.accepted(domain) {
-        if is_rival(other, sequence, document) {
+        if is_rival(other, document) {
             return true;
         }
     }
     false
 }
 
-fn is_rival(other: &Document, sequence: u64, document: &Document) -> bool
-    ensures { IsTrue result ↔ ((other.now.rank ≡ Some sequence)
+fn is_rival(other: &Document, document: &Document) -> bool
+    ensures { IsTrue result ↔ ((other.now.rank ≡ document.now.rank)
         × (canonical_text other.now ≢ canonical_text document.now)) }
 {
-    other.rank() == Some(sequence) && other.canonical() != document.canonical()
+    other.rank() == document.rank() && other.canonical() != document.canonical()
 }

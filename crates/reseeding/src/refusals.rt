@@ -75,5 +75,6 @@ fn text_of(why: SeedDoubt) -> &'static str
     match why {
         SeedDoubt::DistrustedKey => ": the current bundle lists a distrusted key\n",
         SeedDoubt::Rival => ": another bundle has the current one's sequence\n",
+        SeedDoubt::Unnumbered => ": another bundle has no sequence either\n",
     }
 }

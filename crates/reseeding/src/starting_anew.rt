@@ -22,9 +22,9 @@ pub enum Reseeded {
 /// one for each domain that has one. It is the canonical text, so whoever holds the same gets the
 /// same bytes.
 ///
-/// A domain is refused where its current document lists a key that is distrusted in the domain, or
-/// where another accepted document has its sequence number; but not where it is the allowed one.
-/// Each that is refused has a line, and there is then no configuration:
+/// A domain is refused if its current document lists a key that is distrusted in the domain, or if
+/// another accepted document has its sequence number, or has none as it; but not if it is the
+/// allowed one. Each that is refused has a line, and there is then no configuration:
 ///
 /// | Line | Cause |
 /// |---|---|
@@ -32,6 +32,8 @@ pub enum Reseeded {
 /// the key |
 /// | `refused <domain>: another bundle has the current one's sequence` | both are accepted, and
 /// one of them was chosen by its text alone |
+/// | `refused <domain>: another bundle has no sequence either` | the same of two without a sequence
+/// number |
 ///
 /// # Errors
 /// Memory ran out.

@@ -14,8 +14,8 @@ key_json k = codes "{\"id\":\""
     ++ (encode_lower k.key.0
     ++ (codes "\",\"distrusted\":" ++ (true_or_false k.is_distrusted ++ codes "}")))
 
-abbrev pub bundle_json : CurrentStatus → List ℕ
-bundle_json s = codes "{\"id\":\""
+abbrev pub json_reports : CurrentStatus → List ℕ
+json_reports s = codes "{\"id\":\""
     ++ (encode_lower s.id.0
     ++ (codes "\",\"sequence\":"
     ++ (number_or_null s.sequence
@@ -25,7 +25,7 @@ bundle_json s = codes "{\"id\":\""
 
 abbrev pub current_json : Option CurrentStatus → List ℕ
 current_json None = codes "null"
-current_json (Some s) = bundle_json s
+current_json (Some s) = json_reports s
 
 abbrev pub domain_json : DomainStatus → List ℕ
 domain_json s = codes "{\"domain\":\""

@@ -1,7 +1,7 @@
 //! A status as compact JSON.
 ghost use Rattle.std.specs.Prelude.{◌≡◌, ◌++◌, false, IfOk, OnOk};
 ghost use Rattle.json_text.specs.JsonText.{parted_texts};
-ghost use Rattle.status_view.specs.StatusJson.{bundle_json, counts_json, current_json};
+ghost use Rattle.status_view.specs.StatusJson.{json_reports, counts_json, current_json};
 ghost use Rattle.status_view.specs.StatusJson.{domain_json, key_json, keyless_json, status_json};
 ghost use Rattle.status_view.specs.StatusJson.{status_members};
 
@@ -36,11 +36,8 @@ pub fn status_json(alloc: Global, status: &Status) -> Result<Vec<u8>, AllocError
     Ok(out)
 }
 
-/// Adds the members of that object, without the braces, so that more may stand beside them.
-///
-/// # Errors
-/// Memory ran out. Nothing is said then of what is there.
-pub fn push_status_members(out: &mut Vec<u8>, status: &Status) -> Result<(), AllocError>
+// The members of that object, without the braces, so that more may stand beside them.
+pub(crate) fn push_status_members(out: &mut Vec<u8>, status: &Status) -> Result<(), AllocError>
     ensures { OnOk result (out.new.items ≡ out.old.items ++ status_members status.now) }
 {
     push_counts(out, status)?;
@@ -105,7 +102,7 @@ fn push_current(out: &mut Vec<u8>, current: &Option<CurrentStatus>) -> Result<()
 }
 
 fn push_bundle(out: &mut Vec<u8>, current: &CurrentStatus) -> Result<(), AllocError>
-    ensures { OnOk result (out.new.items ≡ out.old.items ++ bundle_json current.now) }
+    ensures { OnOk result (out.new.items ≡ out.old.items ++ json_reports current.now) }
 {
     out.extend_from_slice(b"{\"id\":\"")?;
     push_digits(out, &current.id.0)?;

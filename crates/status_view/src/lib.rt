@@ -1,5 +1,10 @@
-//! How a replica stands, for operators: one value, and three texts of it. Whoever has the value may
-//! write more beside it. It knows closures by their trait alone.
+//! How a replica stands, for operators: one value, and three texts of it. A running replica gives
+//! a second value, of its files and its peers, which stands in the same texts. The crate knows
+//! closures by their trait alone.
+//!
+//! `status` and `running` have the two values. `standing` makes the first, by `current_status`,
+//! `domain_standing` and `keyless`. `text_writer`, `json_writer` and `metrics_writer` write it, and
+//! the files that begin with `running_` write the second. `status_writer` joins both.
 #![tactic(auto)]
 
 mod current_status;
@@ -8,15 +13,20 @@ mod json_writer;
 mod keyless;
 mod metric;
 mod metrics_writer;
+mod running;
+mod running_json;
+mod running_lines;
+mod running_metrics;
 mod standing;
 mod status;
 mod status_writer;
 mod text_writer;
 
-pub use json_writer::{push_status_members, status_json};
+pub use json_writer::status_json;
 pub use metric::{DomainGauge, Gauge};
 pub use metrics_writer::status_metrics;
+pub use running::{PeerFault, PeerStatus, RunningStatus, fault_code};
 pub use standing::{has_warning, read_status};
 pub use status::{CurrentStatus, DomainStatus, KeyStatus, KeylessSeed, Status};
-pub use status_writer::{StatusFormat, write_status};
+pub use status_writer::{StatusFormat, write_running_status, write_status};
 pub use text_writer::status_lines;

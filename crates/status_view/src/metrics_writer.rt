@@ -108,14 +108,14 @@ fn push_gauge(out: &mut Vec<u8>, status: &Status, gauge: Gauge) -> Result<(), Al
     out.extend_from_slice(b"\n")
 }
 
-fn push_gauge_head(out: &mut Vec<u8>, name: &str, help: &str) -> Result<(), AllocError>
+pub(crate) fn push_gauge_head(out: &mut Vec<u8>, name: &str, help: &str) -> Result<(), AllocError>
     ensures { OnOk result (out.new.items ≡ out.old.items ++ gauge_head name.now help.now) }
 {
     push_help(out, name, help)?;
     push_type(out, name)
 }
 
-fn push_help(out: &mut Vec<u8>, name: &str, help: &str) -> Result<(), AllocError>
+pub(crate) fn push_help(out: &mut Vec<u8>, name: &str, help: &str) -> Result<(), AllocError>
     ensures { OnOk result (out.new.items ≡ out.old.items ++ help_line name.now help.now) }
 {
     out.extend_from_slice(b"# HELP ")?;
@@ -274,7 +274,7 @@ fn push_id_label(out: &mut Vec<u8>, current: &Option<CurrentStatus>) -> Result<(
     }
 }
 
-fn push_label_value(out: &mut Vec<u8>, text: &str) -> Result<(), AllocError>
+pub(crate) fn push_label_value(out: &mut Vec<u8>, text: &str) -> Result<(), AllocError>
     ensures { OnOk result (out.new.items ≡ out.old.items ++ label_value text.now) }
 {
     for byte in text.as_bytes() {

@@ -2,11 +2,18 @@
 ghost use Rattle.std.specs.Prelude.{◌≡◌, ◌||◌, true, Err, IfOk, OnOk};
 ghost use Rattle.byte_lines.specs.Device.{is_source_fault};
 ghost use Rattle.byte_lines.specs.declared.error.DeviceError.TheVariants.{Io, NoMemory};
+ghost use Rattle.status_view.specs.declared.status_writer.StatusFormat.TheVariants.{Json, Text};
+ghost use Rattle.status_view.specs.declared.status_writer.StatusFormat.TheVariants.{Prometheus};
 ghost use Rattle.text_lines.specs.TextLines.{BeginsSome, WritesSome};
-ghost use Rattle.status_view.specs.StatusRuns.{IsStatusIn, IsWarned, status_in};
+ghost use Rattle.status_view.specs.StatusRuns.{IsRunningStatusIn, IsStatusIn, IsWarned};
+ghost use Rattle.status_view.specs.StatusRuns.{running_status_in, status_in};
 
-use crate::json_writer::status_json;
+use crate::json_writer::{push_status_members, status_json};
 use crate::metrics_writer::status_metrics;
+use crate::running::RunningStatus;
+use crate::running_json::push_running_members;
+use crate::running_lines::push_running_lines;
+use crate::running_metrics::push_running_metrics;
 use crate::standing::{has_warning, read_status};
 use crate::status::Status;
 use crate::text_writer::status_lines;
@@ -61,4 +68,100 @@ fn status_in(alloc: Global, status: &Status, format: StatusFormat) -> Result<Vec
         StatusFormat::Json => status_json(alloc, status),
         StatusFormat::Prometheus => status_metrics(alloc, status),
     }
+}
+
+/// Writes how a running replica stands, with its files and its peers at the end, and returns
+/// whether there is a warning ([`crate::has_warning`]); its files and its peers are never one.
+///
+/// | Format | What is added |
+/// |---|---|
+/// | text | `snapshot <n> bytes`, `journal <n> bytes`, and for each peer
+/// `peer <address> ended-well <second> fault <code> receipts <n>`, with `none` for what is absent |
+/// | JSON | the members `snapshot_bytes`, `journal_bytes` and `peers`, an array of objects with
+/// `peer`, `ended_well`, `fault` and `receipts`, with `null` for what is absent |
+/// | Prometheus | `fedbundle_snapshot_bytes`, `fedbundle_journal_bytes`, and with the label `peer`
+/// `fedbundle_peer_receipts_total`, `fedbundle_peer_ended_well_timestamp_seconds` and
+/// `fedbundle_peer_fault_info` |
+///
+/// All memory is taken before the first byte is written.
+///
+/// # Errors
+/// - [`DeviceError::Io`]: the sink failed, and holds a beginning of the text.
+/// - [`DeviceError::NoMemory`]: memory ran out. Nothing was written.
+pub fn write_running_status<C: Closure, W: Sink>(
+    alloc: Global,
+    closure: &C,
+    running: &RunningStatus<'_>,
+    format: StatusFormat,
+    sink: &mut W,
+) -> Result<bool, DeviceError>
+    ensures warning { IfOk result (IsWarned (C.state closure.now).meaning) }
+    ensures ok { OnOk result (WritesSome
+        (IsRunningStatusIn (C.state closure.now).meaning running.now format)
+        (W.contents sink.old) (W.contents sink.new)) }
+    ensures io { result ≡ Err Io → (W.has_failed sink.new ≡ true)
+        × BeginsSome (IsRunningStatusIn (C.state closure.now).meaning running.now format)
+        (W.contents sink.old) (W.contents sink.new) }
+    ensures memory { result ≡ Err NoMemory → sink.new ≡ sink.old }
+    ensures fault { W.has_failed sink.new ≡ (is_source_fault result || W.has_failed sink.old) }
+{
+    let status = read_status(alloc, closure)?;
+    let text = running_status_in(alloc, &status, running, format)?;
+    write_all(sink, text.as_slice())?;
+    Ok(has_warning(&status))
+}
+
+fn running_status_in(
+    alloc: Global,
+    status: &Status,
+    running: &RunningStatus<'_>,
+    format: StatusFormat,
+) -> Result<Vec<u8>, AllocError>
+    ensures { IfOk result (λ text. text.items
+        ≡ running_status_in format running.now status.now) }
+{
+    match format {
+        StatusFormat::Text => with_running_lines(alloc, status, running),
+        StatusFormat::Json => with_running_members(alloc, status, running),
+        StatusFormat::Prometheus => with_running_metrics(alloc, status, running),
+    }
+}
+
+fn with_running_lines(
+    alloc: Global,
+    status: &Status,
+    running: &RunningStatus<'_>,
+) -> Result<Vec<u8>, AllocError>
+    ensures { IfOk result (λ text. text.items ≡ running_status_in Text running.now status.now) }
+{
+    let mut out = status_lines(alloc, status)?;
+    push_running_lines(&mut out, running)?;
+    Ok(out)
+}
+
+fn with_running_members(
+    alloc: Global,
+    status: &Status,
+    running: &RunningStatus<'_>,
+) -> Result<Vec<u8>, AllocError>
+    ensures { IfOk result (λ text. text.items ≡ running_status_in Json running.now status.now) }
+{
+    let mut out = Vec::from_slice(alloc, b"{")?;
+    push_status_members(&mut out, status)?;
+    push_running_members(alloc, &mut out, running)?;
+    out.extend_from_slice(b"}\n")?;
+    Ok(out)
+}
+
+fn with_running_metrics(
+    alloc: Global,
+    status: &Status,
+    running: &RunningStatus<'_>,
+) -> Result<Vec<u8>, AllocError>
+    ensures { IfOk result (λ text. text.items
+        ≡ running_status_in Prometheus running.now status.now) }
+{
+    let mut out = status_metrics(alloc, status)?;
+    push_running_metrics(&mut out, running)?;
+    Ok(out)
 }

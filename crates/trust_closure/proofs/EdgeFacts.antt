@@ -1,81 +1,21 @@
 -- The edges of a net and what stands at its nodes
-use Rattle.std.proofs.Common.{◌≡◌, ◌≢◌, ℕ, zero, suc, ◌+◌, ◌⊎◌, inl, inr, true, false, List, [], ◌∷◌, ◌++◌, length}
-use Rattle.std.proofs.Common.{get_or, map, Option, Some, None, arith, refl, sym, ap, ◌∙◌, subst}
-use Rattle.std.specs.Prelude.{Contains, slice_get, AllPairs}
+use Rattle.std.proofs.Common.{◌≡◌, ℕ, ◌+◌, inl, inr, true, false, List, [], length}
+use Rattle.std.proofs.Common.{get_or, map, Option, Some, None, arith, sym, ap, ◌∙◌, subst}
+use Rattle.std.specs.Prelude.{Contains, slice_get}
 use Rattle.std.specs.Option.{option_to_list}
-use Rattle.std.proofs.lemmas.Bool.{cases_lt, cases_Bool, cases_order, both_ways}
+use Rattle.std.proofs.lemmas.Bool.{cases_lt, cases_Bool, both_ways}
 use Rattle.std.proofs.lemmas.List.{length-map, get_or_default, get_or_past}
-use Rattle.std.proofs.lemmas.Option.{slice_get_within, same_Some, slice_get-get_or, get_or_from_slice_get}
+use Rattle.std.proofs.lemmas.Option.{slice_get-get_or, get_or_from_slice_get}
 use Rattle.wait_index.specs.declared.edges.Edge.{Edge}
 use Rattle.wait_index.specs.Edge.{edge_at, IsEdge}
 use Rattle.wait_index.specs.Net.{Net, is_root, is_closed, IsReached, step}
 use Rattle.trust_closure.specs.Inside.NodeSpecs.{NodeSpec, LabelledEdge, labelled_edge_at, offered_at, awaited_at, offer_edge, wait_edge, Represents}
-use Rattle.trust_closure.proofs.LabelledEdgeFacts.{Contains-from_map, arrow-cases, arrow-has}
+use Rattle.closure_parts.proofs.PlaceFacts.{Contains-from_map}
+use Rattle.trust_closure.proofs.LabelledEdgeFacts.{arrow-cases, arrow-has}
 use Rattle.closure_core.proofs.ContainsFacts.{contains_first, contains_cases, contains_map}
+use Rattle.closure_parts.proofs.PlaceFacts.{slice_get-map_at, one_place}
 
 -- ---- lists by places
-
--- An item keeps its place when a list is appended.
-pub slice_get-left : {A : Type 0} (xs ys : List A) (i : ℕ) (x : A) → slice_get xs i ≡ Some x → slice_get (xs ++ ys) i ≡ Some x
-slice_get-left [] ys i x e = absurd (omega (arith, slice_get_within [] i x e))
-slice_get-left (z ∷ xs) ys zero x e = e
-slice_get-left (z ∷ xs) ys (suc i) x e = slice_get-left xs ys i x e
-
--- An item of the second list stands further on by the length of the first.
-pub slice_get-right : {A : Type 0} (xs ys : List A) (k : ℕ) → slice_get (xs ++ ys) (length xs + k) ≡ slice_get ys k
-slice_get-right [] ys k = let e : 0 + k ≡ k = omega arith in ap (λ n. slice_get ys n) e
-slice_get-right (z ∷ xs) ys k =
-    let e : suc (length xs) + k ≡ suc (length xs + k) = omega arith in
-    ap (λ n. slice_get (z ∷ (xs ++ ys)) n) e ∙ slice_get-right xs ys k
-
--- the item stands in the second of two lists
-pub record IsPast {A : Type 0} (xs ys : List A) (i : ℕ) (x : A) : Type 0 where
-  pub place : ℕ
-  pub is : i ≡ length xs + place
-  pub at : slice_get ys place ≡ Some x
-
--- An item of two lists stands in the first or in the second.
-pub slice_get-append_cases : {A : Type 0} (xs ys : List A) (i : ℕ) (x : A) → slice_get (xs ++ ys) i ≡ Some x → (slice_get xs i ≡ Some x) ⊎ IsPast xs ys i x
-slice_get-append_cases [] ys i x e = inr (record { place = i; is = omega arith; at = e })
-slice_get-append_cases (z ∷ xs) ys zero x e = inl e
-slice_get-append_cases (z ∷ xs) ys (suc i) x e =
-    elim (slice_get-append_cases xs ys i x e) [
-      | inl a ↦ inl a
-      | inr a ↦ inr (record { place = a.place; is = omega (arith, a.is); at = a.at })
-    ]
-
--- The image of an item stands at its place.
-pub slice_get-map_at : {A B : Type 0} (f : A → B) (xs : List A) (i : ℕ) (x : A) → slice_get xs i ≡ Some x → slice_get (map f xs) i ≡ Some (f x)
-slice_get-map_at f [] i x e = absurd (omega (arith, slice_get_within [] i x e))
-slice_get-map_at {B = B} f (z ∷ xs) zero x e = ap (λ y. Some (f y)) (same_Some z x e)
-slice_get-map_at f (z ∷ xs) (suc i) x e = slice_get-map_at f xs i x e
-
--- What stands in a mapped list is the image of what stands there in the list.
-pub slice_get-map_cases : {A B : Type 0} (f : A → B) (xs : List A) (i : ℕ) (y : B) → slice_get (map f xs) i ≡ Some y
-    → (x : A) × (slice_get xs i ≡ Some x) × (f x ≡ y)
-slice_get-map_cases f [] i y e = absurd (omega (arith, slice_get_within [] i y e))
-slice_get-map_cases f (z ∷ xs) zero y e = (z, refl, same_Some (f z) y e)
-slice_get-map_cases f (z ∷ xs) (suc i) y e = slice_get-map_cases f xs i y e
-
--- What a list contains stands at some place.
-pub Contains-slice_get : {A : Type 0} (xs : List A) (x : A) → Contains xs x → (i : ℕ) × (slice_get xs i ≡ Some x)
-Contains-slice_get xs x c = (c.0, slice_get-get_or xs c.0 x c.1 ∙ ap (λ y. Some y) c.2)
-
--- What stands at a place is contained.
-pub slice_get-Contains : {A : Type 0} (xs : List A) (i : ℕ) (x : A) → slice_get xs i ≡ Some x → Contains xs x
-slice_get-Contains xs i x e = (i, slice_get_within xs i x e, get_or_from_slice_get xs i x x e)
-
--- different items stand at different places
-pub one_place : {A : Type 0} (xs : List A) → AllPairs ◌≢◌ xs → (i j : ℕ) (x : A) → slice_get xs i ≡ Some x → slice_get xs j ≡ Some x → i ≡ j
-one_place xs once i j x a b =
-    elim (cases_order i j) [
-      | inl e ↦ e
-      | inr d ↦
-          elim d [
-            | inl l ↦ absurd (once i j x l (slice_get_within xs j x b) (get_or_from_slice_get xs i x x a ∙ sym (get_or_from_slice_get xs j x x b)))
-            | inr l ↦ absurd (once j i x l (slice_get_within xs i x a) (get_or_from_slice_get xs j x x b ∙ sym (get_or_from_slice_get xs i x x a)))
-          ]
-    ]
 
 -- ---- edges and arrows
 

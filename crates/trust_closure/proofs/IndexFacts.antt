@@ -1,49 +1,46 @@
 -- The flags of an indexed closure tell what is accepted
-use Rattle.std.proofs.Common.{◌≡◌, ℕ, zero, suc, ◌+◌, ◌-◌, ◌*◌, ◌^◌, ◌<◌, ◌≤◌, ◌⊎◌, inl, inr, Bool, true, false, List}
+use Rattle.std.proofs.Common.{◌≡◌, ℕ, zero, suc, ◌+◌, ◌-◌, ◌^◌, ◌<◌, ◌≤◌, ◌⊎◌, inl, inr, true, false, List}
 use Rattle.std.proofs.Common.{[], ◌∷◌, ◌++◌, length, get_or, map, Some, None, arith, refl, sym, ap, ◌∙◌, subst}
 use Rattle.std.specs.Prelude.{Contains, slice_get, ◌↔◌, ◌≢◌, AllPairs}
 use Rattle.std.proofs.lemmas.List.Quantifiers.{all_pairs_push}
-use Rattle.std.specs.List.{All, AllByRecursion}
+use Rattle.std.specs.List.{All}
 use Rattle.std.proofs.lemmas.Bool.{cases_lt, both_ways}
 use Rattle.std.proofs.lemmas.List.{append_assoc, append-nil, map_push, length_push, get_or_past}
-use Rattle.std.proofs.lemmas.List.Elements.{Contains-append_left, Contains-get_or, Contains-push, Contains-push_cases, All-contains, All-same}
+use Rattle.std.proofs.lemmas.List.Elements.{Contains-get_or, All-contains, All-same}
 use Rattle.std.proofs.lemmas.Option.{slice_get_within, same_Some, slice_get-get_or, get_or_from_slice_get}
 use Rattle.fed_config.specs.declared.seed.Seed.{Seed}
 use Rattle.fed_config.specs.Configuration.{Configuration, HasDomain, AreDomains, domain_cmp}
 use Rattle.wait_index.specs.Index.{Index, Last}
-use Rattle.wait_index.specs.Net.{Net, IsReached, root, ListsReached, TellsFallen, visits_of, ClosesIn, HasReachOf, edges_at}
+use Rattle.wait_index.specs.Net.{Net, IsReached, root, ListsReached, TellsFallen, visits_of, ClosesIn}
 use Rattle.std.specs.List.Sorted.{IsStrictlySortedBy}
-use Rattle.std.specs.Prelude.{sum_by}
 use Rattle.std.proofs.Common.{cond}
-use Rattle.std.proofs.lemmas.List.Sums.{sum_by_push}
 use Rattle.receipt_core.specs.declared.distrust.Distrust.{Distrust}
 use Rattle.receipt_core.specs.declared.triple.Triple.{Triple}
-use Rattle.receipt_core.specs.Receipt.{Receipt, Pair, pair_of, IsReceipt, offers_of, receipt_cmp, with_receipt, distrust_cmp}
+use Rattle.receipt_core.specs.Receipt.{Receipt, Pair, pair_of, IsReceipt, offers_of, distrust_cmp}
 use Rattle.receipt_core.specs.Rising.{with_items}
-use Rattle.receipt_core.specs.Order.{receipt_total, distrust_total}
-use Rattle.receipt_core.specs.Sets.{AreSets, Always}
-use Rattle.receipt_core.proofs.LineFacts.{one_receipt, one_distrust}
-use Rattle.receipt_core.proofs.RisingFacts.{AreSets-from_total}
-use Rattle.trust_closure.specs.declared.indexed.labels.label.Label.{Label}
+use Rattle.label_index.specs.declared.label.Label.{Label}
 use Rattle.trust_closure.specs.Inside.NodeSpecs.{NodeSpec, Represents, bare_node}
-use Rattle.trust_closure.proofs.LabelledEdgeFacts.{Contains-from_map}
+use Rattle.closure_parts.proofs.PlaceFacts.{Contains-from_map}
 use Rattle.closure_core.proofs.ContainsFacts.{contains_first, contains_cases, contains_none, contains_map}
 use Rattle.std.proofs.lemmas.List.{length-map, length-append}
 use Rattle.closure_core.specs.AcceptedList.{IsPendingCount}
 use Rattle.receipt_core.specs.Acceptance.{Meaning, IsMeaning, IsMember, IsReleased, IsFitting, pair_of_seed}
-use Rattle.trust_closure.specs.Inside.Labels.{LabelIndexView, IsOfKey, Closes, HasNode, IsRooted, IsRoomierIndex as IsRoomierWired}
-use Rattle.trust_closure.proofs.EdgeFacts.{slice_get-left, slice_get-map_cases, slice_get-Contains, Contains-slice_get, one_place, root-of_spot}
+use Rattle.label_index.specs.Labels.{LabelIndexView, IsOfKey, Closes, HasNode, IsRooted, IsRoomierIndex as IsRoomierWired}
+use Rattle.closure_parts.proofs.PlaceFacts.{slice_get-left, slice_get-map_cases, slice_get-Contains, Contains-slice_get, one_place}
+use Rattle.trust_closure.proofs.EdgeFacts.{root-of_spot}
 use Rattle.trust_closure.proofs.RepresentFacts.{Represents-shut}
 use Rattle.closure_core.specs.Inside.Nodes.{pairs_of, is_raised, flags_of, count_at}
 use Rattle.closure_core.specs.Inside.Flags.{raised_count, TellsMembers}
-use Rattle.trust_closure.specs.Inside.NodeCounts.{AreCounts, AddsNodes}
-use Rattle.trust_closure.specs.Inside.Held.{HeldReceipts, meaning_of, HasAdded}
-use Rattle.trust_closure.specs.Inside.NetOf.{node_specs_of, seed_node, receipt_node, IsShutBy, IsNetOf, IsLabelIndexOf, triple_by}
-use Rattle.trust_closure.specs.Inside.Pairs.{DocumentTableView, IsDocumentTable, HasRaised, no_documents}
-use Rattle.trust_closure.specs.Work.{ClosesAtOnce, IsWorkOf, AreOld}
-use Rattle.trust_closure.specs.Inside.Indexed.{IsBuilt, IsIndexed, WasCounted, IsDistrusted, IsBefore, HasRoom}
+use Rattle.closure_parts.specs.NodeCounts.{AreCounts, AddsNodes}
+use Rattle.closure_parts.specs.Held.{HeldReceipts, meaning_of}
+use Rattle.trust_closure.specs.Inside.NetOf.{node_specs_of, seed_node, receipt_node, IsNetOf, IsLabelIndexOf, triple_by}
+use Rattle.closure_parts.specs.Held.{IsShutBy}
+use Rattle.closure_parts.specs.Pairs.{DocumentTableView, IsDocumentTable, HasRaised, no_documents}
+use Rattle.trust_closure.specs.Work.{ClosesAtOnce, IsWorkOf}
+use Rattle.trust_closure.specs.Inside.Indexed.{IsBuilt, IsIndexed, WasCounted, IsDistrusted, HasRoom}
+use Rattle.closure_parts.specs.Held.{IsBefore}
 use Rattle.trust_closure.specs.Inside.Indexed.{IsIndexedClosure, Reserves, IsIndexOf, Indexed, indexed_of, IsSeeded}
-use Rattle.trust_closure.specs.declared.indexed.changes.FreeRoom.{FreeRoom}
+use Rattle.trust_closure.specs.declared.changes.FreeRoom.{FreeRoom}
 use Rattle.closure_core.specs.Changes.{IsGain}
 use Rattle.std.proofs.Common.{eqb}
 use Rattle.std.proofs.lemmas.Bool.{eq-eqb, eqb-true, not-true, not_from_false, false_from_ne_true}
@@ -53,15 +50,18 @@ use Rattle.wait_index.specs.Net.{is_among}
 use Rattle.closure_core.specs.Count.{AreDifferent}
 use Rattle.closure_core.proofs.CountFacts.{no_longer}
 use Rattle.closure_core.proofs.NodeFacts.{length-flags}
-use Rattle.trust_closure.proofs.NodeCountFacts.{flags-counted, flags-kept, flags-push, count_at-push, counts-from_zero}
+use Rattle.closure_parts.proofs.NodeCountFacts.{flags-counted, flags-kept, flags-push, count_at-push, counts-from_zero}
 use Rattle.closure_core.proofs.FlagFacts.{IsFirstOf, gain-from_flags, passing, passing-to, passing-from, passing-differ, only_wide, length-only_wide}
 use Rattle.closure_core.proofs.FlagFacts.{different-map}
-use Rattle.trust_closure.proofs.ConfigFacts.{one_domains}
+use Rattle.closure_parts.proofs.ConfigFacts.{one_domains}
 use Rattle.closure_core.proofs.MemberFacts.{member_more}
 use Rattle.trust_closure.proofs.LabelIndexFacts.{domain-one_number, label_index-node, label_index-root, node-number}
 use Rattle.closure_core.proofs.RisingFacts.{each_has}
 use Rattle.trust_closure.proofs.ReachedFacts.{IsAccepted, IsReachedAt, accepted-from_reached, reached-from_member, reached-from_released, spot-of_seed_node}
-use Rattle.trust_closure.proofs.PairFacts.{pairing-once}
+use Rattle.closure_parts.proofs.PairFacts.{pairing-once}
+use Rattle.closure_parts.proofs.HeldChangeFacts.{pairs-push, distrust-sets, always-all, with_arrival, same-more, with_mistrust, hoard-before}
+use Rattle.closure_parts.proofs.PairFacts.{pairing-counts}
+use Rattle.closure_parts.proofs.NodeCountFacts.{count-push}
 
 module _ (h : HeldReceipts) (p : DocumentTableView) (w : LabelIndexView) (b : IsBuilt h p w) where
   -- Each receipt fits, since what is held is a meaning.
@@ -132,81 +132,11 @@ raised-member h p w i q =
 
 -- ---- one more receipt
 
--- One more receipt has its pair last.
-pub pairs-push : (seeds : List Seed) (arrived : List Receipt) (r : Receipt) → pairs_of seeds (arrived ++ r ∷ []) ≡ pairs_of seeds arrived ++ pair_of r ∷ []
-pairs-push seeds arrived r = ap (λ ps. map pair_of_seed seeds ++ ps) (map_push pair_of arrived r)
-    ∙ sym (append_assoc (map pair_of_seed seeds) (map pair_of arrived) (pair_of r ∷ []))
-
 -- One more receipt has its spot last.
 pub spots-push : (seeds : List Seed) (arrived : List Receipt) (r : Receipt)
     → node_specs_of seeds (arrived ++ r ∷ []) ≡ node_specs_of seeds arrived ++ receipt_node r ∷ []
 spots-push seeds arrived r = ap (λ ss. map seed_node seeds ++ ss) (map_push receipt_node arrived r)
     ∙ sym (append_assoc (map seed_node seeds) (map receipt_node arrived) (receipt_node r ∷ []))
-
--- Other counts, as many, leave each pair its number.
-pub pairing-counts : (pairs : List Pair) (p q : DocumentTableView) → IsDocumentTable pairs p → q.numbers ≡ p.numbers
-    → q.heads ≡ p.heads → length q.counts ≡ length p.counts → IsDocumentTable pairs q
-pairing-counts pairs p q h numbers heads counts =
-    let one : IsDocumentTable pairs (record {
-      numbers = p.numbers;
-      heads = p.heads;
-      counts = q.counts;
-      capacity = q.capacity;
-    }) =
-    record {
-      sizes = h.sizes;
-      counted = counts
-          ∙ h.counted;
-      forms = h.forms;
-      within = h.within;
-      few = h.few;
-      rising = h.rising;
-      first =
-          h.first;
-    }
-    in
-    subst (λ ns. IsDocumentTable pairs (record {
-      numbers = ns;
-      heads = q.heads;
-      counts = q.counts;
-      capacity = q.capacity;
-    })) (sym numbers)
-    (subst (λ fs. IsDocumentTable pairs (record {
-      numbers = p.numbers;
-      heads = fs;
-      counts = q.counts;
-      capacity = q.capacity;
-    })) (sym heads) one)
-
--- Receipts of their form make sets: the order of lines tells them apart.
-receipt-sets : AreSets IsReceipt receipt_cmp
-receipt-sets = AreSets-from_total IsReceipt receipt_cmp receipt_total one_receipt
-
--- Records of distrust make sets: their order tells any two apart.
-pub distrust-sets : AreSets Always distrust_cmp
-distrust-sets = AreSets-from_total Always distrust_cmp distrust_total (λ a b p q. one_distrust a b)
-
--- What holds always holds of all items.
-pub always-all : {A : Type 0} (xs : List A) → AllByRecursion Always xs
-always-all [] = tt
-always-all (x ∷ xs) = (tt, always-all xs)
-
--- the hoard with the receipt, which came last
-abbrev pub with_arrival : HeldReceipts → Receipt → HeldReceipts
-with_arrival h r = record h { arrived = h.arrived ++ r ∷ []; held = with_receipt r h.held }
-
--- With one more receipt, what is held is still what has arrived.
-pub same-more : (h : HeldReceipts) (r : Receipt) → IsMeaning (meaning_of h) → IsReceipt r
-    → ((s : Receipt) → Contains h.held s ↔ Contains h.arrived s) → (s : Receipt)
-    → Contains (with_receipt r h.held) s ↔ Contains (h.arrived ++ r ∷ []) s
-same-more h r valid form same s =
-    let m = receipt-sets.members r s h.held form valid.receipts in (
-      λ c. elim (m.0 c) [
-        | inl e ↦ subst (Contains (h.arrived ++ r ∷ [])) e (Contains-push h.arrived r)
-        | inr d ↦ Contains-append_left h.arrived (r ∷ []) s ((same s).0 d)
-      ],
-      λ c. m.1 (elim (Contains-push_cases h.arrived r s c) [ inl d ↦ inr ((same s).1 d) | inr e ↦ inl e ]),
-    )
 
 -- The index is built of what is held, after one more receipt.
 pub built-more : (h new : HeldReceipts) (p q : DocumentTableView) (w v : LabelIndexView) (r : Receipt) → IsBuilt h p w → IsReceipt r
@@ -243,10 +173,6 @@ built-counts h p q w b numbers heads counts = record {
   reached = b.reached;
   pairing = pairing-counts (pairs_of h.config.seeds h.arrived) p q b.pairing numbers heads counts;
 }
-
--- A lowered flag at the end is not counted.
-pub count-push : (flags : List Bool) → raised_count (flags ++ false ∷ []) ≡ raised_count flags
-count-push flags = sum_by_push (λ b. cond b 1 0) flags false ∙ (let e : sum_by (λ b. cond b 1 0) flags + 0 ≡ sum_by (λ b. cond b 1 0) flags = omega arith in e)
 
 -- The rise of the number of raised flags, with one more receipt, is what is gained.
 pub gain-more : (h new : HeldReceipts) (p q : DocumentTableView) (w v : LabelIndexView) (r : Receipt) (nodes : List ℕ) (n : ℕ) → IsIndexed h p w
@@ -374,28 +300,6 @@ shuts-all domains old new more IsMeant is means label l =
       ],
     )
 
--- the hoard with these records besides
-abbrev pub with_mistrust : HeldReceipts → List Distrust → ℕ → HeldReceipts
-with_mistrust h more capacity = record {
-  config = h.config;
-  arrived = h.arrived;
-  held = h.held;
-  records = with_items distrust_cmp more h.records;
-  capacity = capacity;
-}
-
--- A hoard that has more records is that one.
-pub hoard-before : (old new : HeldReceipts) (more : List Distrust) → IsBefore old more new
-    → new ≡ with_mistrust old more new.capacity
-hoard-before old new more b =
-    ap (λ c. let h : HeldReceipts = record { config = c; arrived = new.arrived; held = new.held; records = new.records; capacity = new.capacity } in h) b.config
-    ∙ ap (λ a. let h : HeldReceipts = record { config = old.config; arrived = a; held = new.held; records = new.records; capacity = new.capacity } in
-    h) b.arrived
-    ∙ ap (λ a. let h : HeldReceipts = record { config = old.config; arrived = old.arrived; held = a; records = new.records; capacity = new.capacity } in
-    h) b.held
-    ∙ ap (λ a. let h : HeldReceipts = record { config = old.config; arrived = old.arrived; held = old.held; records = a; capacity = new.capacity } in
-    h) b.records
-
 -- The index is built of what is held, after a close for more records of distrust.
 pub built-closed : (old new : HeldReceipts) (more : List Distrust) (p q : DocumentTableView) (w v : LabelIndexView)
     (IsMeant : Label → Type 0) (work : ℕ) → IsBuilt old p w → IsBefore old more new
@@ -466,7 +370,7 @@ closes-at_once old new p w v was after before work records IsMeant b c means = r
             (shut.1 (subst (IsShutBy records) (sym f.2) s)),
       );
   work = c.work;
-  near = c.near;
+  fewer = c.fewer;
 }
 
 -- what is accepted with more records was accepted without them
@@ -517,25 +421,6 @@ loss-closed old new xs p q w v n i j before size numbers count =
     (kept-closed old new xs p q w v i j before numbers)
     (λ k y e f at. ap (λ ps. slice_get ps k) (sym same) ∙ at)
     n count (omega (arith, size, length-flags p.counts, length-flags q.counts))
-
--- Hoards with the same meaning, arrivals and capacity are the same.
-pub hoard-same : (old new : HeldReceipts) → meaning_of new ≡ meaning_of old → new.arrived ≡ old.arrived → new.capacity ≡ old.capacity → new ≡ old
-hoard-same old new meaning arrived capacity =
-    ap (λ (m : Meaning). let h : HeldReceipts =
-    record { config = m.config; arrived = new.arrived; held = m.held; records = m.records; capacity = new.capacity }
-    in h) meaning
-    ∙ ap (λ a. let h : HeldReceipts = record { config = old.config; arrived = a; held = old.held; records = old.records; capacity = new.capacity } in h) arrived
-    ∙ ap (λ n. let h : HeldReceipts = record { config = old.config; arrived = old.arrived; held = old.held; records = old.records; capacity = n } in h) capacity
-
--- A record that was added is the one that the new hoard has besides.
-pub before-added : (old new : HeldReceipts) (x : Distrust) → HasAdded (meaning_of old) x (meaning_of new)
-    → new.arrived ≡ old.arrived → IsBefore old (x ∷ []) new
-before-added old new x a arrived = record {
-  config = ap (λ (m : Meaning). m.config) a.meaning;
-  arrived = arrived;
-  held = ap (λ (m : Meaning). m.held) a.meaning;
-  records = ap (λ (m : Meaning). m.records) a.meaning;
-}
 
 -- ---- more room
 
@@ -684,15 +569,6 @@ work-of old new more p q w v spare before work was b built once c = record {
   work = refl;
 }
 
--- all records were held, where nothing has changed
-pub all-old : (old new : Meaning) (records : List Distrust)
-    → new ≡ record old { records = with_items distrust_cmp records old.records } → new ≡ old
-    → AreOld old records
-all-old old new records e same x has =
-    subst (λ (xs : List Distrust). Contains xs x) (ap (λ (m : Meaning). m.records) (sym e ∙ same))
-    ((distrust-sets.all_members records old.records x (always-all records)
-    (always-all old.records)).1 (inl has))
-
 -- more room is no other work
 pub same-work : (old new : Indexed) → new.state.meaning ≡ old.state.meaning
     → new.arrived ≡ old.arrived → new.wired.net ≡ old.wired.net
@@ -723,8 +599,10 @@ same-work old new meaning arrived net marked records count is =
             is.after.work) marked
             (subst (λ (n : Net). ClosesIn n c.closing (visits_of n new.wired.marked)
             (visits_of is.after.wired.net is.after.wired.marked) is.after.work) net c.work);
-        near = subst (λ (n : Net). (reach : ℕ → Bool) → HasReachOf n c.closing reach
-            → is.after.work ≤ 2 * edges_at n reach) net c.near;
+        fewer = subst (λ (ns : List ℕ). visits_of is.after.wired.net is.after.wired.marked
+            ≤ visits_of old.wired.net ns) marked
+            (subst (λ (n : Net). visits_of is.after.wired.net is.after.wired.marked
+            ≤ visits_of n new.wired.marked) net c.fewer);
       };
       work = is.work;
     }

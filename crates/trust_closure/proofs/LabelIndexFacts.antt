@@ -16,15 +16,16 @@ use Rattle.receipt_core.specs.declared.distrust.Distrust.{Distrust}
 use Rattle.receipt_core.specs.declared.triple.Triple.{Triple}
 use Rattle.receipt_core.specs.Receipt.{Receipt, Pair, key_ids, offer_of, offers_of}
 use Rattle.receipt_core.specs.Acceptance.{IsFitting}
-use Rattle.trust_closure.specs.declared.indexed.labels.label.Label.{Label}
-use Rattle.trust_closure.specs.Inside.Labels.{LabelIndexView, HasNumber, HasNode, Offers, Awaits, IsRooted}
+use Rattle.label_index.specs.declared.label.Label.{Label}
+use Rattle.label_index.specs.Labels.{LabelIndexView, HasNumber, HasNode, Offers, Awaits, IsRooted}
 use Rattle.trust_closure.specs.Inside.NodeSpecs.{NodeSpec, Represents, bare_node}
-use Rattle.trust_closure.proofs.LabelledEdgeFacts.{Contains-from_map}
-use Rattle.trust_closure.proofs.EdgeFacts.{slice_get-map_at, slice_get-Contains}
+use Rattle.closure_parts.proofs.PlaceFacts.{Contains-from_map}
+use Rattle.closure_parts.proofs.PlaceFacts.{slice_get-map_at, slice_get-Contains}
 use Rattle.trust_closure.proofs.RepresentFacts.{rooted_spot, offering_spot, awaiting_spot, length-roots, MirrorsBut}
 use Rattle.trust_closure.proofs.RepresentFacts.{Represents-but, Represents-node, Represents-label, Represents-root, Represents-offer}
 use Rattle.trust_closure.proofs.RepresentFacts.{Represents-wait}
-use Rattle.trust_closure.specs.Inside.NetOf.{IsShutBy, triple_by, IsLabelOf, IsLabelIndexOf, Widens}
+use Rattle.closure_parts.specs.Held.{IsShutBy}
+use Rattle.trust_closure.specs.Inside.NetOf.{triple_by, IsLabelOf, IsLabelIndexOf, Widens}
 use Rattle.closure_core.proofs.RisingFacts.{each_has}
 
 -- ---- domains are different

@@ -5,12 +5,8 @@ use Rattle.std.proofs.lemmas.List.{append-nil, append_assoc}
 use Rattle.std.proofs.lemmas.List.Elements.{Contains-append_left, Contains-append_right, Contains-append_cases}
 use Rattle.std.proofs.lemmas.Option.{slice_get_within, same_Some}
 use Rattle.trust_closure.specs.Inside.NodeSpecs.{NodeSpec, LabelledEdge, labelled_edge_at, labelled_edges_from}
-use Rattle.closure_core.proofs.ContainsFacts.{contains_map, mapped}
-
--- Each item of a mapped list is the image of one of the list.
-pub Contains-from_map : {X Y : Type 0} (f : X → Y) (xs : List X) (y : Y) → Contains (map f xs) y
-    → (x : X) × Contains xs x × (f x ≡ y)
-Contains-from_map f xs y c = let h = mapped f xs y c in (h.item, h.has, h.is)
+use Rattle.closure_core.proofs.ContainsFacts.{contains_map}
+use Rattle.closure_parts.proofs.PlaceFacts.{Contains-from_map}
 
 -- the arrows are those of the spots
 

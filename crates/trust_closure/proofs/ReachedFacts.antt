@@ -11,13 +11,16 @@ use Rattle.receipt_core.specs.declared.triple.Triple.{Triple}
 use Rattle.receipt_core.specs.Receipt.{Receipt, Pair, pair_of, offers_of, need_of}
 use Rattle.receipt_core.specs.Acceptance.{IsFitting, Vouches, Leads, Meaning, IsMember, IsReleased, pair_of_seed}
 use Rattle.trust_closure.specs.Inside.NodeSpecs.{NodeSpec}
-use Rattle.trust_closure.proofs.EdgeFacts.{slice_get-left, slice_get-right, slice_get-append_cases, slice_get-map_at}
-use Rattle.trust_closure.proofs.EdgeFacts.{slice_get-map_cases, Contains-slice_get, slice_get-Contains, offer-of_edge}
+use Rattle.closure_parts.proofs.PlaceFacts.{slice_get-left, slice_get-right, slice_get-append_cases, slice_get-map_at}
+use Rattle.closure_parts.proofs.PlaceFacts.{slice_get-map_cases, Contains-slice_get, slice_get-Contains}
+use Rattle.trust_closure.proofs.EdgeFacts.{offer-of_edge}
 use Rattle.trust_closure.proofs.EdgeFacts.{wait-of_edge, root-of_spot, spot-of_root, reached-on}
 use Rattle.closure_core.specs.Inside.Nodes.{pairs_of}
-use Rattle.trust_closure.specs.Inside.NetOf.{seed_node, receipt_node, node_specs_of, IsShutBy, IsNetOf}
+use Rattle.trust_closure.specs.Inside.NetOf.{seed_node, receipt_node, node_specs_of, IsNetOf}
+use Rattle.closure_parts.specs.Held.{IsShutBy}
 use Rattle.closure_core.proofs.MemberFacts.{leads_more, all_more}
-use Rattle.trust_closure.proofs.VouchingFacts.{vouches-from_offer, offer-from_vouches, open-from_vouches}
+use Rattle.closure_parts.proofs.VouchingFacts.{vouches-from_offer, offer-from_vouches, open-from_vouches}
+use Rattle.closure_parts.proofs.HeldChangeFacts.{pair-of_seed_node, pair-of_receipt_node}
 
 -- ---- the net of a closure
 
@@ -47,22 +50,11 @@ module _ (seeds : List Seed) (arrivals : List Receipt) where
             inr (record { place = a.place; receipt = f.0; node_is = omega (arith, a.is, length-map seeds seed_node); at = f.1; is = f.2 })
       ]
 
-  -- A configured document stands at its own number.
-  pub pair-of_seed_node : (n : ℕ) (s : Seed) → slice_get seeds n ≡ Some s → slice_get (pairs_of seeds arrivals) n ≡ Some (pair_of_seed s)
-  pair-of_seed_node n s at = slice_get-left (map pair_of_seed seeds) (map pair_of arrivals) n (pair_of_seed s) (slice_get-map_at pair_of_seed seeds n s at)
-
   -- A configured document's node has its spot.
   pub spot-of_seed_node : (n : ℕ) (s : Seed) → slice_get seeds n ≡ Some s → slice_get (node_specs_of seeds arrivals) n ≡ Some (seed_node s)
   spot-of_seed_node n s at =
       slice_get-left (map seed_node seeds) (map receipt_node arrivals) n (seed_node s)
       (slice_get-map_at seed_node seeds n s at)
-
-  -- A receipt's document stands after the configured ones, in order of arrival.
-  pub pair-of_receipt_node : (k : ℕ) (r : Receipt) → slice_get arrivals k ≡ Some r → slice_get (pairs_of seeds arrivals) (length seeds + k) ≡ Some (pair_of r)
-  pair-of_receipt_node k r at =
-      ap (λ n. slice_get (pairs_of seeds arrivals) (n + k)) (sym (length-map seeds pair_of_seed))
-      ∙ slice_get-right (map pair_of_seed seeds) (map pair_of arrivals) k
-      ∙ slice_get-map_at pair_of arrivals k r at
 
   -- A receipt's node has its spot.
   pub spot-of_receipt_node : (k : ℕ) (r : Receipt) → slice_get arrivals k ≡ Some r
@@ -78,11 +70,11 @@ module _ (seeds : List Seed) (arrivals : List Receipt) where
   offers-of_node n spot p e f =
       elim (node-cases n spot e) [
         | inl a ↦ ap (λ (s : NodeSpec Triple). s.offers) (sym a.is)
-            ∙ ap offers_of (same_Some (pair_of_seed a.seed) p (sym (pair-of_seed_node n a.seed a.at) ∙ f))
+            ∙ ap offers_of (same_Some (pair_of_seed a.seed) p (sym (pair-of_seed_node seeds arrivals n a.seed a.at) ∙ f))
         | inr a ↦
             ap (λ (s : NodeSpec Triple). s.offers) (sym a.is)
             ∙ ap offers_of (same_Some (pair_of a.receipt) p
-            (sym (pair-of_receipt_node a.place a.receipt a.at)
+            (sym (pair-of_receipt_node seeds arrivals a.place a.receipt a.at)
             ∙ ap (λ k. slice_get (pairs_of seeds arrivals) k) (sym a.node_is) ∙ f))
       ]
 

@@ -8,10 +8,10 @@ use Rattle.std.proofs.lemmas.List.Elements.{Contains-append_left, Contains-appen
 use Rattle.std.proofs.lemmas.List.Sums.{sum_by-append}
 use Rattle.wait_index.specs.Net.{Net, IsReached, step, IsOpen, ListsReached, IsTakenBack, itself, beyond, IsFallen, TellsFallen, is_among}
 use Rattle.closure_core.specs.Count.{AreDifferent}
-use Rattle.trust_closure.specs.Inside.NodeCounts.{first_of_node, nodes_with}
+use Rattle.closure_parts.specs.NodeCounts.{first_of_node, nodes_with}
 use Rattle.closure_core.proofs.ContainsFacts.{contains_first, contains_later}
 use Rattle.closure_core.proofs.CountFacts.{no_longer, no_more}
-use Rattle.trust_closure.proofs.NodeCountFacts.{nodes_with-append}
+use Rattle.closure_parts.proofs.NodeCountFacts.{nodes_with-append}
 use Rattle.trust_closure.proofs.IndexFacts.{among-from, among-to, different-from_pairs, length-unmarked}
 
 -- What is taken back was open.

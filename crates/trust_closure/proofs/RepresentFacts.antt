@@ -1,30 +1,20 @@
 -- A net stays a mirror
-use Rattle.std.proofs.Common.{◌≡◌, ◌≢◌, ℕ, zero, suc, ◌+◌, ◌<◌, ◌⊎◌, inl, inr, Bool, true, false, List, [], ◌∷◌, ◌++◌}
+use Rattle.std.proofs.Common.{◌≡◌, ◌≢◌, ℕ, ◌+◌, ◌<◌, ◌⊎◌, inl, inr, Bool, true, false, List, [], ◌∷◌, ◌++◌}
 use Rattle.std.proofs.Common.{length, get_or, set, map, Option, Some, None, arith, refl, sym, ap, ◌∙◌, subst}
 use Rattle.std.specs.Prelude.{AllPairs, Contains, slice_get, ◌↔◌}
 use Rattle.std.specs.Option.{option_to_list}
 use Rattle.std.proofs.lemmas.List.{append-nil, append_assoc, map_push, length-map, length_push, get_or_append_left, set_at, get_or_push}
 use Rattle.std.proofs.lemmas.List.Quantifiers.{all_pairs_push}
 use Rattle.std.proofs.lemmas.List.Elements.{Contains-get_or, Contains-push, Contains-push_cases, Contains-append_left}
-use Rattle.std.proofs.lemmas.Option.{slice_get_within, same_Some, none-some}
+use Rattle.std.proofs.lemmas.Option.{none-some}
 use Rattle.wait_index.specs.declared.edges.Edge.{Edge}
 use Rattle.wait_index.specs.Net.{Net, is_closed, with_node, with_label, with_offer, with_wait, with_root}
 use Rattle.trust_closure.specs.Inside.NodeSpecs.{NodeSpec, LabelledEdge, labelled_edge_at, labelled_edges_from, offered_at, awaited_at, offer_edge, wait_edge}
 use Rattle.trust_closure.specs.Inside.NodeSpecs.{IsUsed, Represents, bare_node}
 use Rattle.trust_closure.proofs.LabelledEdgeFacts.{arrows-push}
+use Rattle.closure_parts.proofs.PlaceFacts.{slice_get-left, slice_get-push_cases}
 
 -- arrows name labels that are there, so more labels change none
-
--- A label keeps its place when more come.
-pub slice_get-more : {A : Type 0} (xs ys : List A) (i : ℕ) (x : A) → slice_get xs i ≡ Some x → slice_get (xs ++ ys) i ≡ Some x
-slice_get-more [] ys i x e = absurd (omega (arith, slice_get_within [] i x e))
-slice_get-more (z ∷ xs) ys zero x e = e
-slice_get-more (z ∷ xs) ys (suc i) x e = slice_get-more xs ys i x e
-
--- The new label stands at the end.
-pub slice_get-push : {A : Type 0} (xs : List A) (x : A) → slice_get (xs ++ x ∷ []) (length xs) ≡ Some x
-slice_get-push [] x = refl
-slice_get-push (z ∷ xs) x = slice_get-push xs x
 
 -- each of these arrows names a label
 abbrev pub AreNamed : {A : Type 0} → List (LabelledEdge A) → Type 0
@@ -53,7 +43,7 @@ offers-named : {A : Type 0} (labels more : List A) (edges : List Edge) → AreNa
     → map (offer_edge (labels ++ more)) edges ≡ map (offer_edge labels) edges
 offers-named labels more [] a = refl
 offers-named {A = A} labels more (edge ∷ edges) a =
-    let e : slice_get (labels ++ more) edge.to ≡ slice_get labels edge.to = slice_get-more labels more edge.to a.0.0 a.0.1 ∙ sym a.0.1 in
+    let e : slice_get (labels ++ more) edge.to ≡ slice_get labels edge.to = slice_get-left labels more edge.to a.0.0 a.0.1 ∙ sym a.0.1 in
     let same : offer_edge (labels ++ more) edge ≡ offer_edge labels edge =
     ap (λ (o : Option A). let arrow : LabelledEdge A = record { node = edge.from; label = o } in arrow) e in
     ap (λ first. first ∷ map (offer_edge (labels ++ more)) edges) same ∙ ap (λ rest. offer_edge labels edge ∷ rest) (offers-named labels more edges a.1)
@@ -63,22 +53,10 @@ waits-named : {A : Type 0} (labels more : List A) (edges : List Edge) → AreNam
     → map (wait_edge (labels ++ more)) edges ≡ map (wait_edge labels) edges
 waits-named labels more [] a = refl
 waits-named {A = A} labels more (edge ∷ edges) a =
-    let e : slice_get (labels ++ more) edge.from ≡ slice_get labels edge.from = slice_get-more labels more edge.from a.0.0 a.0.1 ∙ sym a.0.1 in
+    let e : slice_get (labels ++ more) edge.from ≡ slice_get labels edge.from = slice_get-left labels more edge.from a.0.0 a.0.1 ∙ sym a.0.1 in
     let same : wait_edge (labels ++ more) edge ≡ wait_edge labels edge =
     ap (λ (o : Option A). let arrow : LabelledEdge A = record { node = edge.to; label = o } in arrow) e in
     ap (λ first. first ∷ map (wait_edge (labels ++ more)) edges) same ∙ ap (λ rest. wait_edge labels edge ∷ rest) (waits-named labels more edges a.1)
-
--- What stands among labels with one more stood there or is the new one.
-pub slice_get-push_cases : {A : Type 0} (xs : List A) (x : A) (i : ℕ) (y : A) → slice_get (xs ++ x ∷ []) i ≡ Some y
-    → ((i < length xs) × (slice_get xs i ≡ Some y)) ⊎ ((i ≡ length xs) × (x ≡ y))
-slice_get-push_cases [] x zero y e = inr (refl, same_Some x y e)
-slice_get-push_cases [] x (suc i) y e = absurd (none-some y e)
-slice_get-push_cases (z ∷ xs) x zero y e = inl (omega arith, e)
-slice_get-push_cases (z ∷ xs) x (suc i) y e =
-    elim (slice_get-push_cases xs x i y e) [
-      | inl a ↦ inl (omega (arith, a.0), a.1)
-      | inr a ↦ inr (ap suc a.0, a.1)
-    ]
 
 -- ---- which labels are used
 

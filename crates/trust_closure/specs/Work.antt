@@ -1,22 +1,24 @@
 -- How much work it is to distrust keys
-use Rattle.std.specs.Prelude.{◌≡◌, ◌↔◌, ◌⊎◌, ◌*◌, ◌<◌, ◌≤◌, ℕ, [], ◌∷◌, Bool, List, Contains}
+use Rattle.std.specs.Prelude.{◌≡◌, ◌↔◌, ◌<◌, ◌≤◌, ℕ, [], ◌∷◌, List, Contains}
 use Rattle.std.specs.Prelude.{Result, MatchResult, length, slice_get, Some}
 use Rattle.std.specs.List.{All}
 use Rattle.receipt_core.specs.declared.distrust.Distrust.{Distrust}
 use Rattle.receipt_core.specs.declared.triple.Triple.{Triple}
-use Rattle.wait_index.specs.Net.{visits_of, ClosesIn, HasReachOf, edges_at}
+use Rattle.wait_index.specs.Net.{visits_of, ClosesIn}
 use Rattle.receipt_core.specs.Acceptance.{Meaning}
 use Rattle.receipt_core.specs.Receipt.{distrust_cmp}
 use Rattle.receipt_core.specs.Rising.{with_items}
 use Rattle.trust_closure.specs.Inside.Indexed.{Indexed, IsIndexOf}
-use Rattle.trust_closure.specs.Inside.NetOf.{IsNetOf, IsShutBy}
+use Rattle.trust_closure.specs.Inside.NetOf.{IsNetOf}
+use Rattle.closure_parts.specs.Held.{IsShutBy}
+use Rattle.closure_parts.specs.Merge.{AreOld, HasNewRecord}
 use Rattle.closure_core.specs.declared.error.TakeError.{TakeError}
 use Rattle.closure_core.specs.declared.outcome.Distrusted.{Distrusted}
 use Rattle.closure_core.specs.declared.outcome.Distrusted.TheVariants.{New, Already}
 
 -- All labels of the keys that these records distrust are closed at once, with so much work: so
--- many times an edge was looked at. It lies at a label that those lead to, and was looked at twice
--- at most.
+-- many times an edge was looked at. There are no more visits than before. What that bounds the work
+-- by, says the law `twice_the_edges`.
 pub record ClosesAtOnce (old : Indexed) (records : List Distrust) (new : Indexed) : Type 0 where
   pub labels : List Triple
   pub net : IsNetOf old.state.meaning.config.seeds old.arrived old.state.meaning.records labels
@@ -27,8 +29,8 @@ pub record ClosesAtOnce (old : Indexed) (records : List Distrust) (new : Indexed
       → Contains closing number ↔ IsShutBy records label
   pub work : ClosesIn old.wired.net closing (visits_of old.wired.net old.wired.marked)
       (visits_of new.wired.net new.wired.marked) new.work
-  pub near : (reach : ℕ → Bool) → HasReachOf old.wired.net closing reach
-      → new.work ≤ 2 * edges_at old.wired.net reach
+  pub fewer : visits_of new.wired.net new.wired.marked
+      ≤ visits_of old.wired.net old.wired.marked
 
 -- A record that is new has the labels of its key closed, and no other record is any work.
 abbrev pub Worked : Indexed → Distrust → Indexed → Distrusted → Type 0
@@ -50,14 +52,11 @@ pub record IsWorkOf (old : Indexed) (records : List Distrust) (count : ℕ) : Ty
   pub closes : ClosesAtOnce old after.state.meaning.records after
   pub work : after.work ≡ count
 
--- All these records were held before.
-abbrev pub AreOld : Meaning → List Distrust → Type 0
-AreOld m records = (x : Distrust) → Contains records x → Contains m.records x
-
--- No record was new and nothing was closed, or all labels of distrusted keys were, at once.
+-- Where all records were held nothing is closed. Where one of them is new all labels of distrusted
+-- keys are closed, at once.
 abbrev pub WorksOnce : Indexed → List Distrust → Indexed → Type 0
-WorksOnce old records new = (AreOld old.state.meaning records × (new.work ≡ old.work))
-    ⊎ IsWorkOf old records new.work
+WorksOnce old records new = (AreOld old.state.meaning records → new.work ≡ old.work)
+    × (HasNewRecord old.state.meaning records → IsWorkOf old records new.work)
 
 abbrev pub MergesOnce : Indexed → Meaning → Indexed → Result ℕ TakeError → Type 0
 MergesOnce old other new result =

@@ -2,13 +2,13 @@
 use crate::configurations::AMPLE_ROOM;
 use crate::states::replica_of;
 use bundle_doc::Document;
-use bundle_json::{chain_json, document_json, write_report_json};
 use bundle_view::explain;
 use byte_lines::{DeviceError, MemSink, MemSource};
 use closure_core::Closure;
 use config_view::write_config_json;
 use fed_config::Config;
 use jiff::Timestamp;
+use json_reports::{chain_json, document_json, write_report_json};
 use poll_log::{read_polls, read_seconds};
 use poll_view::{PollsForm, polls_text};
 use replica_view::{write_graph, write_held_json};

@@ -11,6 +11,9 @@
 //!   and another that was given the text of this name.
 //! - `status CONFIG FORMAT = LINES`: what is printed of how that replica stands, in one of the
 //!   formats `text`, `json` and `prometheus`, and whether there is a warning.
+//! - `running CONFIG FORMAT SNAPSHOT JOURNAL PEER.. = LINES`: the same of a running replica, whose
+//!   files have this many bytes; a peer is `ADDRESS,ENDED,FAULT,RECEIPTS`, with a hyphen for what
+//!   is absent.
 //! - `config-json = CONFIGURATION`, `canon-json DOMAIN = DOCUMENT`, `list-json CONFIG = LINES`,
 //!   `list-json CONFIG DOMAIN = LINES`, `report-json CONFIG = LINES`, `explain-json CONFIG DOMAIN
 //!   NAME = LINES` and `polls-json CONFIG SECONDS NAME = LINES`: what is printed as JSON, where the
@@ -20,6 +23,7 @@
 
 mod configurations;
 mod json_shown;
+mod running_states;
 mod states;
 
 use row_script::{Row, Rows, Script};
@@ -51,6 +55,7 @@ impl Rows for Calls {
             "list" => list(self.alloc, script, row.words, text, answer),
             "diff" => diff(self.alloc, script, row.words, text, answer),
             "status" => status(self.alloc, script, row.words, text, answer),
+            "running" => running(self.alloc, script, row.words, text, answer),
             _ => json(self.alloc, script, row, answer),
         }
     }
@@ -103,4 +108,14 @@ fn status(
     answer: &mut String,
 ) -> Result<(), AllocError> {
     states::stand::<IndexedClosure>(alloc, script, words, lines, answer)
+}
+
+fn running(
+    alloc: Global,
+    script: &Script,
+    words: &str,
+    lines: &[u8],
+    answer: &mut String,
+) -> Result<(), AllocError> {
+    running_states::stand::<IndexedClosure>(alloc, script, words, lines, answer)
 }

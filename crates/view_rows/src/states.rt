@@ -94,7 +94,7 @@ pub(crate) fn stand<C: Closure>(
     }
 }
 
-fn format_of(word: &str) -> StatusFormat {
+pub(crate) fn format_of(word: &str) -> StatusFormat {
     match word {
         "json" => StatusFormat::Json,
         "prometheus" => StatusFormat::Prometheus,

@@ -7,8 +7,9 @@ use Rattle.byte_lines.specs.Device.{AppendsBeginning}
 use Rattle.replica_core.specs.Session.{HaveMessage, give_of}
 use Rattle.replica_core.specs.declared.error.SyncError.{SyncError}
 use Rattle.replica_core.specs.declared.error.SyncError.TheVariants.{Io, NoMemory}
-use Rattle.replica_sync.specs.Messages.{have_text, give_text}
-use Rattle.replica_sync.specs.Haves.{BeginsWithHaves, IsHaveOf, RefusesFurther, gives_text}
+use Rattle.replica_texts.specs.Messages.{have_text, give_text}
+use Rattle.replica_sync.specs.Serving.{BeginsWithHaves, gives_text}
+use Rattle.replica_texts.specs.Haves.{IsHaveOf, RefusesFurther}
 
 -- the device failed, or memory ran out
 abbrev pub IsServingFault : SyncError → Type 0

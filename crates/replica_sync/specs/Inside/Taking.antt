@@ -5,13 +5,13 @@ use Rattle.receipt_core.specs.Acceptance.{Meaning}
 use Rattle.byte_lines.specs.Lines.{HasLine, HasNoLine}
 use Rattle.replica_core.specs.State.{State, joined, meaning_of_state}
 use Rattle.replica_core.specs.Session.{GiveMessage, state_of}
-use Rattle.replica_sync.specs.Snapshots.{last_of, text_of_lines}
-use Rattle.replica_sync.specs.Inside.EntrySteps.{TakesEntryText}
-use Rattle.replica_sync.specs.Entries.{RefusesEntryLine, placed_line}
-use Rattle.replica_sync.specs.declared.entry_line.Wanted.{Wanted}
-use Rattle.replica_sync.specs.declared.entry_line.Wanted.TheVariants.{Records, Receipts, Either}
-use Rattle.replica_sync.specs.Messages.{have_text, give_text}
-use Rattle.replica_sync.specs.Gives.{content_lines, IsBegun, RefusesNextEntry}
+use Rattle.replica_texts.specs.Snapshots.{last_of, text_of_lines}
+use Rattle.replica_texts.specs.Inside.EntrySteps.{TakesEntryText}
+use Rattle.replica_texts.specs.Entries.{RefusesEntryLine, placed_line}
+use Rattle.replica_texts.specs.declared.entry_line.Wanted.{Wanted}
+use Rattle.replica_texts.specs.declared.entry_line.Wanted.TheVariants.{Records, Receipts, Either}
+use Rattle.replica_texts.specs.Messages.{have_text, give_text}
+use Rattle.replica_texts.specs.Gives.{content_lines, IsBegun, RefusesNextEntry}
 use Rattle.replica_sync.specs.Pulling.{IsGiveAbout, RefusesGiveAbout, Session, after_gives}
 use Rattle.replica_sync.specs.Pulling.{haves_of, line_count, refused_line}
 use Rattle.replica_core.specs.declared.error.SyncError.{SyncError}

@@ -5,23 +5,22 @@ use Rattle.std.specs.List.{All}
 use Rattle.fed_config.specs.Configuration.{AreDomains}
 use Rattle.fed_config.specs.declared.seed.Seed.{Seed}
 use Rattle.receipt_core.specs.declared.distrust.Distrust.{Distrust}
-use Rattle.receipt_core.specs.Receipt.{Receipt, distrust_cmp}
-use Rattle.receipt_core.specs.Rising.{with_items}
+use Rattle.receipt_core.specs.Receipt.{Receipt}
 use Rattle.receipt_core.specs.declared.triple.Triple.{Triple}
 use Rattle.receipt_core.specs.Acceptance.{IsMeaning, IsReleased}
 use Rattle.wait_index.specs.Index.{Index}
 use Rattle.wait_index.specs.Net.{Net, ListsReached, TellsFallen}
-use Rattle.trust_closure.specs.Inside.Labels.{LabelIndexView}
+use Rattle.label_index.specs.Labels.{LabelIndexView}
 use Rattle.closure_core.specs.Inside.Nodes.{pairs_of, count_at}
-use Rattle.trust_closure.specs.Inside.NodeCounts.{AreCounts}
-use Rattle.trust_closure.specs.declared.indexed.labels.label.Label.{Label}
-use Rattle.trust_closure.specs.Inside.Held.{HeldReceipts, meaning_of, domains_of}
-use Rattle.trust_closure.specs.Inside.NetOf.{node_specs_of, seed_node, IsShutBy, triple_by, IsNetOf}
+use Rattle.closure_parts.specs.NodeCounts.{AreCounts}
+use Rattle.label_index.specs.declared.label.Label.{Label}
+use Rattle.closure_parts.specs.Held.{HeldReceipts, meaning_of, IsBefore, IsDistrustedIn}
+use Rattle.trust_closure.specs.Inside.NetOf.{node_specs_of, seed_node, IsNetOf}
 use Rattle.trust_closure.specs.Inside.NetOf.{IsLabelIndexOf}
-use Rattle.trust_closure.specs.Inside.Pairs.{DocumentTableView, IsDocumentTable}
+use Rattle.closure_parts.specs.Pairs.{DocumentTableView, IsDocumentTable}
 use Rattle.closure_core.specs.Refusals.{Room, IsRoomier}
 use Rattle.closure_core.specs.Changes.{HeldAndRoom}
-use Rattle.trust_closure.specs.declared.indexed.changes.FreeRoom.{FreeRoom}
+use Rattle.trust_closure.specs.declared.changes.FreeRoom.{FreeRoom}
 use Rattle.std.specs.Prelude.{[], ◌∷◌, ◌++◌, take, Result, MatchResult}
 use Rattle.closure_core.specs.declared.outcome.Refused.{Refused}
 use Rattle.closure_core.specs.declared.outcome.Taken.{Taken}
@@ -57,13 +56,6 @@ pub record WasCounted (p : DocumentTableView) (i : Index) : Type 0 where
   pub many : length i.last.fallen + i.last.kept ≡ length marked
   pub counts : AreCounts p.heads marked p.counts
 
--- The new hoard has these records besides.
-pub record IsBefore (old : HeldReceipts) (more : List Distrust) (new : HeldReceipts) : Type 0 where
-  pub config : new.config ≡ old.config
-  pub arrived : new.arrived ≡ old.arrived
-  pub held : new.held ≡ old.held
-  pub records : new.records ≡ with_items distrust_cmp more old.records
-
 -- The index is still that of what was held before these records were.
 pub record WasIndexed (new : HeldReceipts) (more : List Distrust) (p : DocumentTableView)
     (w : LabelIndexView) : Type 0 where
@@ -72,9 +64,8 @@ pub record WasIndexed (new : HeldReceipts) (more : List Distrust) (p : DocumentT
   pub indexed : IsIndexed old p w
 
 -- The label names a domain of the configuration, and its key is distrusted there.
-pub record IsDistrusted (h : HeldReceipts) (label : Label) : Type 0 where
-  pub within : label.domain < length (domains_of h.config)
-  pub shut : IsShutBy h.records (triple_by (domains_of h.config) label)
+abbrev pub IsDistrusted : HeldReceipts → Label → Type 0
+IsDistrusted h label = IsDistrustedIn h label.domain label.key
 
 -- There is room for so many receipts more and so many offers of theirs.
 pub record HasRoom (h : HeldReceipts) (p : DocumentTableView) (w : LabelIndexView)

@@ -1,6 +1,6 @@
 -- The nodes of the index of a closure: one for each configured document and one for each receipt
 use Rattle.std.specs.Prelude.{ℕ, ◌<◌, List, [], ◌++◌, true, false, length, map, Some, None}
-use Rattle.std.specs.Prelude.{Contains, slice_get, slice_index_or, ◌≡◌, ◌+◌, ◌≤◌, take}
+use Rattle.std.specs.Prelude.{slice_get, slice_index_or, ◌≡◌, ◌+◌, ◌≤◌, take}
 use Rattle.std.specs.List.{All}
 use Rattle.fed_config.specs.Configuration.{Configuration, AreDomains}
 use Rattle.fed_config.specs.declared.seed.Seed.{Seed}
@@ -9,8 +9,9 @@ use Rattle.receipt_core.specs.declared.distrust.Distrust.{Distrust}
 use Rattle.receipt_core.specs.declared.triple.Triple.{Triple}
 use Rattle.receipt_core.specs.Receipt.{Receipt, pair_of, offers_of, need_of}
 use Rattle.receipt_core.specs.Acceptance.{pair_of_seed}
-use Rattle.trust_closure.specs.declared.indexed.labels.label.Label.{Label}
-use Rattle.trust_closure.specs.Inside.Labels.{LabelIndexView}
+use Rattle.label_index.specs.declared.label.Label.{Label}
+use Rattle.label_index.specs.Labels.{LabelIndexView}
+use Rattle.closure_parts.specs.Held.{IsShutBy}
 use Rattle.trust_closure.specs.Inside.NodeSpecs.{NodeSpec, Represents}
 
 -- A configured document's node is a root and awaits nothing.
@@ -27,10 +28,6 @@ receipt_node r = record {
 
 abbrev pub node_specs_of : List Seed → List Receipt → List (NodeSpec Triple)
 node_specs_of seeds arrivals = map seed_node seeds ++ map receipt_node arrivals
-
--- A triple is shut where its key is distrusted in its domain.
-abbrev pub IsShutBy : List Distrust → Triple → Type 0
-IsShutBy records t = Contains records (record { domain = t.domain; key = t.key })
 
 -- The net has exactly the nodes and edges of the configured documents and of the receipts, in order
 -- of arrival, and the labels of distrusted keys are closed.

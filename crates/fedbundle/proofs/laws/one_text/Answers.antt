@@ -1,7 +1,7 @@
 use Rattle.std.proofs.Common.{◌≡◌, ap, sym, subst}
 use Rattle.receipt_core.specs.Acceptance.{Meaning}
 use Rattle.bundle_view.specs.Report.{IsReport}
-use Rattle.replica_sync.specs.Snapshots.{snapshot_text}
+use Rattle.replica_texts.specs.Snapshots.{snapshot_text}
 use Rattle.fedbundle.proofs.laws.one_text.Goals as goal
 
 -- Equal configurations and equal lists are one meaning.

@@ -1,8 +1,8 @@
 use Rattle.std.proofs.Common.{rules, subst, w64}
 use Rattle.std.specs.Prelude.{MatchResult, MatchOption}
 use Rattle.std.proofs.lemmas.Int.{to_z-of_z}
-use Rattle.replica_bytes.specs.CallErrors.{RefusesDomainText}
-use Rattle.replica_bytes.specs.Texts.{HasNoCurrentBundle, IsCurrentBundle}
+use Rattle.replica_c_calls.specs.CallErrors.{RefusesDomainText}
+use Rattle.replica_c_calls.specs.Texts.{HasNoCurrentBundle, IsCurrentBundle}
 use Rattle.fedbundle_c.specs.Exports.{meaning_in}
 use Rattle.fedbundle_c.specs.declared.held_replica.Replica.{Replica}
 use Rattle.fedbundle_c.proofs.ExportFacts.{finds-by}

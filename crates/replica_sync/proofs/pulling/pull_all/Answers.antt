@@ -1,6 +1,6 @@
 use Rattle.std.proofs.Common.{◌∙◌, refl, arith}
 use Rattle.replica_sync.specs.SessionRun.{session_run}
-use Rattle.replica_sync.proofs.SnapshotFacts.{refused_by}
+use Rattle.replica_texts.proofs.SnapshotFacts.{refused_by}
 use Rattle.replica_sync.specs.Pulling.{PullsUpTo}
 use Rattle.replica_sync.proofs.PullingFacts.{asked_more, asked_stops}
 use Rattle.replica_sync.proofs.pulling.pull_all.Goals as goal

@@ -1,6 +1,6 @@
 use Rattle.std.proofs.Common.{◌+◌}
 use Rattle.byte_lines.specs.Streams.{stream_of}
-use Rattle.replica_sync.proofs.SnapshotFacts.{refused_by}
+use Rattle.replica_texts.proofs.SnapshotFacts.{refused_by}
 use Rattle.replica_sync.specs.Inside.Taking.{StopsGive}
 use Rattle.replica_sync.proofs.GiveTakingFacts.{give_unread}
 use Rattle.replica_sync.proofs.PullingFacts.{asked_whole}

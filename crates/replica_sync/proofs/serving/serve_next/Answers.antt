@@ -1,8 +1,8 @@
 use Rattle.std.proofs.Common.{inl, subst}
 use Rattle.std.proofs.lemmas.Result.{err_from_is_err_and}
 use Rattle.byte_lines.specs.Streams.{stream_of}
-use Rattle.replica_sync.specs.Haves.{RefusesFurther}
-use Rattle.replica_sync.proofs.WrittenPieceFacts.{nothing-appended}
+use Rattle.replica_texts.specs.Haves.{RefusesFurther}
+use Rattle.replica_texts.proofs.WrittenPieceFacts.{nothing-appended}
 use Rattle.replica_sync.proofs.serving.serve_next.Goals as goal
 
 pub returns-in_err-have-clause-serves : goal.returns-in_err-have-clause-serves

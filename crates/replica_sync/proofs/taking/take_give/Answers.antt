@@ -1,7 +1,7 @@
 use Rattle.std.proofs.Common.{◌+◌}
 use Rattle.std.proofs.lemmas.Result.{IfErr-weaker, on_ok_weaker}
 use Rattle.byte_lines.specs.Streams.{stream_of}
-use Rattle.replica_sync.proofs.SnapshotFacts.{refused_by}
+use Rattle.replica_texts.proofs.SnapshotFacts.{refused_by}
 use Rattle.replica_sync.specs.Inside.Taking.{StopsGive, StopsWithin}
 use Rattle.replica_sync.proofs.GiveTakingFacts.{give_refused, give_stops, give_taken}
 use Rattle.replica_sync.proofs.taking.take_give.Goals as goal

@@ -1,6 +1,6 @@
 use Rattle.std.proofs.Common.{◌∙◌, refl, arith}
 use Rattle.byte_lines.specs.Streams.{stream_of}
-use Rattle.replica_sync.proofs.SnapshotFacts.{refused_by}
+use Rattle.replica_texts.proofs.SnapshotFacts.{refused_by}
 use Rattle.replica_sync.specs.Inside.Taking.{StopsWithin}
 use Rattle.replica_sync.proofs.TakingFacts.{so_far_none, so_far_more, so_far_fails}
 use Rattle.replica_sync.proofs.taking.take_lines.Goals as goal

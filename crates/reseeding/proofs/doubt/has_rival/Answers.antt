@@ -1,4 +1,4 @@
-use Rattle.std.proofs.Common.{refl, sym, subst, ◌∙◌}
+use Rattle.std.proofs.Common.{refl, sym, subst}
 use Rattle.closure_core.specs.AcceptedList.{IsAcceptedList}
 use Rattle.receipt_core.proofs.ChainFacts.{not_told, told_no}
 use Rattle.reseeding.proofs.DoubtFacts.{IsOther, found_here, found_none, passed_by, rivals, rivals_back}
@@ -6,27 +6,25 @@ use Rattle.reseeding.proofs.doubt.has_rival.Goals as goal
 
 pub returns-then-is_rival : goal.returns-then-is_rival
 returns-then-is_rival g c = (
-  λ _. rivals (g.C.Closure.state c.args.closure.now).meaning c.args.domain.now c.args.document.now c.in-Some.sequence c.into_iter-other-iterator.result
+  λ _. rivals (g.C.Closure.state c.args.closure.now).meaning c.args.domain.now c.args.document.now c.into_iter-other-iterator.result
       (subst (IsAcceptedList (g.C.Closure.state c.args.closure.now).meaning c.args.domain.now)
       (sym c.into_iter-other-iterator.ensures.into_iter_gives) c.accepted-other-items.ensures)
-      (sym c.rank.ensures ∙ c.in-Some.is)
-      (found_here (IsOther c.in-Some.sequence c.args.document.now) c.into_iter-other-iterator.result c.loop-other.other-iterator _
-      c.in-Some-other.other.now c.in-Some-other.ensures.steps (c.is_rival.ensures.0 c.if-is_rival.true) c.loop-other.invariant),
+      (found_here (IsOther c.args.document.now) c.into_iter-other-iterator.result c.loop-other.other-iterator _
+      c.in-Some.other.now c.in-Some.ensures.steps (c.is_rival.ensures.0 c.if-is_rival.true) c.loop-other.invariant),
   λ _. refl,
 )
 
 pub loop-other-preserved : goal.loop-other-preserved
 loop-other-preserved g c =
-    passed_by (IsOther c.in-Some.sequence c.args.document.now) c.into_iter-other-iterator.result c.loop-other.other-iterator _
-    c.in-Some-other.other.now c.in-Some-other.ensures.steps (not_told _ _ c.is_rival.ensures c.if-is_rival.false) c.loop-other.invariant
+    passed_by (IsOther c.args.document.now) c.into_iter-other-iterator.result c.loop-other.other-iterator _
+    c.in-Some.other.now c.in-Some.ensures.steps (not_told _ _ c.is_rival.ensures c.if-is_rival.false) c.loop-other.invariant
 
 pub returns : goal.returns
 returns g c =
     told_no _ _ refl (λ has.
-    found_none (IsOther c.in-Some.sequence c.args.document.now) c.into_iter-other-iterator.result c.loop-other.other-iterator
+    found_none (IsOther c.args.document.now) c.into_iter-other-iterator.result c.loop-other.other-iterator
     c.in-None.ensures.steps.0 c.loop-other.invariant
-    (rivals_back (g.C.Closure.state c.args.closure.now).meaning c.args.domain.now c.args.document.now c.in-Some.sequence
+    (rivals_back (g.C.Closure.state c.args.closure.now).meaning c.args.domain.now c.args.document.now
     c.into_iter-other-iterator.result
     (subst (IsAcceptedList (g.C.Closure.state c.args.closure.now).meaning c.args.domain.now)
-    (sym c.into_iter-other-iterator.ensures.into_iter_gives) c.accepted-other-items.ensures)
-    (sym c.rank.ensures ∙ c.in-Some.is) has))
+    (sym c.into_iter-other-iterator.ensures.into_iter_gives) c.accepted-other-items.ensures) has))

@@ -1,6 +1,0 @@
-use Rattle.std.proofs.Common.{◌≡◌, ◌++◌, drop, map}
-use Rattle.bundle_json.specs.ChainJson.{chain_receipt_json}
-use Rattle.bundle_json.proofs.chain_object.receipt_texts.Given as goal
-
-abbrev pub invariant-chain : goal.invariant-chain
-invariant-chain l = l.texts.items ++ map chain_receipt_json (drop l.receipt-index l.chain) ≡ map chain_receipt_json l.chain

@@ -1,0 +1,5 @@
+pub mod Records
+pub mod Held
+pub mod NodeCounts
+pub mod Pairs
+pub mod Merge

@@ -1,0 +1,74 @@
+-- What a closure takes in from another one
+use Rattle.std.specs.Prelude.{◌≡◌, ◌+◌, ◌≤◌, List, length, Contains}
+use Rattle.fed_config.specs.Configuration.{Configuration, HasDomain}
+use Rattle.receipt_core.specs.declared.distrust.Distrust.{Distrust}
+use Rattle.receipt_core.specs.Receipt.{Receipt, receipt_cmp, distrust_cmp}
+use Rattle.receipt_core.specs.Rising.{with_items}
+use Rattle.receipt_core.specs.Acceptance.{IsFitting, Meaning}
+use Rattle.closure_core.specs.Refusals.{IsRoomier, IsOfConfig, IsOfUnknownDomain, IsOfWrongEndpoint}
+use Rattle.closure_core.specs.Refusals.{all_receipts, all_records, offers_count, Room}
+use Rattle.closure_core.specs.Changes.{HeldAndRoom}
+use Rattle.closure_core.specs.declared.error.TakeError.{TakeError}
+use Rattle.closure_core.specs.declared.error.TakeError.TheVariants.{UnknownDomain, WrongEndpoint}
+use Rattle.closure_parts.specs.declared.copies.MergePlan.{MergePlan}
+use Rattle.receipt_core.specs.Limits.{receipt_limit, record_limit}
+
+-- Both together are of one configuration, and no more than one holds.
+pub record IsMergeable (m other : Meaning) : Type 0 where
+  pub of_config : IsOfConfig m other
+  pub few : length (all_receipts m other) ≤ receipt_limit
+  pub few_records : length (all_records m other) ≤ record_limit
+
+-- The other has a receipt that is not held.
+abbrev pub HasNew : Meaning → Meaning → Type 0
+HasNew m other = (r : Receipt) × Contains other.held r × (Contains m.held r → ⊥)
+
+-- These are the receipts of the other that are not held, each once.
+pub record AreCopies (m other : Meaning) (copies : List Receipt) : Type 0 where
+  pub all : with_items receipt_cmp copies m.held ≡ all_receipts m other
+  pub each : (r : Receipt) → Contains copies r → Contains other.held r
+  pub unheld : (r : Receipt) → Contains copies r → Contains m.held r → ⊥
+  pub count : length (all_receipts m other) ≡ length m.held + length copies
+
+-- What is to be taken in, and that it may be.
+pub record IsMergePlan (m other : Meaning) (share : MergePlan) : Type 0 where
+  pub mergeable : IsMergeable m other
+  pub copies : AreCopies m other share.copies.items
+  pub offers : offers_count share.copies.items ≡ share.offers
+
+-- Each receipt fits, or the first cause of these that stands of one of them: its domain is unknown,
+-- or its endpoint is another.
+abbrev pub RefusesFitOfOne : Configuration → List Receipt → TakeError → Type 0
+RefusesFitOfOne c receipts UnknownDomain = (r : Receipt) × Contains receipts r
+    × IsOfUnknownDomain c r
+RefusesFitOfOne c receipts WrongEndpoint =
+    ((r : Receipt) → Contains receipts r → IsOfUnknownDomain c r → ⊥)
+    × ((r : Receipt) × Contains receipts r × IsOfWrongEndpoint c r)
+RefusesFitOfOne c receipts _ = ⊥
+
+-- These are of domains of the configuration, and together with what is held no more than one holds.
+pub record AreKnown (m : Meaning) (records : List Distrust) : Type 0 where
+  pub domains : (x : Distrust) → Contains records x → HasDomain m.config x.domain
+  pub few : length (with_items distrust_cmp records m.records) ≤ record_limit
+
+-- No more room has gone than that of these receipts and their offers.
+pub record HasSpentOn (old : Room) (taken : List Receipt) (new : Room) : Type 0 where
+  pub receipts : old.receipts ≤ new.receipts + length taken
+  pub offers : old.offers ≤ new.offers + offers_count taken
+
+-- These fit, there may be so many more, and there is room for them.
+pub record FitWithinRoom (old : HeldAndRoom) (receipts : List Receipt) : Type 0 where
+  pub fitting : (r : Receipt) → Contains receipts r → IsFitting old.meaning.config r
+  pub few : length old.meaning.held + length receipts ≤ receipt_limit
+  pub room : IsRoomier (record { receipts = length receipts; offers = offers_count receipts })
+      old.room
+
+-- All these records were held before.
+abbrev pub AreOld : Meaning → List Distrust → Type 0
+AreOld m records = (x : Distrust) → Contains records x → Contains m.records x
+
+-- One of these records was not held before.
+pub record HasNewRecord (m : Meaning) (records : List Distrust) : Type 0 where
+  pub added : Distrust
+  pub among : Contains records added
+  pub unheld : Contains m.records added → ⊥

@@ -1,0 +1,3 @@
+mod WordsFacts
+mod OptionTextFacts
+mod SessionsFacts

@@ -1,0 +1,396 @@
+//! The subcommands, and the options of each. A flag has the text `true` where it is given and else
+//! `false`; of the others some may be left out.
+ghost use Rattle.std.specs.Prelude.{◌≡◌, List};
+ghost use Rattle.command_line.specs.Words.{is_flag, is_place, may_be_left_out, option_text};
+ghost use Rattle.command_line.specs.Words.{name_text, options_of};
+
+/// An option, which has one text, or a flag.
+#[derive(Clone, Copy, Debug, PartialEq, Eq)]
+pub enum OptionName {
+    Config,
+    State,
+    Domain,
+    Endpoint,
+    Key,
+    Now,
+    Listen,
+    Sessions,
+    Peer,
+    To,
+    RecordsOnly,
+    /// The state where the command does without one, too.
+    OptionalState,
+    /// The domain where the command does without one, too.
+    OptionalDomain,
+    With,
+    At,
+    Wait,
+    MostBytes,
+    Allow,
+    DryRun,
+    Verbose,
+    Format,
+    Short,
+    Socket,
+    /// The address where the command does without one, too.
+    OptionalListen,
+    Peers,
+    Every,
+    New,
+    /// The format where a running replica prints one format alone.
+    FileFormat,
+}
+
+/// A subcommand.
+#[derive(Clone, Copy, Debug, PartialEq, Eq)]
+pub enum CommandName {
+    /// Prints a bundle document in its canonical form, with its ids.
+    Canon,
+    /// Prints what a configuration says, or where two differ.
+    Config,
+    /// Prints what a replica that took the receipts accepts.
+    Report,
+    /// Prints what a state file holds.
+    List,
+    /// Prints what only one of two state files holds.
+    Diff,
+    /// Prints which document vouches for which, as a graph.
+    Graph,
+    /// Prints how a replica stands.
+    Status,
+    /// Prints the current bundle of a domain.
+    Bundle,
+    /// Prints the receipts by which a document is accepted.
+    Explain,
+    /// Takes a bundle document as it was fetched.
+    Observe,
+    /// Takes what a snapshot holds.
+    Merge,
+    /// Prints what goes along to another configuration.
+    Migrate,
+    /// Prints a configuration whose seeds are the current bundles.
+    Reseed,
+    /// Prints when each bundle is to be fetched next.
+    Polls,
+    /// Distrusts a key.
+    Distrust,
+    /// Answers other replicas.
+    Serve,
+    /// Asks another replica, and takes what it answers.
+    Pull,
+    /// Holds what a replica holds in memory, and answers requests and other replicas.
+    Replica,
+    /// Ends a running replica.
+    Stop,
+}
+
+/// All subcommands, in the order in which help lists them.
+pub(crate) static COMMANDS: [CommandName; 19] = [
+    CommandName::Canon,
+    CommandName::Config,
+    CommandName::Report,
+    CommandName::List,
+    CommandName::Diff,
+    CommandName::Graph,
+    CommandName::Status,
+    CommandName::Bundle,
+    CommandName::Explain,
+    CommandName::Observe,
+    CommandName::Merge,
+    CommandName::Migrate,
+    CommandName::Reseed,
+    CommandName::Polls,
+    CommandName::Distrust,
+    CommandName::Serve,
+    CommandName::Pull,
+    CommandName::Replica,
+    CommandName::Stop,
+];
+
+impl OptionName {
+    /// The option's name, which its word has after two hyphens.
+    pub fn text<'a>(self) -> &'a str
+        ensures { result.now ≡ option_text self }
+    {
+        match self {
+            OptionName::Config => "config",
+            OptionName::State => "state",
+            OptionName::Domain => "domain",
+            OptionName::Endpoint => "endpoint",
+            OptionName::Key => "key",
+            OptionName::Now => "now",
+            OptionName::Listen => "listen",
+            OptionName::Sessions => "sessions",
+            OptionName::Peer => "peer",
+            OptionName::To => "to",
+            OptionName::RecordsOnly => "records-only",
+            OptionName::OptionalState => "state",
+            OptionName::OptionalDomain => "domain",
+            OptionName::With => "with",
+            OptionName::At => "at",
+            OptionName::Wait => "wait",
+            OptionName::MostBytes => "most-bytes",
+            OptionName::Allow => "allow",
+            OptionName::DryRun => "dry-run",
+            OptionName::Verbose => "verbose",
+            OptionName::Format => "format",
+            OptionName::Short => "short",
+            OptionName::Socket => "socket",
+            OptionName::OptionalListen => "listen",
+            OptionName::Peers => "peers",
+            OptionName::Every => "every",
+            OptionName::New => "new",
+            OptionName::FileFormat => "format",
+        }
+    }
+
+    /// Whether it is a flag, which has no text after it.
+    pub fn is_flag(self) -> bool
+        ensures { result ≡ is_flag self }
+    {
+        matches!(
+            self,
+            OptionName::RecordsOnly
+                | OptionName::DryRun
+                | OptionName::Verbose
+                | OptionName::Short
+                | OptionName::New
+        )
+    }
+
+    /// Whether the words may leave it out.
+    pub fn may_be_left_out(self) -> bool
+        ensures { result ≡ may_be_left_out self }
+    {
+        matches!(
+            self,
+            OptionName::OptionalState
+                | OptionName::OptionalDomain
+                | OptionName::With
+                | OptionName::At
+                | OptionName::Wait
+                | OptionName::MostBytes
+                | OptionName::Allow
+                | OptionName::Format
+                | OptionName::OptionalListen
+                | OptionName::Peers
+                | OptionName::Every
+                | OptionName::FileFormat
+        )
+    }
+
+    /// Whether it names a file that a running replica has itself, or is a format that such a
+    /// replica does not print: words with `--at` leave it out.
+    pub fn is_place(self) -> bool
+        ensures { result ≡ is_place self }
+    {
+        matches!(
+            self,
+            OptionName::Config
+                | OptionName::State
+                | OptionName::OptionalState
+                | OptionName::FileFormat
+        )
+    }
+}
+
+static CANON: [OptionName; 2] = [OptionName::Domain, OptionName::FileFormat];
+
+static CONFIG: [OptionName; 3] = [OptionName::Config, OptionName::With, OptionName::FileFormat];
+
+static REPORT: [OptionName; 4] = [
+    OptionName::Config,
+    OptionName::OptionalState,
+    OptionName::FileFormat,
+    OptionName::At,
+];
+
+static LIST: [OptionName; 5] = [
+    OptionName::Config,
+    OptionName::State,
+    OptionName::OptionalDomain,
+    OptionName::FileFormat,
+    OptionName::Verbose,
+];
+
+static GRAPH: [OptionName; 4] = [
+    OptionName::Config,
+    OptionName::State,
+    OptionName::OptionalDomain,
+    OptionName::Verbose,
+];
+
+static DIFF: [OptionName; 4] = [
+    OptionName::Config,
+    OptionName::State,
+    OptionName::With,
+    OptionName::Verbose,
+];
+
+static STATUS: [OptionName; 5] = [
+    OptionName::Config,
+    OptionName::State,
+    OptionName::Format,
+    OptionName::Verbose,
+    OptionName::At,
+];
+
+static BUNDLE: [OptionName; 6] = [
+    OptionName::Config,
+    OptionName::State,
+    OptionName::Domain,
+    OptionName::Format,
+    OptionName::Verbose,
+    OptionName::At,
+];
+
+static EXPLAIN: [OptionName; 7] = [
+    OptionName::Config,
+    OptionName::State,
+    OptionName::Domain,
+    OptionName::Short,
+    OptionName::FileFormat,
+    OptionName::Verbose,
+    OptionName::At,
+];
+
+static OBSERVE: [OptionName; 8] = [
+    OptionName::Config,
+    OptionName::State,
+    OptionName::Domain,
+    OptionName::Endpoint,
+    OptionName::Key,
+    OptionName::Wait,
+    OptionName::Verbose,
+    OptionName::At,
+];
+
+static MERGE: [OptionName; 6] = [
+    OptionName::Config,
+    OptionName::State,
+    OptionName::Wait,
+    OptionName::MostBytes,
+    OptionName::Verbose,
+    OptionName::At,
+];
+
+static MIGRATE: [OptionName; 4] = [
+    OptionName::Config,
+    OptionName::State,
+    OptionName::To,
+    OptionName::RecordsOnly,
+];
+
+static RESEED: [OptionName; 4] = [
+    OptionName::Config,
+    OptionName::State,
+    OptionName::Allow,
+    OptionName::Verbose,
+];
+
+static POLLS: [OptionName; 6] = [
+    OptionName::Config,
+    OptionName::State,
+    OptionName::Now,
+    OptionName::FileFormat,
+    OptionName::Verbose,
+    OptionName::At,
+];
+
+static DISTRUST: [OptionName; 8] = [
+    OptionName::Config,
+    OptionName::State,
+    OptionName::Domain,
+    OptionName::Key,
+    OptionName::DryRun,
+    OptionName::Wait,
+    OptionName::Verbose,
+    OptionName::At,
+];
+
+static SERVE: [OptionName; 5] = [
+    OptionName::Config,
+    OptionName::State,
+    OptionName::Listen,
+    OptionName::Sessions,
+    OptionName::Verbose,
+];
+
+static PULL: [OptionName; 6] = [
+    OptionName::Config,
+    OptionName::State,
+    OptionName::Peer,
+    OptionName::Wait,
+    OptionName::MostBytes,
+    OptionName::Verbose,
+];
+
+static REPLICA: [OptionName; 9] = [
+    OptionName::Config,
+    OptionName::State,
+    OptionName::Socket,
+    OptionName::OptionalListen,
+    OptionName::Peers,
+    OptionName::Every,
+    OptionName::MostBytes,
+    OptionName::New,
+    OptionName::Verbose,
+];
+
+static STOP: [OptionName; 1] = [OptionName::At];
+
+impl CommandName {
+    /// The subcommand's word.
+    pub fn text<'a>(self) -> &'a str
+        ensures { result.now ≡ name_text self }
+    {
+        match self {
+            CommandName::Canon => "canon",
+            CommandName::Config => "config",
+            CommandName::Report => "report",
+            CommandName::List => "list",
+            CommandName::Diff => "diff",
+            CommandName::Graph => "graph",
+            CommandName::Status => "status",
+            CommandName::Bundle => "bundle",
+            CommandName::Explain => "explain",
+            CommandName::Observe => "observe",
+            CommandName::Merge => "merge",
+            CommandName::Migrate => "migrate",
+            CommandName::Reseed => "reseed",
+            CommandName::Polls => "polls",
+            CommandName::Distrust => "distrust",
+            CommandName::Serve => "serve",
+            CommandName::Pull => "pull",
+            CommandName::Replica => "replica",
+            CommandName::Stop => "stop",
+        }
+    }
+
+    /// The subcommand's options, in the order in which they are read.
+    pub fn options(self) -> &'static [OptionName]
+        ensures { result.now ≡ options_of self }
+    {
+        match self {
+            CommandName::Canon => CANON.as_slice(),
+            CommandName::Config => CONFIG.as_slice(),
+            CommandName::Report => REPORT.as_slice(),
+            CommandName::List => LIST.as_slice(),
+            CommandName::Diff => DIFF.as_slice(),
+            CommandName::Graph => GRAPH.as_slice(),
+            CommandName::Status => STATUS.as_slice(),
+            CommandName::Bundle => BUNDLE.as_slice(),
+            CommandName::Explain => EXPLAIN.as_slice(),
+            CommandName::Observe => OBSERVE.as_slice(),
+            CommandName::Merge => MERGE.as_slice(),
+            CommandName::Migrate => MIGRATE.as_slice(),
+            CommandName::Reseed => RESEED.as_slice(),
+            CommandName::Polls => POLLS.as_slice(),
+            CommandName::Distrust => DISTRUST.as_slice(),
+            CommandName::Serve => SERVE.as_slice(),
+            CommandName::Pull => PULL.as_slice(),
+            CommandName::Replica => REPLICA.as_slice(),
+            CommandName::Stop => STOP.as_slice(),
+        }
+    }
+}

@@ -1,0 +1,540 @@
+//! What help and usage say of the command, its subcommands and their options.
+use crate::command_name::{CommandName, OptionName};
+
+/// The version; then the kit with which it is proved and built, and the formats: the numbers are
+/// those in the first lines that are written.
+pub(crate) const VERSION: &str = "\
+0.3.0
+kit rattle-kit-13f logic dac8208d650f15bf
+state format 2, and 1 is read
+journal format 2
+have format 2 of 256
+give format 2 of 256";
+
+/// The command's usage.
+pub(crate) const USAGE: &str = "fedbundle <COMMAND>";
+
+/// What help says after the list of subcommands.
+pub(crate) const NOTES: &str = "\
+`fedbundle <COMMAND> --help` says what a subcommand reads, what it writes, and how it ends.
+
+A fault is one line on standard error, `fedbundle: ` and a code. Exit status:
+  0  done
+  1  an input was refused, or what was asked for is not there
+  2  the words are none that the command has
+  3  a file, a stream or a connection failed
+  4  memory ran out
+Of several it is the greatest.";
+
+const CANON_NOTES: &str = "\
+Reads from standard input a bundle document, JSON of at most 1,048,576 bytes.
+
+Writes to standard output the canonical document, a line `id` with its document id, and
+for each X.509 authority a line `key` with its key id. It writes no file.
+
+--format json prints one object: `document` with the id, `sequence`, `refresh_hint`, `keys`,
+and `bundle` with the canonical document.
+
+Ends with 0; with 1 where the document or the name of the domain is refused, and then
+nothing is printed; with 2 where the format is neither text nor json.";
+
+const CONFIG_NOTES: &str = "\
+Reads the configuration, and with --with another one, and nothing from standard input.
+
+Writes to standard output a line `config` with the configuration's digest, and then its
+relationships, its trust domains and its seeds, a line each; with --with the lines that
+only the first configuration has, each after `- `, and then those that only the other
+has, each after `+ `. It writes no file. Replicas exchange receipts only under equal
+configurations, which have one digest.
+
+--format json prints one object: `config`, `relationships`, `domains` and `seeds`. It does
+not go with --with.
+
+Ends with 0; with 1 where two configurations have two digests; with 1 and nothing printed
+where one is refused; with 2 where the format is neither text nor json.";
+
+const REPORT_NOTES: &str = "\
+Reads the configuration. With --state it reads the state file, and nothing from standard
+input. Without it, it reads from standard input receipts, each a line of at most 8,388,608
+bytes, as `observe` prints them. At most 65,536 different ones are taken, and no record of
+distrust is known.
+
+Writes to standard output the report: the configuration's digest, how many receipts are
+held and how many of them are pending, and for each domain its current document, its
+accepted documents, their conflicts and the keys that are distrusted there. Writes to
+standard error the number of each line that is not taken, and why. It writes no file.
+
+--format json needs --state and prints one object: `config`, `receipts`, `pending`,
+`domains` with `current` and `accepted`, `conflicts`, and `records`.
+
+Ends with 0; with 1 where a line was not taken, and the report is printed all the same;
+with 1 and no report where the configuration or the state is refused or too many receipts
+fit; with 2 where the format is neither text nor json.";
+
+const LIST_NOTES: &str = "\
+Reads the configuration and the state file, and nothing from standard input.
+
+Writes to standard output a line for each receipt, in the order of the state file, and
+then one for each record of distrust; with --domain those of the domain alone:
+  receipt <id> domain <domain> sequence <number> document <id> endpoint <SPIFFE ID>
+    key <key id> voucher <document id> <status>
+  distrust <key id> domain <domain>
+The status is `accepted` where an accepted document vouches for the receipt, `distrusted`
+where its key is distrusted in the endpoint's domain, and else `pending`. It writes no
+file.
+
+--format json prints one object of `receipts` and `records`, whose members are named as
+above.
+
+Ends with 0; with 1 and nothing printed where anything read or the name of the domain is
+refused; with 2 where the format is neither text nor json.";
+
+const DIFF_NOTES: &str = "\
+Reads the configuration, the state file, and with --with another state file under the
+same configuration, and nothing from standard input.
+
+Writes to standard output the line that `list` prints of each receipt and each record of
+distrust that the first state holds and the other does not, after `- `, and then of each
+that only the other holds, after `+ `. The status in a receipt's line is that in the state
+that holds it. It writes no file.
+
+Ends with 0 where both hold the same, and then nothing is printed; with 1 where they do
+not; with 1 and nothing printed where anything read is refused.";
+
+const GRAPH_NOTES: &str = "\
+Reads the configuration and the state file, and nothing from standard input.
+
+Writes to standard output which document vouches for which, as a graph in the language of
+Graphviz: `fedbundle graph .. | dot -Tsvg` draws it. A box is a document, with two borders
+where it is configured, and bold where it is the current one of its domain. An arrow is a
+receipt, from the document that vouches for it to the one that it brought, with the first
+digits of its key: dashed where it is pending, and red where its key is distrusted. With
+--domain it has what brought documents of the domain. It writes no file.
+
+Ends with 0; with 1 and nothing printed where anything read or the name of the domain is
+refused.";
+
+const STATUS_NOTES: &str = "\
+Reads the configuration and the state file, and nothing from standard input.
+
+Writes to standard output how the replica stands: the configuration's digest, how many
+receipts and records of distrust are held, and for each trust domain its current bundle
+with the keys of that, and how many bundles are accepted and are in conflict. It writes
+no file. A line `warning` at the end comes for each configured bundle without an X.509
+authority, for each distrusted key that a current bundle lists, and where more than nine
+tenths of the receipts or of the records of distrust are held that may be.
+
+--format json prints one object, and --format prometheus gauges in the text format of
+Prometheus. Both have whether there is a warning.
+
+Ends with 0; with 1 where there is a warning, and all is printed; with 1 and nothing
+printed where anything read is refused; with 2 where the format is none of the three.";
+
+const BUNDLE_NOTES: &str = "\
+Reads the configuration and the state file, and nothing from standard input.
+
+Writes to standard output the domain's current document in its canonical form, on a line;
+with --format pem the certificates of its X.509 authorities as PEM, none where it has no
+such authority. It writes no file.
+
+Ends with 0; with 1 where the domain has no current document, or where the configuration,
+the state or the name of the domain is refused; with 2 where the format is neither json
+nor pem.";
+
+const EXPLAIN_NOTES: &str = "\
+Reads the configuration, the state file, and from standard input a bundle document, JSON
+of at most 1,048,576 bytes.
+
+Writes to standard output the receipts, a line each, of a shortest chain that leads from a
+configured document to this one; none for a configured document. It writes no file.
+
+With --short it writes a line for each receipt of the chain, the last one first, and then
+one for the configured document:
+  DOCUMENT_ID sequence N <- key KEY_ID of DOCUMENT_ID
+  DOCUMENT_ID configured
+
+--format json prints one object: `document`, `configured` with the id of the configured
+document, and `receipts`. It does not go with --short.
+
+Ends with 0; with 1 where the document is not accepted, or where anything read is refused;
+with 2 where the format is neither text nor json.";
+
+const OBSERVE_NOTES: &str = "\
+Reads the configuration, the state file, and from standard input a bundle document as it
+was fetched, JSON of at most 1,048,576 bytes. What --endpoint and --key say is the verdict
+of TLS on the connection that brought it, and is believed.
+
+Writes to standard output the receipt, on a line, and then the state file with it, by way
+of FILE.new and under the lock of FILE.lock: at most 65,536 receipts are held. What is
+printed counts only where the exit status is 0.
+
+Ends with 0; with 1 where anything read is refused, where the endpoint is another than the
+relationship says, or where the current document of its domain does not list the key. Then
+the state file is left as it was.";
+
+const MERGE_NOTES: &str = "\
+Reads the configuration, the state file, and from standard input a snapshot: a state file
+under the same configuration, with lines of at most 8,388,608 bytes.
+
+Writes to standard output `new` and how many of its receipts were not held, and then the
+state file, which holds what either held, by way of FILE.new and under the lock of
+FILE.lock: at most 65,536 receipts and 4,096 records of distrust. What is printed counts
+only where the exit status is 0.
+
+Ends with 0; with 1 where anything read is refused or the two together are too many. Then
+nothing is taken, and the state file is left as it was.";
+
+const MIGRATE_NOTES: &str = "\
+Reads the configuration, the state file, and the other configuration of --to, and nothing
+from standard input.
+
+Writes to standard output the state file under the other configuration: the receipts that
+fit it, and the records of distrust whose domain it has; with --records-only the records
+alone. Writes to standard error a line for each record and each receipt that is left out,
+`left out record <key id> of <domain>: <cause>` or `left out receipt <receipt id> of
+<domain>: <cause>`. It writes no file. Replicas that held the same print the same.
+
+Ends with 0; with 1 where something was left out, and the rest is printed; with 1 and
+nothing printed where anything read is refused.";
+
+const RESEED_NOTES: &str = "\
+Reads the configuration and the state file, and nothing from standard input.
+
+Writes to standard output the configuration with the same relationships, whose seeds are
+the current bundles. It writes no file. The records of distrust go along by `migrate
+--records-only`.
+
+Ends with 0; with 1 where anything read is refused, or where a current bundle lists a
+distrusted key or another bundle has its sequence: then each such domain, but for the one
+of --allow, has a line on standard error, and nothing else is printed.";
+
+const POLLS_NOTES: &str = "\
+Reads the configuration, the state file, and from standard input the polls so far in their
+order, a line each: `<domain> ok <seconds>` or `<domain> fail <seconds>`, with a domain
+that has a relationship and a moment in Unix seconds. It reads no clock.
+
+Writes to standard output a line for each relationship: `<domain> due`,
+`<domain> <seconds>` with the moment of its next poll, or `<domain> past range`. It writes
+no file.
+
+--format json prints one object of `polls`, each with `domain`, `due`, and `next`, which is
+null where the poll is due or past the range.
+
+Ends with 0; with 1 where anything read is refused, and then nothing is printed; with 2
+where the format is neither text nor json.";
+
+const DISTRUST_NOTES: &str = "\
+Reads the configuration and the state file, and nothing from standard input.
+
+Writes the state file, by way of FILE.new and under the lock of FILE.lock, with the record
+that the key vouches for nothing in the domain any more; at most 4,096 records are held,
+and none is ever taken back. It prints nothing; with --verbose it first writes to standard
+error what the record changes.
+
+With --dry-run it writes no file, and writes to standard output what the record would
+change, domain by domain:
+  falls DOMAIN document ID sequence N
+  current DOMAIN before ID sequence N after ID sequence N
+  gains DOMAIN key KEY_ID
+  loses DOMAIN key KEY_ID
+  lists DOMAIN key KEY_ID
+  locked-out DOMAIN
+`falls` is a document that is not accepted any more. `current` comes for the domain of
+--domain, and where the current document changes; then the keys that only the later or only
+the earlier one has, the distrusted ones that the later one still lists, and `locked-out`
+where none of its keys can vouch. A last line begins with `warning` where no document of
+the domain that is held lists the key.
+
+Ends with 0, also where the record was held; with 1 where the domain is none of the
+configuration or anything read is refused. Then the state file is left as it was.";
+
+const SERVE_NOTES: &str = "\
+Reads the configuration and the state file once, and writes no file. It waits at the
+address for one client after another, as long as it takes, and answers the haves of
+each until the client closes its end. Nothing is encrypted, and nobody is asked who it is.
+
+A session ends with the fault S9 where a read or a write moves no byte for 30 seconds,
+and with the first read or write that begins when 600 seconds are over: so a session
+takes 630 seconds at most. Its fault is a line on standard error, and it counts as served.
+
+Writes to standard output, at the end, `served` and how many sessions there were.
+
+Ends with the greatest exit status of its sessions: with 1 where what a client sent is
+refused. Ends with 1 and without a session where anything read or the address is refused,
+and with 3 where the address is taken.";
+
+const PULL_NOTES: &str = "\
+Reads the configuration and the state file, asks the other replica, which has to have the
+same configuration, for the receipts and the records of distrust that this one lacks, and
+takes what is answered.
+
+Writes to standard output `new` and how many receipts were not held, and then the state
+file, by way of FILE.new and under the lock of FILE.lock: at most 65,536 receipts and
+4,096 records of distrust are held. Where the session ends with a fault, what came before
+it is taken and written too, `new` is not printed, and the fault's line ends with `taken`
+and how many receipts were new.
+
+To connect takes 30 seconds at most: else, and where nobody serves at the address, it ends
+with the fault S9, and writes nothing. The session ends with S9 where a read or a write
+moves no byte for 30 seconds, and with the first read or write that begins when 600
+seconds are over: so it takes 630 seconds at most.
+
+Ends with 0; with 1 where anything read or answered is refused; with 3 where there is no
+connection or it failed.";
+
+const REPLICA_NOTES: &str = "\
+Reads the configuration and the state file, and nothing from standard input. It keeps what
+they hold in memory, and the lock of FILE.lock, until `stop` ends it.
+
+Answers requests of this machine on the socket, whose mode is 0600: the commands with --at.
+Answers other replicas at the address of --listen, as `serve` does, and pulls from each of
+--peers in turn, as `pull` does. At most 128 connections are open at once, 64 of them of
+this machine. One on which nothing moves for 30 seconds, or which is older than 600
+seconds, is closed.
+
+Each change is appended to FILE.journal and put on the disk before it is acknowledged. The
+journal is folded into the state file at the start, and when it has more than 8,388,608
+bytes and more than half of those of the state file. Without a state file --new is needed.
+
+Writes to standard output a line `ready`, the configuration's digest, `receipts` and how
+many are held, `distrusts` and how many records, once it accepts requests. Writes to
+standard error a line for each event, with pairs of a word and a value.
+
+Ends with 0 after `stop`; with 1 where the configuration or the state is refused, or there
+is no state file; with 3 where the state is locked, the socket is taken, or a change could
+not be put on the disk.";
+
+const STOP_NOTES: &str = "\
+Asks the running replica whose socket is at the path to end, and reads nothing from
+standard input. What the replica acknowledged before is on the disk.
+
+It prints nothing, and writes no file.
+
+Ends with 0; with 3 where no replica answers there.";
+
+impl OptionName {
+    /// What help calls the option's text.
+    pub(crate) fn value_name<'a>(self) -> &'a str {
+        match self {
+            OptionName::Config => "FILE",
+            OptionName::State => "FILE",
+            OptionName::Domain => "DOMAIN",
+            OptionName::Endpoint => "SPIFFE_ID",
+            OptionName::Key => "KEY_ID",
+            OptionName::Now => "SECONDS",
+            OptionName::Listen => "ADDRESS",
+            OptionName::Sessions => "COUNT",
+            OptionName::Peer => "ADDRESS",
+            OptionName::To => "FILE",
+            OptionName::RecordsOnly => "",
+            OptionName::OptionalState => "FILE",
+            OptionName::OptionalDomain => "DOMAIN",
+            OptionName::With => "FILE",
+            OptionName::At => "PATH",
+            OptionName::Wait => "SECONDS",
+            OptionName::MostBytes => "BYTES",
+            OptionName::Allow => "DOMAIN",
+            OptionName::DryRun => "",
+            OptionName::Verbose => "",
+            OptionName::Format => "FORMAT",
+            OptionName::Short => "",
+            OptionName::Socket => "PATH",
+            OptionName::OptionalListen => "ADDRESS",
+            OptionName::Peers => "ADDRESS,..",
+            OptionName::Every => "SECONDS",
+            OptionName::New => "",
+            OptionName::FileFormat => "FORMAT",
+        }
+    }
+
+    /// What help says of the option.
+    pub(crate) fn about<'a>(self) -> &'a str {
+        match self {
+            OptionName::Config =>
+                "The configuration, as JSON: at most 1,024 relationships and 4,096 seeds",
+            OptionName::State => "The state file; one that is not there holds nothing",
+            OptionName::Domain => "A trust domain name, of at most 255 bytes",
+            OptionName::Endpoint =>
+                "The SPIFFE ID that the endpoint was authenticated as, of at most 2,048 bytes",
+            OptionName::Key =>
+                "The SHA-256 of an authority's certificate, 64 digits of 0-9 and a-f",
+            OptionName::Now => "The present moment, in Unix seconds; a negative one as --now=-5",
+            OptionName::Listen => "The address to wait at: an IP address and a port",
+            OptionName::Sessions => "How many sessions to serve, from 1 to 1000000",
+            OptionName::Peer =>
+                "The address at which the other replica serves: an IP address and a port",
+            OptionName::To => "The other configuration, as JSON with the same limits",
+            OptionName::RecordsOnly => "Takes the records of distrust alone, and no receipt",
+            OptionName::OptionalState => "The state file, in place of standard input",
+            OptionName::OptionalDomain => "The one trust domain whose lines are printed",
+            OptionName::With => "What to compare with: a file of the same kind",
+            OptionName::At => "The socket of a running replica, in place of the two files",
+            OptionName::Wait =>
+                "How long to wait for the state's lock, from 0 to 86400 seconds [60]",
+            OptionName::MostBytes =>
+                "How many bytes to take at most, with those of the state file [4294967296]",
+            OptionName::Allow => "A domain whose current bundle may be a seed in any case",
+            OptionName::DryRun => "Prints what would change, and writes no file",
+            OptionName::Verbose => "Says more on standard error",
+            OptionName::Format => "The format of what is printed; the formats are named below",
+            OptionName::Short => "Prints a short line for each step",
+            OptionName::Socket => "The path of the socket to answer requests of this machine at",
+            OptionName::OptionalListen =>
+                "The address where other replicas pull: an IP address and a port",
+            OptionName::Peers =>
+                "The addresses of at most 16 replicas to pull from, with commas between them",
+            OptionName::Every =>
+                "How long after a round of pulls the next one begins, from 1 to 86400 seconds [60]",
+            OptionName::New => "Begins without a state file where there is none",
+            OptionName::FileFormat => "The format of what is printed: text, or json",
+        }
+    }
+}
+
+impl CommandName {
+    /// What help says of the subcommand.
+    pub(crate) fn about<'a>(self) -> &'a str {
+        match self {
+            CommandName::Canon => {
+                "Prints the bundle document on standard input in its canonical form, with its ids"
+            }
+            CommandName::Config => "Prints what a configuration says, or where two differ",
+            CommandName::Report => {
+                "Prints what receipts make a replica accept: those of the state file, or of \
+                standard input"
+            }
+            CommandName::List => "Prints each receipt and each record of distrust that is held",
+            CommandName::Diff => "Prints what only one of two states holds",
+            CommandName::Graph => "Prints which document vouches for which, as a graph",
+            CommandName::Status => "Prints how the replica stands, and what needs attention",
+            CommandName::Bundle => "Prints the current bundle of a domain",
+            CommandName::Explain => {
+                "Prints the receipts by which the document on standard input is accepted"
+            }
+            CommandName::Observe => {
+                "Takes the bundle document on standard input, as it was fetched, and prints its \
+                receipt"
+            }
+            CommandName::Merge => "Takes what the snapshot on standard input holds",
+            CommandName::Migrate => "Prints the state file for another configuration",
+            CommandName::Reseed => "Prints a configuration whose seeds are the current bundles",
+            CommandName::Polls => {
+                "Reads poll lines on standard input and prints when each bundle is to be fetched \
+                next"
+            }
+            CommandName::Distrust => "Distrusts a key in a domain, for good",
+            CommandName::Serve => "Answers other replicas that pull from this one",
+            CommandName::Pull => "Asks another replica, and takes what this one lacks",
+            CommandName::Replica => {
+                "Stays: answers requests of this machine and other replicas, and pulls by itself"
+            }
+            CommandName::Stop => "Ends a running replica",
+        }
+    }
+
+    /// The subcommand's usage: its word and its options, each with what its text is.
+    pub(crate) fn usage<'a>(self) -> &'a str {
+        match self {
+            CommandName::Canon => "fedbundle canon --domain <DOMAIN> [--format <FORMAT>]",
+            CommandName::Config => {
+                "fedbundle config --config <FILE> [--with <FILE>] [--format <FORMAT>]"
+            }
+            CommandName::Report => {
+                "fedbundle report --config <FILE> [--state <FILE>] [--format <FORMAT>]\n       \
+                fedbundle report --at <PATH>"
+            }
+            CommandName::List => {
+                "fedbundle list --config <FILE> --state <FILE> [--domain <DOMAIN>] \
+                [--format <FORMAT>] [--verbose]"
+            }
+            CommandName::Diff => {
+                "fedbundle diff --config <FILE> --state <FILE> --with <FILE> [--verbose]"
+            }
+            CommandName::Graph => {
+                "fedbundle graph --config <FILE> --state <FILE> [--domain <DOMAIN>] [--verbose]"
+            }
+            CommandName::Status => {
+                "fedbundle status --config <FILE> --state <FILE> [--format <FORMAT>] \
+                [--verbose]\n       \
+                fedbundle status --at <PATH> [--format <FORMAT>] [--verbose]"
+            }
+            CommandName::Bundle => {
+                "fedbundle bundle --config <FILE> --state <FILE> --domain <DOMAIN> \
+                [--format <FORMAT>] [--verbose]\n       \
+                fedbundle bundle --at <PATH> --domain <DOMAIN> [--format <FORMAT>] [--verbose]"
+            }
+            CommandName::Explain => {
+                "fedbundle explain --config <FILE> --state <FILE> --domain <DOMAIN> [--short] \
+                [--format <FORMAT>] [--verbose]\n       \
+                fedbundle explain --at <PATH> --domain <DOMAIN> [--short] [--verbose]"
+            }
+            CommandName::Observe => {
+                "fedbundle observe --config <FILE> --state <FILE> --domain <DOMAIN> \
+                --endpoint <SPIFFE_ID> --key <KEY_ID> [--wait <SECONDS>] [--verbose]\n       \
+                fedbundle observe --at <PATH> --domain <DOMAIN> --endpoint <SPIFFE_ID> \
+                --key <KEY_ID> [--verbose]"
+            }
+            CommandName::Merge => {
+                "fedbundle merge --config <FILE> --state <FILE> [--wait <SECONDS>] \
+                [--most-bytes <BYTES>] [--verbose]\n       \
+                fedbundle merge --at <PATH> [--most-bytes <BYTES>] [--verbose]"
+            }
+            CommandName::Migrate => {
+                "fedbundle migrate --config <FILE> --state <FILE> --to <FILE> [--records-only]"
+            }
+            CommandName::Reseed => {
+                "fedbundle reseed --config <FILE> --state <FILE> [--allow <DOMAIN>] [--verbose]"
+            }
+            CommandName::Polls => {
+                "fedbundle polls --config <FILE> --state <FILE> --now <SECONDS> \
+                [--format <FORMAT>] [--verbose]\n       \
+                fedbundle polls --at <PATH> --now <SECONDS> [--verbose]"
+            }
+            CommandName::Distrust => {
+                "fedbundle distrust --config <FILE> --state <FILE> --domain <DOMAIN> \
+                --key <KEY_ID> [--dry-run] [--wait <SECONDS>] [--verbose]\n       \
+                fedbundle distrust --at <PATH> --domain <DOMAIN> --key <KEY_ID> [--dry-run] \
+                [--verbose]"
+            }
+            CommandName::Serve => {
+                "fedbundle serve --config <FILE> --state <FILE> --listen <ADDRESS> \
+                --sessions <COUNT> [--verbose]"
+            }
+            CommandName::Pull => {
+                "fedbundle pull --config <FILE> --state <FILE> --peer <ADDRESS> \
+                [--wait <SECONDS>] [--most-bytes <BYTES>] [--verbose]"
+            }
+            CommandName::Replica => {
+                "fedbundle replica --config <FILE> --state <FILE> --socket <PATH> \
+                [--listen <ADDRESS>] [--peers <ADDRESS,..>] [--every <SECONDS>] \
+                [--most-bytes <BYTES>] [--new] [--verbose]"
+            }
+            CommandName::Stop => "fedbundle stop --at <PATH>",
+        }
+    }
+
+    /// What help says after the subcommand's options: what it reads and writes, and how it ends.
+    pub(crate) fn notes<'a>(self) -> &'a str {
+        match self {
+            CommandName::Canon => CANON_NOTES,
+            CommandName::Config => CONFIG_NOTES,
+            CommandName::Report => REPORT_NOTES,
+            CommandName::List => LIST_NOTES,
+            CommandName::Diff => DIFF_NOTES,
+            CommandName::Graph => GRAPH_NOTES,
+            CommandName::Status => STATUS_NOTES,
+            CommandName::Bundle => BUNDLE_NOTES,
+            CommandName::Explain => EXPLAIN_NOTES,
+            CommandName::Observe => OBSERVE_NOTES,
+            CommandName::Merge => MERGE_NOTES,
+            CommandName::Migrate => MIGRATE_NOTES,
+            CommandName::Reseed => RESEED_NOTES,
+            CommandName::Polls => POLLS_NOTES,
+            CommandName::Distrust => DISTRUST_NOTES,
+            CommandName::Serve => SERVE_NOTES,
+            CommandName::Pull => PULL_NOTES,
+            CommandName::Replica => REPLICA_NOTES,
+            CommandName::Stop => STOP_NOTES,
+        }
+    }
+}

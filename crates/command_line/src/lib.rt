@@ -1,0 +1,19 @@
+//! The words of the command line, without a file, a stream or a replica: the subcommands and their
+//! options, what help says of them, the call that words make, and what the texts of options say.
+#![tactic(auto)]
+
+mod command_name;
+mod help_texts;
+mod option_error;
+mod option_texts;
+mod sessions;
+mod words;
+
+pub use command_name::{CommandName, OptionName};
+pub use option_error::OptionError;
+pub use option_texts::{
+    BundleFormat, ExplanationForm, Manner, OutputForm, explanation_form, given, is_flag_given,
+    manner_of, read_bundle_format, read_explanation_form, read_key, read_output_form, wanted,
+};
+pub use sessions::read_sessions;
+pub use words::{Call, WordsError, command_of, read_request, read_words};

@@ -1,0 +1,237 @@
+//! The texts of options, found and read.
+ghost use Rattle.std.specs.Prelude.{◌≡◌, ℕ, IfOk, IfErr, Ok, Some, None, map, option_map};
+ghost use Rattle.hex.specs.Hex.{decode_sized};
+ghost use Rattle.command_line.specs.OptionTexts.{SaysBundleFormat, SaysExplanationForm, SaysFlag};
+ghost use Rattle.command_line.specs.OptionTexts.{option_said};
+ghost use Rattle.command_line.specs.OptionTexts.{SaysExplanationIn, SaysNoExplanationIn};
+ghost use Rattle.command_line.specs.OptionTexts.{SaysNoOutputForm, SaysOutputForm, said_beside};
+ghost use Rattle.command_line.specs.declared.option_error.OptionError.TheVariants.{BadKey};
+ghost use Rattle.command_line.specs.declared.option_error.OptionError.TheVariants.{BadNumber};
+ghost use Rattle.command_line.specs.declared.option_error.OptionError.TheVariants.{Usage};
+
+use crate::command_name::OptionName;
+use crate::option_error::OptionError;
+use crate::words::Call;
+use jwk_set::KeyId;
+
+/// How many seconds the lock of a state is waited for where nothing else is said, and at most.
+const WAIT_SECONDS: u64 = 60;
+
+const MAX_WAIT_SECONDS: u64 = 86_400;
+
+/// How many bytes are held at most where nothing else is said.
+const MOST_BYTES: u64 = 4_294_967_296;
+
+/// How `bundle` writes a document.
+#[derive(Clone, Copy, Debug, PartialEq, Eq)]
+pub enum BundleFormat {
+    /// Its canonical text.
+    Json,
+    /// The certificates of its X.509 authorities, as PEM.
+    Pem,
+}
+
+/// In which of two forms a command writes what it shows.
+#[derive(Clone, Copy, Debug, PartialEq, Eq)]
+pub enum OutputForm {
+    /// Lines for people.
+    Text,
+    /// A compact JSON object and a line feed.
+    Json,
+}
+
+/// How an explanation is written.
+#[derive(Clone, Copy, Debug, PartialEq, Eq)]
+pub enum ExplanationForm {
+    /// The lines of the receipts, from the configured document on; none for a configured one.
+    Receipts,
+    /// A line for each step, from the document back to the configured one: `<document id> sequence
+    /// <n> <- key <key id> of <document id>`, and at the end `<document id> configured`.
+    Steps,
+    /// A compact JSON object.
+    Json,
+}
+
+/// What the options say that may be left out.
+#[derive(Clone, Copy, Debug)]
+pub struct Manner {
+    /// How many seconds the lock of the state is waited for.
+    pub wait_seconds: u64,
+    /// How many bytes the state file and what comes to it may have together.
+    pub most_bytes: u64,
+    /// Whether more is said on standard error.
+    pub is_verbose: bool,
+}
+
+/// The text that the words give the option of this name, where they give it one.
+pub fn given<'a>(call: &Call<'a>, wanted: OptionName) -> Option<&'a str>
+    ensures { option_map (λ t. t.now) result ≡ option_said call.now.name
+        (map (option_map (λ t. t.now)) call.now.texts.items) wanted }
+{
+    said_beside(call.name.options(), call.texts.as_slice(), wanted)
+}
+
+// The text beside the option of this name.
+fn said_beside<'a>(
+    options: &[OptionName],
+    texts: &[Option<&'a str>],
+    wanted: OptionName,
+) -> Option<&'a str>
+    ensures { option_map (λ t. t.now) result
+        ≡ said_beside options.now (map (option_map (λ t. t.now)) texts.now) wanted }
+{
+    let mut rest = texts;
+    'options: for &option in options {
+        let [text, more @ ..] = rest else {
+            return None;
+        };
+        if option.text() == wanted.text() {
+            return *text;
+        }
+        rest = more;
+    }
+    None
+}
+
+/// The text of an option that the command wants.
+///
+/// # Errors
+/// The words leave it out.
+pub fn wanted<'a>(call: &Call<'a>, wanted: OptionName) -> Result<&'a str, OptionError>
+    ensures ok { IfOk result (λ text. option_said call.now.name
+        (map (option_map (λ t. t.now)) call.now.texts.items) wanted ≡ Some text.now) }
+    ensures usage { IfErr result (λ error. (error ≡ Usage) × (option_said call.now.name
+        (map (option_map (λ t. t.now)) call.now.texts.items) wanted ≡ None)) }
+{
+    match given(call, wanted) {
+        Some(text) => Ok(text),
+        None => Err(OptionError::Usage),
+    }
+}
+
+/// What the words say of waiting, of the most bytes and of saying more.
+///
+/// # Errors
+/// A text is no number, or one out of its range.
+pub fn manner_of(call: &Call<'_>) -> Result<Manner, OptionError>
+    ensures refused { IfErr result (λ error. (option : OptionName) × (error ≡ BadNumber option)) }
+{
+    let wait = given(call, OptionName::Wait);
+    let most = given(call, OptionName::MostBytes);
+    Ok(Manner {
+        wait_seconds: number_up_to(wait, WAIT_SECONDS, MAX_WAIT_SECONDS).ok_or(
+            OptionError::BadNumber(OptionName::Wait),
+        )?,
+        most_bytes: number_up_to(most, MOST_BYTES, u64::MAX).ok_or(OptionError::BadNumber(
+            OptionName::MostBytes,
+        ))?,
+        is_verbose: is_flag_given(given(call, OptionName::Verbose)),
+    })
+}
+
+// The number of the text, or the other one where there is no text.
+fn number_up_to(text: Option<&str>, otherwise: u64, most: u64) -> Option<u64> {
+    let Some(text) = text else {
+        return Some(otherwise);
+    };
+    let has_digits = text.bytes().all(|byte| byte.is_ascii_digit());
+    match text.parse::<u64>() {
+        Ok(number) if has_digits && number <= most => Some(number),
+        _ => None,
+    }
+}
+
+/// The key id of 64 lower-case hexadecimal digits.
+///
+/// # Errors
+/// The text is something else.
+pub fn read_key(text: &str) -> Result<KeyId, OptionError>
+    ensures ok { IfOk result (λ key. decode_sized text.now 32 ≡ Ok key.0) }
+    ensures refused { IfErr result (λ error. error ≡ BadKey) }
+{
+    let is_lower = text
+        .bytes()
+        .all(|b| b.is_ascii_digit() || (b'a'..=b'f').contains(&b));
+    let mut id = [0; 32];
+    if is_lower && hex::decode_to_slice(text, &mut id).is_ok() {
+        Ok(KeyId(id))
+    } else {
+        Err(OptionError::BadKey)
+    }
+}
+
+/// The format of `bundle`: `json`, which is also meant where nothing is said, or `pem`.
+///
+/// # Errors
+/// The text is something else.
+pub fn read_bundle_format(text: Option<&str>) -> Result<BundleFormat, OptionError>
+    ensures ok { IfOk result (SaysBundleFormat (option_map (λ t. t.now) text.entry)) }
+    ensures refused { IfErr result (λ error. error ≡ Usage) }
+{
+    match text {
+        None => Ok(BundleFormat::Json),
+        Some(text) if text == "json" => Ok(BundleFormat::Json),
+        Some(text) if text == "pem" => Ok(BundleFormat::Pem),
+        Some(_) => Err(OptionError::Usage),
+    }
+}
+
+/// Whether the words have the flag, by its text.
+pub fn is_flag_given(text: Option<&str>) -> bool
+    ensures { SaysFlag (option_map (λ t. t.now) text.entry) result }
+{
+    match text {
+        Some(text) => text == "true",
+        None => false,
+    }
+}
+
+/// How `explain` writes a chain, by the text of its flag for short lines.
+pub fn explanation_form(short: Option<&str>) -> ExplanationForm
+    ensures { SaysExplanationForm (option_map (λ t. t.now) short.entry) result }
+{
+    if is_flag_given(short) {
+        ExplanationForm::Steps
+    } else {
+        ExplanationForm::Receipts
+    }
+}
+
+/// The form of `canon`, `config`, `report`, `list` and `polls`: `text`, which is also meant where
+/// nothing is said, or `json`.
+///
+/// # Errors
+/// The text is something else.
+pub fn read_output_form(text: Option<&str>) -> Result<OutputForm, OptionError>
+    ensures ok { IfOk result (SaysOutputForm (option_map (λ t. t.now) text.entry)) }
+    ensures refused { IfErr result (λ error. (error ≡ Usage)
+        × SaysNoOutputForm (option_map (λ t. t.now) text.entry)) }
+{
+    match text {
+        None => Ok(OutputForm::Text),
+        Some(text) if text == "text" => Ok(OutputForm::Text),
+        Some(text) if text == "json" => Ok(OutputForm::Json),
+        Some(_) => Err(OptionError::Usage),
+    }
+}
+
+/// How `explain` writes a chain, by the texts of its flag for short lines and of its form.
+///
+/// # Errors
+/// The text of the form is neither `text` nor `json`, or it is `json` and the flag is given.
+pub fn read_explanation_form(
+    short: Option<&str>,
+    form: Option<&str>,
+) -> Result<ExplanationForm, OptionError>
+    ensures ok { IfOk result (SaysExplanationIn (option_map (λ t. t.now) short.entry)
+        (option_map (λ t. t.now) form.entry)) }
+    ensures refused { IfErr result (λ error. (error ≡ Usage)
+        × SaysNoExplanationIn (option_map (λ t. t.now) short.entry)
+        (option_map (λ t. t.now) form.entry)) }
+{
+    match read_output_form(form)? {
+        OutputForm::Text => Ok(explanation_form(short)),
+        OutputForm::Json if is_flag_given(short) => Err(OptionError::Usage),
+        OutputForm::Json => Ok(ExplanationForm::Json),
+    }
+}

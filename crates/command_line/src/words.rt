@@ -1,0 +1,266 @@
+//! Reads the words of the command line. `specs/Words` has the command as `clap` knows it.
+ghost use Rattle.std.specs.Prelude.{◌≡◌, ℕ, false, IfOk, IfSome, map, option_map};
+ghost use Rattle.std.specs.List.{list_all};
+ghost use Rattle.clap.specs.Words.{app_of, found_of, rule_of, rows_of};
+ghost use Rattle.command_line.specs.Words.{CallsFrom, CallsInRequest, given, is_settled};
+ghost use Rattle.command_line.specs.Words.{is_settled_in, leaf, name_text, rule_of_option};
+ghost use Rattle.command_line.specs.Words.{settled_at, the_command};
+ghost use Rattle.command_line.specs.declared.words.WordsPlace.TheVariants.{CommandLine};
+
+use crate::command_name::{COMMANDS, CommandName, OptionName};
+use crate::help_texts;
+use clap::error::ErrorKind;
+use clap::{Arg, ArgAction, ArgMatches, Command};
+use std::alloc::{AllocError, AllocFailed, Global};
+
+/// What the words ask for.
+#[derive(Debug, Drop)]
+pub struct Call<'a> {
+    /// The subcommand.
+    pub name: CommandName,
+    /// The texts of its options, in the order of [`CommandName::options`]: none for an option that
+    /// the words leave out.
+    pub texts: Vec<Option<&'a str>>,
+}
+
+/// Why words are no call.
+#[derive(Debug, Drop)]
+pub enum WordsError {
+    /// They are none that the command has, or ask for its help or version.
+    Words(clap::Error),
+    /// The subcommand, or one of its options, is missing.
+    Usage,
+    /// Memory ran out.
+    NoMemory,
+}
+
+/// Where words stand.
+#[derive(Clone, Copy, Debug)]
+pub(crate) enum WordsPlace {
+    /// After the program's name.
+    CommandLine,
+    /// In a request to a running replica.
+    Request,
+}
+
+/// Reads the words after the program's name, as `clap` reads them for the command with these
+/// subcommands, each of whose options has one text: the subcommand, and the text of each of its
+/// options. A flag's text is `true` where it is given, and else `false`. Words with `--at` leave
+/// out `--config` and `--state`, which a running replica has itself.
+///
+/// # Errors
+/// - [`WordsError::Words`]: `clap` refuses the words, or they ask for help or for the version,
+/// - [`WordsError::Usage`]: `clap` takes the words, and the subcommand or an option that it wants
+///   is missing, or `--at` stands beside a file,
+/// - [`WordsError::NoMemory`]: memory ran out.
+pub fn read_words<'a>(alloc: Global, words: &'a [&'a str]) -> Result<Call<'a>, WordsError>
+    ensures { IfOk result (λ call. CallsFrom CommandLine (map (λ w. w.now) words.now) call.name
+        (map (option_map (λ t. t.now)) call.texts.items)) }
+{
+    read_call(alloc, words, WordsPlace::CommandLine)
+}
+
+/// Reads the words of a request to a running replica: those of the command line without `--at`,
+/// and without `--config` and `--state`, which the replica has itself.
+///
+/// # Errors
+/// Those of [`read_words`]; [`WordsError::Usage`] where one of these three is given.
+pub fn read_request<'a>(alloc: Global, words: &'a [&'a str]) -> Result<Call<'a>, WordsError>
+    ensures { IfOk result (λ call. CallsInRequest (map (λ w. w.now) words.now) call.name
+        (map (option_map (λ t. t.now)) call.texts.items)) }
+{
+    read_call(alloc, words, WordsPlace::Request)
+}
+
+fn read_call<'a>(
+    alloc: Global,
+    words: &'a [&'a str],
+    place: WordsPlace,
+) -> Result<Call<'a>, WordsError>
+    ensures { IfOk result (λ call. CallsFrom place (map (λ w. w.now) words.now) call.name
+        (map (option_map (λ t. t.now)) call.texts.items)) }
+{
+    match parse_words(alloc, words, place) {
+        Err(WordsError::Words(error)) => Err(with_all_names(alloc, error)),
+        read => read,
+    }
+}
+
+fn parse_words<'a>(
+    alloc: Global,
+    words: &'a [&'a str],
+    place: WordsPlace,
+) -> Result<Call<'a>, WordsError>
+    ensures { IfOk result (λ call. CallsFrom place (map (λ w. w.now) words.now) call.name
+        (map (option_map (λ t. t.now)) call.texts.items)) }
+{
+    let matches = command(alloc)?.try_get_matches_from(words)?;
+    let Some((word, options)) = matches.subcommand() else {
+        return Err(WordsError::Usage);
+    };
+    let Some(name) = name_of(word) else {
+        return Err(WordsError::Usage);
+    };
+    let wanted = name.options();
+    if !are_settled(options, wanted, place) {
+        return Err(WordsError::Usage);
+    }
+    let texts = texts_of(alloc, options, wanted)?;
+    Ok(Call { name, texts })
+}
+
+// For a word that is no subcommand clap tips the one that is closest to it. That may be `distrust`,
+// which cannot be taken back. So all are named instead.
+fn with_all_names(alloc: Global, error: clap::Error) -> WordsError {
+    match error.kind() {
+        ErrorKind::InvalidSubcommand => match name_all(alloc, &error) {
+            Ok(named) => WordsError::Words(named),
+            Err(_) => WordsError::NoMemory,
+        },
+        _ => WordsError::Words(error),
+    }
+}
+
+fn name_all(alloc: Global, error: &clap::Error) -> Result<clap::Error, AllocError> {
+    let shown = format!(in alloc; "{error}")?;
+    let first = shown.lines().next().unwrap_or("");
+    let mut message = String::from_str(alloc, first.strip_prefix("error: ").unwrap_or(first))?;
+    message.push_str("\n\nThe subcommands are:")?;
+    'names: for name in COMMANDS.as_slice() {
+        message.push_str(" ")?;
+        message.push_str(name.text())?;
+    }
+    command(alloc)?.error(ErrorKind::InvalidSubcommand, message.as_str())
+}
+
+impl From<AllocError> for WordsError {
+    fn from(_error: AllocError) -> WordsError {
+        WordsError::NoMemory
+    }
+}
+
+impl From<clap::Error> for WordsError {
+    fn from(error: clap::Error) -> WordsError {
+        match error.kind() {
+            ErrorKind::OutOfMemory => WordsError::NoMemory,
+            _ => WordsError::Words(error),
+        }
+    }
+}
+
+impl<T: Drop> From<AllocFailed<T>> for WordsError {
+    fn from(_error: AllocFailed<T>) -> WordsError {
+        WordsError::NoMemory
+    }
+}
+
+fn command<'a>(alloc: Global) -> Result<Command<'a>, AllocError>
+    ensures { IfOk result (λ c. app_of c ≡ the_command) }
+{
+    let mut command = Command::new(alloc, "fedbundle")
+        .version(help_texts::VERSION)
+        .about("Holds the federated trust bundles of one replica")
+        .override_usage(help_texts::USAGE)
+        .after_help(help_texts::NOTES)
+        .no_binary_name(true);
+    'names: for &name in COMMANDS.as_slice() {
+        command = command.subcommand(subcommand(alloc, name)?)?;
+    }
+    Ok(command)
+}
+
+fn subcommand<'a>(alloc: Global, name: CommandName) -> Result<Command<'a>, AllocError>
+    ensures app { IfOk result (λ c. app_of c ≡ leaf name) }
+{
+    let mut command = with_help(Command::new(alloc, name.text()), name);
+    'options: for &option in name.options() {
+        command = command.arg(argument(alloc, option))?;
+    }
+    Ok(command)
+}
+
+// Help says what the subcommand needs, which clap does not know, since it takes no option for a
+// required one.
+fn with_help<'a>(bare: Command<'a>, name: CommandName) -> Command<'a>
+    ensures { app_of result ≡ app_of bare.entry }
+{
+    bare.about(name.about())
+        .override_usage(name.usage())
+        .after_help(name.notes())
+}
+
+fn argument<'a>(alloc: Global, option: OptionName) -> Arg<'a>
+    ensures rule { rule_of result ≡ rule_of_option option }
+    ensures local { result.global ≡ false }
+{
+    let named = Arg::new(alloc, option.text())
+        .long(option.text())
+        .help(option.about());
+    if option.is_flag() {
+        named.action(ArgAction::SetTrue)
+    } else {
+        named.value_name(option.value_name()).action(ArgAction::Set)
+    }
+}
+
+/// The subcommand that has this word, if there is one.
+pub fn command_of(word: &str) -> Option<CommandName>
+    ensures { IfSome result (λ name. word.now ≡ name_text name) }
+{
+    name_of(word)
+}
+
+fn name_of(word: &str) -> Option<CommandName>
+    ensures { IfSome result (λ name. word.now ≡ name_text name) }
+{
+    COMMANDS.iter().find(|name| name.text() == word).copied()
+}
+
+// Whether each option may stand as it does.
+fn are_settled(matches: &ArgMatches<'_>, options: &[OptionName], place: WordsPlace) -> bool
+    ensures { result ≡ list_all (is_settled_in place (rows_of (found_of matches.now))) options.now }
+{
+    let at = matches.get_str(OptionName::At.text()).is_some();
+    'options: for &option in options {
+        if !is_settled_at(place, at, matches.get_str(option.text()).is_some(), option) {
+            return false;
+        }
+    }
+    true
+}
+
+// The same of one option, where `at` says whether the words have `--at`.
+fn is_settled_at(place: WordsPlace, at: bool, has_text: bool, option: OptionName) -> bool
+    ensures { result ≡ settled_at place at has_text option }
+{
+    match (place, option) {
+        (WordsPlace::CommandLine, _) => is_settled(at, has_text, option),
+        (WordsPlace::Request, OptionName::At) => !has_text,
+        (WordsPlace::Request, _) => is_settled(true, has_text, option),
+    }
+}
+
+fn is_settled(asks: bool, has_text: bool, option: OptionName) -> bool
+    ensures { result ≡ is_settled asks has_text option }
+{
+    if asks && option.is_place() {
+        !has_text
+    } else {
+        has_text || option.may_be_left_out()
+    }
+}
+
+fn texts_of<'a>(
+    alloc: Global,
+    matches: &ArgMatches<'a>,
+    options: &[OptionName],
+) -> Result<Vec<Option<&'a str>>, AllocError>
+    ensures { IfOk result (λ texts. map (given (rows_of (found_of matches.now))) options.now
+        ≡ map (option_map (λ t. t.now)) texts.items) }
+{
+    let mut texts = Vec::new(alloc);
+    'options: for &option in options {
+        texts.push(matches.get_str(option.text()))?;
+    }
+    Ok(texts)
+}

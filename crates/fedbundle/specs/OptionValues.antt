@@ -1,0 +1,18 @@
+-- What the texts of options say that are values of the crates below: a moment, and how `status` is
+-- written.
+use Rattle.std.specs.Prelude.{◌≡◌, ◌⊎◌, ℕ, ℤ, List, Option, Some, None, codes}
+use Rattle.jiff.specs.Words.{nanos_of_seconds}
+use Rattle.poll_log.specs.PollLines.{ReadsSeconds}
+use Rattle.status_view.specs.declared.status_writer.StatusFormat.{StatusFormat}
+use Rattle.status_view.specs.declared.status_writer.StatusFormat.TheVariants as status
+
+abbrev pub SaysStatusFormat : Option (List ℕ) → StatusFormat → Type 0
+SaysStatusFormat text status.Text = (text ≡ None) ⊎ (text ≡ Some (codes "text"))
+SaysStatusFormat text status.Json = text ≡ Some (codes "json")
+SaysStatusFormat text status.Prometheus = text ≡ Some (codes "prometheus")
+
+-- Unix seconds as a moment, in nanoseconds
+pub record SaysMoment (text : List ℕ) (moment : ℤ) : Type 0 where
+  pub seconds : ℤ
+  pub reads : ReadsSeconds text (Some seconds)
+  pub is : moment ≡ nanos_of_seconds seconds

@@ -1,0 +1,74 @@
+// `replica`: what the words say of it, read, and the replica run.
+use crate::options;
+use fed_config::Config;
+use fedbundle::{Call, CommandError, Exit, OptionName, given, manner_of, wanted};
+use replica_loop::{Settings, run_replica};
+use std::alloc::Global;
+use std::net::SocketAddr;
+use std::time::Duration;
+
+/// How many seconds after a round of pulls the next one begins where nothing else is said, and at
+/// most.
+const EVERY_SECONDS: u64 = 60;
+
+const MAX_EVERY_SECONDS: u64 = 86_400;
+
+/// From how many replicas one pulls at most.
+const MOST_PEERS: usize = 16;
+
+/// Runs the replica until it is asked to end.
+pub(crate) fn run(rt: &HostRuntime, config: &Config, call: &Call<'_>) -> Result<u8, Exit> {
+    let peers = peers_of(rt.alloc(), given(call, OptionName::Peers))?;
+    let settings = settings_of(call, peers.as_slice())?;
+    run_replica(rt, config, &settings)?;
+    Ok(0)
+}
+
+fn settings_of<'a, 'p>(call: &Call<'a>, peers: &'p [SocketAddr]) -> Result<Settings<'a, 'p>, Exit> {
+    let manner = manner_of(call)?;
+    Ok(Settings {
+        state: wanted(call, OptionName::State)?,
+        socket: wanted(call, OptionName::Socket)?,
+        listen: listen_of(given(call, OptionName::OptionalListen))?,
+        peers,
+        every: Duration::from_secs(every_of(given(call, OptionName::Every))?),
+        most_bytes: manner.most_bytes,
+        is_new: given(call, OptionName::New) == Some("true"),
+        is_verbose: manner.is_verbose,
+    })
+}
+
+fn listen_of(text: Option<&str>) -> Result<Option<SocketAddr>, Exit> {
+    match text {
+        Some(text) => Ok(Some(options::address(text)?)),
+        None => Ok(None),
+    }
+}
+
+fn every_of(text: Option<&str>) -> Result<u64, Exit> {
+    let Some(text) = text else {
+        return Ok(EVERY_SECONDS);
+    };
+    let has_digits = text.bytes().all(|byte| byte.is_ascii_digit());
+    match text.parse::<u64>() {
+        Ok(seconds) if has_digits && (1..=MAX_EVERY_SECONDS).contains(&seconds) => Ok(seconds),
+        _ => Err(Exit::BadNumber(OptionName::Every)),
+    }
+}
+
+fn peers_of(alloc: Global, text: Option<&str>) -> Result<Vec<SocketAddr>, Exit> {
+    let mut peers = Vec::new(alloc);
+    let Some(text) = text else {
+        return Ok(peers);
+    };
+    for address in text.split(',') {
+        if peers.len() == MOST_PEERS {
+            return Err(Exit::BadNumber(OptionName::Peers));
+        }
+        let address = options::address(address)?;
+        if peers.push(address).is_err() {
+            return Err(Exit::Refused(CommandError::NoMemory));
+        }
+    }
+    Ok(peers)
+}

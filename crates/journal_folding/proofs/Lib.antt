@@ -1,2 +1,0 @@
-mod LineFacts
-mod FoldFacts

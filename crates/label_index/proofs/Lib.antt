@@ -1,0 +1,3 @@
+mod LabelOrderFacts
+mod ClosedLabelFacts
+mod ChainFacts

@@ -1,0 +1,280 @@
+-- What a replica that stays comes to hold, by the events of a world.
+use Rattle.std.proofs.Common.{◌≡◌, ◌≢◌, ℕ, ◌<◌, ◌≤◌, ◌⊎◌, inl, inr, Bool, true, false, ◌&&◌, List, [], ◌∷◌, length, refl, sym, ap, ◌∙◌, subst, arith}
+use Rattle.std.proofs.Common.{append-nil, le-leb, Some}
+use Rattle.std.specs.Prelude.{Contains, slice_get}
+use Rattle.std.proofs.lemmas.Bool.{and_from, and_parts}
+use Rattle.std.specs.List.{AllByRecursion}
+use Rattle.std.specs.declared.cmp.Ordering.{Ordering}
+use Rattle.std.specs.declared.cmp.Ordering.TheVariants.{Less, Equal, Greater}
+use Rattle.fed_config.specs.Configuration.{Configuration, HasDomain}
+use Rattle.receipt_core.specs.Acceptance.{IsFitting, IsMeaning, Meaning}
+use Rattle.receipt_core.specs.declared.distrust.Distrust.{Distrust}
+use Rattle.receipt_core.specs.Receipt.{Receipt, distrust_cmp, receipt_cmp}
+use Rattle.receipt_core.specs.Rising.{placed, with_item}
+use Rattle.receipt_core.proofs.RisingFacts.{Contains-from_has, Has, Has-from_contains, with_item-keeps}
+use Rattle.replica_core.specs.Absorbing.{with_entries, with_entry}
+use Rattle.replica_core.specs.Convergence.{Gains, IsPartOf, only_receipt, only_record}
+use Rattle.replica_core.specs.Session.{HaveMessage, give_of, have_of, state_of}
+use Rattle.replica_core.specs.State.{State, ids_held, is_within_limits, joined, no_state}
+use Rattle.replica_core.specs.World.{Rules, World, WorldRun, apply, empty_world, gained, gains, happens, is_replica, rules_of, run_from}
+use Rattle.replica_core.specs.World.{give_sent, have_sent, is_fitting, is_known, sends, where_so}
+use Rattle.replica_core.specs.declared.entry.Entry.{Entry}
+use Rattle.replica_core.specs.declared.entry.Entry.TheVariants.{Record, Receipt as AReceipt}
+use Rattle.replica_core.specs.declared.event.Event.TheVariants.{Answer, Ask, Revoke, Take}
+use Rattle.replica_core.proofs.ContainsFacts.{each-from}
+use Rattle.replica_core.proofs.EventFacts.{at-here, at-other, part-refl, part-trans, replica-true}
+use Rattle.replica_core.proofs.ExchangeFacts.{answered-is, asked-is, content_of, with_message}
+use Rattle.replica_sync.proofs.PullingFacts.{longer_with_items}
+use Rattle.replica_journal.specs.Journal.{entry_text}
+use Rattle.replica_sync.specs.PulledPieces.{Journals}
+use Rattle.local_answers.specs.ChangeEvents.{AppendsTo, BringsTo, event_of, events_of, replica_in, sent_give, sent_have}
+use Rattle.local_answers.specs.Journalling.{JournalsChange}
+use Rattle.fedbundle.specs.CommandRun.{StateRun}
+
+-- ---- sets that grow
+
+-- the same step of two sets; for `item-or-same`
+placed-or-same : {A : Type 0} (o : Ordering) (item head : A) (rest longer : List A) → Has longer item ⊎ (longer ≡ rest)
+    → Has (placed o item head rest longer) item ⊎ (placed o item head rest longer ≡ head ∷ rest)
+placed-or-same Less item head rest longer h = inl (inl refl)
+placed-or-same Equal item head rest longer h = inr refl
+placed-or-same Greater item head rest longer (inl h) = inl (inr h)
+placed-or-same Greater item head rest longer (inr e) = inr (ap (λ l. head ∷ l) e)
+
+-- With an item a set has it, or is what it was.
+item-or-same : {A : Type 0} (cmp : A → A → Ordering) (item : A) (set : List A) → Has (with_item cmp item set) item ⊎ (with_item cmp item set ≡ set)
+item-or-same cmp item [] = inl (inl refl)
+item-or-same cmp item (head ∷ rest) = placed-or-same (cmp item head) item head rest (with_item cmp item rest) (item-or-same cmp item rest)
+
+-- The second state has all that the first one has, and no fewer.
+pub record IsBelow (small large : State) : Type 0 where
+  pub part : IsPartOf small large
+  pub few : length small.held ≤ length large.held
+  pub few_records : length small.records ≤ length large.records
+
+pub below-itself : (state : State) → IsBelow state state
+below-itself state = record { part = part-refl state; few = omega arith; few_records = omega arith }
+
+below-both : (a b c : State) → IsBelow a b → IsBelow b c → IsBelow a c
+below-both a b c p q = record {
+  part = part-trans a b c p.part q.part;
+  few = let first = p.few in let second = q.few in omega (arith, first, second);
+  few_records = let first = p.few_records in let second = q.few_records in omega (arith, first, second);
+}
+
+-- A set with one more item has what it had.
+kept-with : {A : Type 0} (cmp : A → A → Ordering) (item : A) (set : List A) (x : A) → Contains set x → Contains (with_item cmp item set) x
+kept-with cmp item set x c = Contains-from_has (with_item cmp item set) x (with_item-keeps cmp item set x (Has-from_contains set x c))
+
+-- With an entry no less is held.
+pub below-one : (entry : Entry) (m : Meaning) → IsBelow (state_of m) (state_of (with_entry entry m))
+below-one (Record x) m = record {
+  part = record { receipts = λ r h. h; distrusts = λ y h. kept-with distrust_cmp x m.records y h };
+  few = omega arith;
+  few_records = longer_with_items distrust_cmp (x ∷ []) m.records;
+}
+below-one (AReceipt r) m = record {
+  part = record { receipts = λ s h. kept-with receipt_cmp r m.held s h; distrusts = λ y h. h };
+  few = longer_with_items receipt_cmp (r ∷ []) m.held;
+  few_records = omega arith;
+}
+
+-- Nor with many.
+pub below-all : (entries : List Entry) (m : Meaning) → IsBelow (state_of m) (state_of (with_entries entries m))
+below-all [] m = below-itself (state_of m)
+below-all (entry ∷ entries) m =
+    below-both (state_of m) (state_of (with_entry entry m)) (state_of (with_entries entries (with_entry entry m)))
+    (below-one entry m) (below-all entries (with_entry entry m))
+
+-- The configuration stays.
+one-config : (entry : Entry) (m : Meaning) → (with_entry entry m).config ≡ m.config
+one-config (Record x) m = refl
+one-config (AReceipt r) m = refl
+
+same-config : (entries : List Entry) (m : Meaning) → (with_entries entries m).config ≡ m.config
+same-config [] m = refl
+same-config (entry ∷ entries) m = same-config entries (with_entry entry m) ∙ one-config entry m
+
+-- ---- what a replica of the configuration can hold
+
+-- all of it fits, and it is not too much
+pub record IsHoldable (c : Configuration) (state : State) : Type 0 where
+  pub fitting : AllByRecursion (IsFitting c) state.held
+  pub domains : AllByRecursion (λ x. HasDomain c x.domain) state.records
+  pub few : length state.held ≤ 65536
+  pub few_records : length state.records ≤ 4096
+
+pub meaning-holdable : (c : Configuration) (m : Meaning) → m.config ≡ c → IsMeaning m → IsHoldable c (state_of m)
+meaning-holdable c m e valid = record {
+  fitting = subst (λ (d : Configuration). AllByRecursion (IsFitting d) m.held) e valid.fitting;
+  domains = subst (λ (d : Configuration). AllByRecursion (λ x. HasDomain d x.domain) m.records) e valid.domains;
+  few = valid.few;
+  few_records = valid.few_records;
+}
+
+-- What is below it is within the limits.
+pub below-within : (c : Configuration) (small large : State) → IsBelow small large → IsHoldable c large → is_within_limits small ≡ true
+below-within c small large part is =
+    let less = part.few in
+    let few = is.few in
+    let less_records = part.few_records in
+    let few_records = is.few_records in
+    and_from _ _ (le-leb (length small.held) 65536 (omega (arith, less, few)))
+    (le-leb (length small.records) 4096 (omega (arith, less_records, few_records)))
+
+-- ---- the world's tests
+
+-- A test that lets something be gained has passed.
+has-passed : (b : Bool) (gain : State) → (apply empty_world (where_so b (gains 0 gain))).now 0 ≡ gain → (no_state ≡ gain → ⊥) → b ≡ true
+has-passed true gain e some = refl
+has-passed false gain e some = absurd (some e)
+
+-- a world of one replica to which nothing has happened
+abbrev fresh : Configuration → WorldRun
+fresh c = record { config = c; replicas = 1; events = [] }
+
+-- A receipt that fits passes the world's test.
+receipt-passes : ((past : WorldRun) (i : ℕ) (r : Receipt) → i < past.replicas → IsFitting past.config r → Gains past (Take i r) i (only_receipt r))
+    → (c : Configuration) (r : Receipt) → IsFitting c r → is_fitting c r ≡ true
+receipt-passes takes c r fits =
+    (and_parts (is_replica (rules_of c 1) 0) (is_fitting c r)
+    (has-passed (is_replica (rules_of c 1) 0 && is_fitting c r) (only_receipt r) (takes (fresh c) 0 r (omega arith) fits refl)
+    (λ e. let none : [] ≡ r ∷ [] = ap (λ (s : State). s.held) e in cc))).1
+
+-- A record of a domain of the configuration passes the world's test.
+record-passes : ((past : WorldRun) (i : ℕ) (x : Distrust) → i < past.replicas → HasDomain past.config x.domain → Gains past (Revoke i x) i (only_record x))
+    → (c : Configuration) (x : Distrust) → HasDomain c x.domain → is_known c x.domain ≡ true
+record-passes revokes c x known =
+    (and_parts (is_replica (rules_of c 1) 0) (is_known c x.domain)
+    (has-passed (is_replica (rules_of c 1) 0 && is_known c x.domain) (only_record x) (revokes (fresh c) 0 x (omega arith) known refl)
+    (λ e. let none : [] ≡ x ∷ [] = ap (λ (s : State). s.records) e in cc))).1
+
+-- ---- one event
+
+-- A gain within the limits is joined, if the test passes; if it does not, this is the same where nothing is joined.
+gain-is : (w : World) (i : ℕ) (state gain : State) (b : Bool) → w.now i ≡ state → (b ≡ true) ⊎ (joined state gain ≡ state)
+    → is_within_limits (joined state gain) ≡ true → (apply w (where_so b (gains i gain))).now i ≡ joined state gain
+gain-is w i state gain true here h room =
+    ap (λ (t : Bool). (gained t w i (joined (w.now i) gain)).now i) (ap (λ (s : State). is_within_limits (joined s gain)) here ∙ room)
+    ∙ at-here i (joined (w.now i) gain) w.now ∙ ap (λ (s : State). joined s gain) here
+gain-is w i state gain false here (inl e) room = absurd (let bad : false ≡ true = e in cc)
+gain-is w i state gain false here (inr same) room = here ∙ sym same
+
+-- Nothing else changes in a world where a replica gains.
+pub record OnlyAt (i : ℕ) (old new : World) : Type 0 where
+  pub others : (j : ℕ) → j ≢ i → new.now j ≡ old.now j
+  pub sent : new.sent ≡ old.sent
+  pub saved : new.saved ≡ old.saved
+
+only-nothing : (i : ℕ) (w : World) → OnlyAt i w w
+only-nothing i w = record { others = λ j d. refl; sent = refl; saved = refl }
+
+only-both : (i : ℕ) (a b c : World) → OnlyAt i a b → OnlyAt i b c → OnlyAt i a c
+only-both i a b c p q = record { others = λ j d. q.others j d ∙ p.others j d; sent = q.sent ∙ p.sent; saved = q.saved ∙ p.saved }
+
+only-gained : (i : ℕ) (w : World) (state : State) (b : Bool) → OnlyAt i w (gained b w i state)
+only-gained i w state true = record { others = λ j d. at-other j i state w.now d; sent = refl; saved = refl }
+only-gained i w state false = only-nothing i w
+
+only-where : (i : ℕ) (w : World) (gain : State) (b : Bool) → OnlyAt i w (apply w (where_so b (gains i gain)))
+only-where i w gain true = only-gained i w (joined (w.now i) gain) (is_within_limits (joined (w.now i) gain))
+only-where i w gain false = only-nothing i w
+
+only-event : (rules : Rules) (i : ℕ) (entry : Entry) (w : World) → OnlyAt i w (happens rules w (event_of i entry))
+only-event rules i (Record x) w = only-where i w (only_record x) (is_replica rules i && rules.knows x.domain)
+only-event rules i (AReceipt r) w = only-where i w (only_receipt r) (is_replica rules i && rules.fits r)
+
+-- So it is with the events of many entries.
+pub only-run : (rules : Rules) (entries : List Entry) (i : ℕ) (w : World) → OnlyAt i w (run_from rules w (events_of i entries))
+only-run rules [] i w = only-nothing i w
+only-run rules (entry ∷ entries) i w =
+    let next = happens rules w (event_of i entry) in
+    only-both i w next (run_from rules next (events_of i entries)) (only-event rules i entry w) (only-run rules entries i next)
+
+-- ---- what is held after the events
+
+module _ (takes : (past : WorldRun) (i : ℕ) (r : Receipt) → i < past.replicas → IsFitting past.config r → Gains past (Take i r) i (only_receipt r))
+    (revokes : (past : WorldRun) (i : ℕ) (x : Distrust) → i < past.replicas → HasDomain past.config x.domain → Gains past (Revoke i x) i (only_record x)) where
+  -- By the event of an entry it is held, where that is part of what can be held.
+  entry-is : (c : Configuration) (n i : ℕ) → i < n → (entry : Entry) (m : Meaning) (w : World) (large : State) → w.now i ≡ state_of m
+      → IsBelow (state_of (with_entry entry m)) large → IsHoldable c large → (happens (rules_of c n) w (event_of i entry)).now i ≡ state_of (with_entry entry m)
+  entry-is c n i l (Record x) m w large here below can =
+      gain-is w i (state_of m) (only_record x) (is_replica (rules_of c n) i && is_known c x.domain) here
+      (elim (item-or-same distrust_cmp x m.records) [
+        | inl h ↦ inl (and_from _ _ (replica-true (rules_of c n) i l)
+            (record-passes revokes c x (each-from (λ y. HasDomain c y.domain) large.records can.domains x
+            (below.part.distrusts x (Contains-from_has (with_item distrust_cmp x m.records) x h)))))
+        | inr e ↦ inr (λ t. record { held = m.held; records = e t })
+      ])
+      (below-within c (state_of (with_entry (Record x) m)) large below can)
+  entry-is c n i l (AReceipt r) m w large here below can =
+      gain-is w i (state_of m) (only_receipt r) (is_replica (rules_of c n) i && is_fitting c r) here
+      (elim (item-or-same receipt_cmp r m.held) [
+        | inl h ↦ inl (and_from _ _ (replica-true (rules_of c n) i l)
+            (receipt-passes takes c r (each-from (IsFitting c) large.held can.fitting r
+            (below.part.receipts r (Contains-from_has (with_item receipt_cmp r m.held) r h)))))
+        | inr e ↦ inr (λ t. record { held = e t; records = m.records })
+      ])
+      (below-within c (state_of (with_entry (AReceipt r) m)) large below can)
+
+  -- By the events of entries they are held, where all of that can be.
+  entries-are : (c : Configuration) (n i : ℕ) → i < n → (entries : List Entry) (m : Meaning) (w : World) → w.now i ≡ state_of m
+      → IsHoldable c (state_of (with_entries entries m)) → (run_from (rules_of c n) w (events_of i entries)).now i ≡ state_of (with_entries entries m)
+  entries-are c n i l [] m w here can = here
+  entries-are c n i l (entry ∷ entries) m w here can =
+      let one = with_entry entry m in
+      entries-are c n i l entries one (happens (rules_of c n) w (event_of i entry))
+      (entry-is c n i l entry m w (state_of (with_entries entries one)) here (below-all entries one) can) can
+
+  pub change-in-world : (m new : Meaning) (entries : List Entry) (n i : ℕ) (w : World) → i < n → w.now i ≡ state_of m → IsMeaning new
+      → new ≡ with_entries entries m → (run_from (rules_of m.config n) w (events_of i entries)).now i ≡ state_of new
+  change-in-world m new entries n i w l here valid is =
+      entries-are m.config n i l entries m w here
+      (meaning-holdable m.config (with_entries entries m) (same-config entries m) (subst IsMeaning is valid))
+      ∙ ap state_of (sym is)
+
+  -- What a request changes.
+  pub request-in-world : (text : List ℕ) (state : StateRun) (n i : ℕ) (w : World) → i < n → w.now i ≡ state_of state.old.meaning
+      → IsMeaning state.new.meaning → JournalsChange text state → BringsTo (replica_in (rules_of state.old.meaning.config n) w i) text state.new.meaning
+  request-in-world text state n i w l here valid change = record {
+    entries = change.entries;
+    each = change.lines.each;
+    spelt = change.lines.spelt;
+    holds = change-in-world state.old.meaning state.new.meaning change.entries n i w l here valid change.meaning;
+  }
+
+  -- What a piece of an answer changes.
+  pub piece-in-world : (old new : Meaning) (before after : List ℕ) (n i : ℕ) (w : World) → i < n → w.now i ≡ state_of old → IsMeaning new
+      → Journals old new before after → AppendsTo (replica_in (rules_of old.config n) w i) before after new
+  piece-in-world old new before after n i w l here valid (inl same) = record {
+    text = [];
+    appended = same.1 ∙ sym (append-nil before);
+    brings = record { entries = []; each = tt; spelt = refl; holds = here ∙ ap state_of (sym same.0) };
+  }
+  piece-in-world old new before after n i w l here valid (inr one) = record {
+    text = entry_text one.entry;
+    appended = one.text;
+    brings = record {
+      entries = one.entry ∷ [];
+      each = (one.form, tt);
+      spelt = sym (append-nil (entry_text one.entry));
+      holds = change-in-world old new (one.entry ∷ []) n i w l here valid one.meaning;
+    };
+  }
+
+-- ---- what is sent
+
+-- The have that a replica makes is the one that it sends by asking.
+pub asks-in-world : (m : Meaning) (n i bucket : ℕ) (w : World) → i < n → bucket ≤ 255 → w.now i ≡ state_of m
+    → happens (rules_of m.config n) w (Ask i bucket) ≡ apply w (sends (sent_have i (have_of m bucket)))
+asks-in-world m n i bucket w l low here =
+    asked-is (rules_of m.config n) w i bucket l low
+    ∙ ap (λ (state : State). with_message w (have_sent i bucket (ids_held state bucket))) here
+
+-- The answer that a replica makes is the one that it sends by answering.
+pub answers-in-world : (m : Meaning) (have : HaveMessage) (n i asker place : ℕ) (w : World) → i < n → w.now i ≡ state_of m
+    → slice_get w.sent place ≡ Some (sent_have asker have)
+    → happens (rules_of m.config n) w (Answer i place) ≡ apply w (sends (sent_give i place (give_of m have)))
+answers-in-world m have n i asker place w l here there =
+    answered-is (rules_of m.config n) w asker i have.bucket place have.ids l there
+    ∙ ap (λ (state : State). with_message w (give_sent i place (content_of state have.bucket have.ids))) here

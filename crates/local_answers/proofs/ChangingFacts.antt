@@ -1,0 +1,211 @@
+-- What the commands that change what is held answer, and what is replied to their calls.
+use Rattle.std.proofs.Common.{◌≡◌, ◌||◌, ℕ, ◌+◌, ◌<◌, Bool, true, false, List, [], ◌∷◌, ◌++◌, length, map, get_or, drop, drop-cons, add-one, append_assoc}
+use Rattle.std.proofs.Common.{inl, inr, Option, Some, Result, Ok, Err, IfErr, IfOk, OnErr, refl, sym, ap, ◌∙◌, subst}
+use Rattle.std.proofs.lemmas.Result.{IfErr-weaker}
+use Rattle.std.specs.declared.alloc.AllocError.{AllocError}
+use Rattle.spiffe_name.specs.TrustDomain.{IsDomainText}
+use Rattle.receipt_core.specs.declared.distrust.Distrust.{Distrust}
+use Rattle.closure_core.specs.Changes.{HeldAndRoom}
+use Rattle.bundle_view.specs.declared.observation.Verdict.{Verdict}
+use Rattle.replica_core.specs.declared.error.SyncError.{SyncError}
+use Rattle.replica_core.specs.declared.error.SyncError.TheVariants.{Io as StreamFailed}
+use Rattle.replica_texts.specs.Snapshots.{is_io}
+use Rattle.fedbundle.specs.CommandRun.{DeviceRun, StateRun, state_run}
+use Rattle.fedbundle.specs.Distrust.{RunsDistrust}
+use Rattle.fedbundle.specs.Observe.{Fetched, IsAsHeld, RefusesToMake}
+use Rattle.command_line.specs.OptionTexts.{SaysFlag}
+use Rattle.command_line.specs.Words.{CallsInRequest}
+use Rattle.command_line.specs.declared.command_name.CommandName.TheVariants as command
+use Rattle.command_line.specs.declared.command_name.OptionName.TheVariants.{Domain, DryRun, Verbose}
+use Rattle.fedbundle.specs.declared.error.CommandError.{CommandError}
+use Rattle.fedbundle.specs.declared.error.CommandError.TheVariants.{NoMemory, Observe, Sync, Take}
+use Rattle.fedbundle.specs.declared.exits.Exit.{Exit}
+use Rattle.fedbundle.specs.declared.exits.Exit.TheVariants.{Refused, TooManyBytes, Usage}
+use Rattle.request_lines.specs.RequestLines.{SaysWords}
+use Rattle.request_lines.specs.declared.request_error.RequestError.TheVariants as line_error
+use Rattle.local_answers.specs.Journalling.{JournalsChange}
+use Rattle.local_answers.specs.Replies.{RefusesWordsLine}
+use Rattle.local_answers.specs.RequestRun.{Answers, AnswersObserve, CallRun, ChangeRun, Ends, EndsDistrust, EndsMerge, EndsObserve}
+use Rattle.local_answers.specs.RequestRun.{HasStreams, IsEnded, IsWith, RepliesTo, RepliesToCall, SaysOfWords, ShowsText}
+use Rattle.local_answers.specs.RequestRun.{SaysDistrusted, SaysFetched, SaysRecord, SaysVerdict, change_run, memory_exit, said}
+use Rattle.local_answers.specs.declared.reply.Reply.{Reply}
+use Rattle.local_answers.specs.declared.request_fault.RequestFault.{RequestFault}
+use Rattle.local_answers.specs.declared.request_fault.RequestFault.TheVariants as request_fault
+use Rattle.local_answers.proofs.RequestFacts.{observe_unmade, same_journalled}
+
+-- ---- the reply
+
+-- without an output
+pub silent : (reply : Reply) (output errors : List ℕ) (status : ℕ) → output ≡ [] → IsWith reply output errors status → IsWith reply [] errors status
+silent reply output errors status nothing with = subst (λ l. IsWith reply l errors status) nothing with
+
+-- a complaint beside it
+pub complained : (output errors : List ℕ) (result : Result Reply AllocError) → output ≡ [] → IfOk result (λ reply. IsWith reply output errors 2)
+    → IfOk result ShowsText
+complained output errors (Ok reply) nothing with =
+    inl (subst (λ l. IsWith reply [] l 2) (sym with.errors) (silent reply output errors 2 nothing with))
+complained output errors (Err e) nothing with = tt
+
+-- an output, and nothing beside it
+pub printed : (output : List ℕ) (result : Result Reply AllocError) → IfOk result (λ reply. IsWith reply output [] 0) → IfOk result ShowsText
+printed output (Ok reply) with = inr (subst (λ l. IsWith reply l [] 0) (sym with.output) with)
+printed output (Err e) with = tt
+
+-- the words are none of a command
+pub ended_by_usage : (result : Result Reply AllocError) → IfOk result (λ reply. IsEnded reply Usage) → IfOk result SaysOfWords
+ended_by_usage (Ok reply) ended = inl ended
+ended_by_usage (Err e) ended = tt
+
+-- they are shown
+pub shown_by_clap : (result : Result Reply AllocError) → IfOk result ShowsText → IfOk result SaysOfWords
+shown_by_clap (Ok reply) shown = inr shown
+shown_by_clap (Err e) shown = tt
+
+-- nothing is journalled for words that are no call
+pub words_unjournalled : (reply : Reply) → SaysOfWords reply → reply.journal.items ≡ []
+words_unjournalled reply (inl ended) = ended.2.unjournalled
+words_unjournalled reply (inr (inl with)) = with.unjournalled
+words_unjournalled reply (inr (inr with)) = with.unjournalled
+
+-- ---- `observe`
+
+-- where no receipt is made, by the exit
+pub observe_prevented : (s : HeldAndRoom) (source : DeviceRun) (input : List ℕ) (fetched : Fetched) (e : CommandError) (exit : Exit)
+    → exit ≡ memory_exit e → source.before ≡ Some input → RefusesToMake source s.meaning fetched e
+    → EndsObserve (change_run (state_run s s) input) fetched exit
+observe_prevented s source input fetched e exit is before none =
+    subst (EndsObserve (change_run (state_run s s) input) fetched) (sym is) (observe_unmade s source input fetched e before none)
+
+-- however it ends, nothing has changed
+pub observe_unchanged : (run : ChangeRun) (fetched : Fetched) (exit : Exit) → EndsObserve run fetched exit → IsAsHeld run.state
+observe_unchanged run fetched (Refused (Observe e)) ends = ends.runs.refused.unchanged.meaning
+observe_unchanged run fetched (Refused NoMemory) ends = ends
+observe_unchanged run fetched exit ends = absurd ends
+
+-- what was fetched, as the words say it
+pub says_fetched : (run : CallRun) (domain text : List ℕ) (verdict : Verdict) → said run Domain ≡ Some text
+    → (domain ≡ text) × IsDomainText text → SaysVerdict run.name run.texts verdict
+    → SaysFetched run (record { domain = domain; verdict = verdict })
+says_fetched run domain text verdict given read says =
+    record { domain = given ∙ ap Some (sym read.0); form = subst IsDomainText (sym read.0) read.1; verdict = says }
+
+-- ---- `merge`
+
+-- an error of a failed source tells that it failed
+pub source_failed : (T : Type 0) (e : SyncError) (new old : Bool) → new ≡ (is_io {T = T} (Err e) || old) → e ≡ StreamFailed → new ≡ true
+source_failed T e new old fault io = fault ∙ ap (λ w. is_io {T = T} (Err w) || old) io
+
+-- however it ends, nothing has changed
+pub merge_unchanged : (run : ChangeRun) (exit : Exit) → EndsMerge run exit → IsAsHeld run.state
+merge_unchanged run (Refused (Sync e)) ends = ap (λ (s : HeldAndRoom). s.meaning) ends.runs.unchanged
+merge_unchanged run (Refused (Take e)) ends = ends.runs.refused.unchanged.meaning
+merge_unchanged run (Refused NoMemory) ends = ends
+merge_unchanged run exit ends = absurd ends
+
+-- that there are too many bytes was said before
+pub merge_within : (run : ChangeRun) (exit : Exit) → EndsMerge run exit → exit ≡ TooManyBytes → ⊥
+merge_within run exit ends is = subst (EndsMerge run) is ends
+
+-- the same of a result
+pub no_excess : (run : ChangeRun) (room count : ℕ) (result : Result Reply Exit) → IfErr result (EndsMerge run)
+    → IfErr result (λ exit. exit ≡ TooManyBytes → room < count)
+no_excess run room count (Ok reply) ends = tt
+no_excess run room count (Err exit) ends = λ is. absurd (merge_within run exit ends is)
+
+-- ---- `distrust`
+
+-- a record that is refused
+pub distrust_refused : (old new : HeldAndRoom) (x : Distrust) (e : CommandError) → RunsDistrust old.meaning x new.meaning (Err e)
+    → EndsDistrust (state_run old new) x (Refused e)
+distrust_refused old new x (Take why) runs = runs
+distrust_refused old new x e runs = absurd runs
+
+-- however it ends, nothing has changed
+pub distrust_unchanged : (state : StateRun) (x : Distrust) (exit : Exit) → EndsDistrust state x exit → IsAsHeld state
+distrust_unchanged state x (Refused (Take e)) ends = ends.meaning
+distrust_unchanged state x (Refused NoMemory) ends = ends
+distrust_unchanged state x exit ends = absurd ends
+
+-- what a flag's text says
+pub flag_said : (text told : Option (List ℕ)) (flag value : Bool) → text ≡ told → SaysFlag text flag → flag ≡ value → SaysFlag told value
+flag_said text told flag value same says is = subst (SaysFlag told) is (subst (λ t. SaysFlag t flag) same says)
+
+-- ---- calls
+
+-- what is so at each error is so of the result
+pub on_any_error : {T E : Type 0} (result : Result T E) (P : E → Type 0) (Q : Type 0) → ((e : E) → P e → Q) → IfErr result P → OnErr result Q
+on_any_error result P Q each ends = IfErr-weaker result P (λ _. Q) each ends
+
+-- what `observe` answers, as the answer of its call
+pub observe_called : (run : CallRun) (fetched : Fetched) (result : Result Reply Exit) → SaysFetched run fetched
+    → IfOk result (λ reply. HasStreams (AnswersObserve run.change fetched) reply) → IfOk result (Answers command.Observe run)
+observe_called run fetched (Ok reply) says answers = record { fetched = fetched; says = says; answers = answers }
+observe_called run fetched (Err exit) says answers = tt
+
+-- the same of how it ends
+pub observe_call_ends : (run : CallRun) (fetched : Fetched) (result : Result Reply Exit) → SaysFetched run fetched
+    → IfErr result (EndsObserve run.change fetched) → IfErr result (Ends command.Observe run)
+observe_call_ends run fetched (Ok reply) says ends = tt
+observe_call_ends run fetched (Err exit) says ends = inr (inr (inr (record { fetched = fetched; says = says; ends = ends })))
+
+-- how `merge` ends, as the end of its call
+pub merge_call_ends : (run : CallRun) (result : Result Reply Exit) → IfErr result (EndsMerge run.change) → IfErr result (Ends command.Merge run)
+merge_call_ends run (Ok reply) ends = tt
+merge_call_ends run (Err exit) ends = inr (inr ends)
+
+-- what `distrust` answers, as the answer of its call
+pub distrust_called : (run : CallRun) (x : Distrust) (verbose : Bool) (result : Result Reply Exit) → SaysRecord run.name run.texts x
+    → SaysFlag (said run DryRun) false → SaysFlag (said run Verbose) verbose
+    → IfOk result (λ reply. SaysDistrusted run.change.state x verbose reply) → IfOk result (Answers command.Distrust run)
+distrust_called run x verbose (Ok reply) says lasting flag held = record {
+  x = x;
+  says = says;
+  dry = false;
+  is_dry = lasting;
+  answers = record { verbose = verbose; is_verbose = flag; held = held };
+}
+distrust_called run x verbose (Err exit) says lasting flag held = tt
+
+-- the same of how it ends
+pub distrust_call_ends : (run : CallRun) (x : Distrust) (result : Result Reply Exit) → SaysRecord run.name run.texts x
+    → SaysFlag (said run DryRun) false → IfErr result (EndsDistrust run.change.state x) → IfErr result (Ends command.Distrust run)
+distrust_call_ends run x (Ok reply) says lasting ends = tt
+distrust_call_ends run x (Err exit) says lasting ends =
+    inr (inr (record { x = x; says = says; dry = false; is_dry = lasting; ends = ends }))
+
+-- where nothing is journalled and nothing has changed
+pub none_journalled : (state : HeldAndRoom) (result : Result Reply Exit) → IfOk result (λ reply. reply.journal.items ≡ [])
+    → IfOk result (λ reply. JournalsChange reply.journal.items (state_run state state))
+none_journalled state (Ok reply) none = same_journalled state state reply.journal.items none refl
+none_journalled state (Err exit) none = tt
+
+-- ---- requests
+
+-- what is replied to a call is replied to the line of its words
+pub line_called : (line : List ℕ) (words : List (List ℕ)) (run : CallRun) (result : Result Reply RequestFault) → SaysWords line words
+    → CallsInRequest words run.name run.texts → IfOk result (RepliesToCall run) → IfOk result (RepliesTo line run.running run.change)
+line_called line words run (Ok reply) says calls replied = record {
+  words = words;
+  says = says;
+  replied = inl (record { name = run.name; texts = run.texts; call = calls; replied = replied });
+}
+line_called line words run (Err fault) says calls replied = tt
+
+-- out of memory is a fault of any line
+pub lacks_memory : (line : List ℕ) (fault : RequestFault) → fault ≡ request_fault.NoMemory → RefusesWordsLine line fault
+lacks_memory line fault is = record { why = line_error.NoMemory; refused = tt; is = is }
+
+-- the same of a result
+pub result_lacks_memory : (line : List ℕ) (result : Result Reply RequestFault) → IfErr result (λ fault. fault ≡ request_fault.NoMemory)
+    → IfErr result (RefusesWordsLine line)
+result_lacks_memory line (Ok reply) is = tt
+result_lacks_memory line (Err fault) is = lacks_memory line fault is
+
+-- one more word was taken: the step of the loop in `texts_of_words`
+pub word_more : {X : Type 0} (f : X → List ℕ) (xs : List X) (k : ℕ) (x : X) → k < length xs → x ≡ get_or xs k x
+    → (old new : List (List ℕ)) (text : List ℕ) → new ≡ old ++ text ∷ [] → f x ≡ text
+    → new ++ map f (drop (k + 1) xs) ≡ old ++ map f (drop k xs)
+word_more f xs k x low is old new text grown same =
+    ap (λ ts. ts ++ map f (drop (k + 1) xs)) grown
+    ∙ append_assoc old (text ∷ []) (map f (drop (k + 1) xs)) ∙ (λ i. old ++ (sym same i ∷ map f (drop (k + 1) xs)))
+    ∙ ap (λ ys. old ++ map f ys) (sym (drop-cons xs k x low ∙ (λ i. sym is i ∷ drop (sym (add-one k) i) xs)))

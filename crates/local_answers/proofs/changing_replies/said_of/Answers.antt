@@ -1,0 +1,13 @@
+use Rattle.std.proofs.Common.{sym, subst, Bool}
+use Rattle.local_answers.specs.RequestRun.{SaysEffect}
+use Rattle.local_answers.proofs.changing_replies.said_of.Goals as goal
+
+pub returns-then-is_verbose : goal.returns-then-is_verbose
+returns-then-is_verbose g c =
+    subst (λ (b : Bool). SaysEffect (g.C.Closure.state c.args.closure.now).meaning c.args.record.now b c.effect_of.result.items)
+    (sym c.if-is_verbose.true) c.effect_of.ensures
+
+pub returns-else-is_verbose : goal.returns-else-is_verbose
+returns-else-is_verbose g c =
+    subst (λ (b : Bool). SaysEffect (g.C.Closure.state c.args.closure.now).meaning c.args.record.now b c.new.result.items)
+    (sym c.if-is_verbose.false) c.new.ensures.items

@@ -1,0 +1,2 @@
+pub mod AskedRun
+pub mod NewLineSteps

@@ -1,0 +1,101 @@
+//! The words of a request, out of those of a command line.
+ghost use Rattle.std.specs.Prelude.{◌≡◌, ◌++◌, IfOk, OnOk, map, option_map, option_to_list};
+ghost use Rattle.std.specs.Prelude.{string_bytes};
+ghost use Rattle.local_answers.specs.RequestWords.{asked_words, flag_word, is_asked, word_beside};
+ghost use Rattle.local_answers.specs.RequestWords.{words_beside};
+
+use fedbundle::{Call, OptionName};
+use std::alloc::{AllocError, Global};
+
+/// The words by which a request asks a running replica for what the command line asks for: the
+/// subcommand, and each option that is given but `--config`, `--state` and `--at`. An option and
+/// its text are one word, so a text may begin with a hyphen.
+///
+/// # Errors
+/// Memory ran out.
+pub fn request_words(alloc: Global, call: &Call<'_>) -> Result<Vec<String>, AllocError>
+    ensures { IfOk result (λ words. map string_bytes words.items ≡ asked_words call.now.name
+        (map (option_map (λ t. t.now)) call.now.texts.items)) }
+{
+    let mut words = Vec::new(alloc);
+    words.push(String::from_str(alloc, call.name.text())?)?;
+    push_words(
+        alloc,
+        &mut words,
+        call.name.options(),
+        call.texts.as_slice(),
+    )?;
+    Ok(words)
+}
+
+fn push_words(
+    alloc: Global,
+    words: &mut Vec<String>,
+    options: &[OptionName],
+    texts: &[Option<&str>],
+) -> Result<(), AllocError>
+    ensures { OnOk result (map string_bytes words.new.items ≡ map string_bytes words.old.items
+        ++ words_beside options.now (map (option_map (λ t. t.now)) texts.now)) }
+{
+    let mut rest = texts;
+    'options: for &option in options {
+        let [text, more @ ..] = rest else {
+            return Ok(());
+        };
+        push_word(words, option_word(alloc, option, *text)?)?;
+        rest = more;
+    }
+    Ok(())
+}
+
+fn push_word(words: &mut Vec<String>, word: Option<String>) -> Result<(), AllocError>
+    ensures { OnOk result (map string_bytes words.new.items ≡ map string_bytes words.old.items
+        ++ option_to_list (option_map string_bytes word)) }
+{
+    match word {
+        Some(word) => {
+            words.push(word)?;
+            Ok(())
+        }
+        None => Ok(()),
+    }
+}
+
+fn option_word(
+    alloc: Global,
+    option: OptionName,
+    text: Option<&str>,
+) -> Result<Option<String>, AllocError>
+    ensures { IfOk result (λ word. option_map string_bytes word
+        ≡ word_beside option (option_map (λ t. t.now) text.entry)) }
+{
+    match text {
+        Some(text) if option.is_flag() => flag_word(alloc, option, text),
+        Some(text) if is_asked(option) => {
+            let name = option.text();
+            Ok(Some(format!(in alloc; "--{name}={text}")?))
+        }
+        _ => Ok(None),
+    }
+}
+
+// A flag that is given has the text `true`.
+fn flag_word(alloc: Global, option: OptionName, text: &str) -> Result<Option<String>, AllocError>
+    ensures { IfOk result (λ word. option_map string_bytes word ≡ flag_word option text.now) }
+{
+    if text != "true" {
+        return Ok(None);
+    }
+    let name = option.text();
+    Ok(Some(format!(in alloc; "--{name}")?))
+}
+
+// Whether a request may have the option.
+fn is_asked(option: OptionName) -> bool
+    ensures { result ≡ is_asked option }
+{
+    match option {
+        OptionName::At => false,
+        option => !option.is_place(),
+    }
+}

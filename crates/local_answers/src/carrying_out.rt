@@ -1,0 +1,145 @@
+//! A request, read and carried out.
+ghost use Rattle.std.specs.Prelude.{◌≡◌, IfErr, IfOk, OnErr, map, string_bytes};
+ghost use Rattle.fedbundle.specs.CommandRun.{state_run};
+ghost use Rattle.local_answers.specs.Inside.AskedRun.{run_of_asked};
+ghost use Rattle.local_answers.specs.Journalling.{JournalsChange};
+ghost use Rattle.local_answers.specs.Replies.{RefusesWordsLine};
+ghost use Rattle.local_answers.specs.RequestRun.{Answers, Ends, RepliesTo, RepliesToCall};
+ghost use Rattle.local_answers.specs.RequestRun.{SaysOfWords, ShowsText, change_run};
+ghost use Rattle.local_answers.specs.declared.request_fault.RequestFault.TheVariants.{NoMemory};
+
+use crate::asked::Asked;
+use crate::changing_calls::{distrust, merge, observe};
+use crate::reply::Reply;
+use crate::request_fault::RequestFault;
+use crate::shown_calls::{bundle, explain, polls, report, status, stop};
+use closure_core::Closure;
+use fedbundle::{CommandName, Exit, WordsError, manner_of, read_request};
+use request_lines::read_request_words;
+use status_view::RunningStatus;
+use std::alloc::{AllocError, Global};
+
+/// Carries out what a request asks for: the words, as [`fedbundle::read_request`] reads them, with
+/// the input in place of standard input. The streams and the exit status are those of the same
+/// command over files. All memory is taken before what is held changes.
+///
+/// `running` is what the replica says of itself: `status` shows it, and of `--most-bytes` the rest
+/// over the bytes of its files is left for the input of `merge`.
+///
+/// # Errors
+/// Nothing has changed, and [`RequestFault::reply`] is to be replied.
+/// - [`RequestFault::WordsTooLong`]: the line of words has more than 65,536 bytes,
+/// - [`RequestFault::BadWords`]: it is no JSON array of texts,
+/// - [`RequestFault::NoMemory`]: memory ran out.
+pub fn answer_request<C: Closure>(
+    alloc: Global,
+    closure: &mut C,
+    running: &RunningStatus<'_>,
+    words: &[u8],
+    input: &[u8],
+) -> Result<Reply, RequestFault>
+    ensures answers { IfOk result (RepliesTo words.now running.now
+        (change_run (state_run (C.state closure.old) (C.state closure.new)) input.now)) }
+    ensures journals { IfOk result (λ reply. JournalsChange reply.journal.items
+        (state_run (C.state closure.old) (C.state closure.new))) }
+    ensures fault { IfErr result (RefusesWordsLine words.now) }
+    ensures unchanged { OnErr result
+        ((C.state closure.new).meaning ≡ (C.state closure.old).meaning) }
+{
+    let words = read_request_words(alloc, words)?;
+    let texts = texts_of_words(alloc, words.as_slice())?;
+    match read_request(alloc, texts.as_slice()) {
+        Ok(call) => {
+            let asked = Asked {
+                call: &call,
+                running,
+                input,
+            };
+            answer_call(alloc, closure, asked)
+        }
+        Err(error) => Ok(reply_by_words(alloc, &error)?),
+    }
+}
+
+fn texts_of_words(alloc: Global, words: &[String]) -> Result<Vec<&str>, AllocError>
+    ensures { IfOk result (λ texts. map (λ t. t.now) texts.items ≡ map string_bytes words.now) }
+{
+    let mut texts = Vec::with_capacity(alloc, words.len())?;
+    'words: for word in words {
+        texts.push(word.as_str())?;
+    }
+    Ok(texts)
+}
+
+// The words are none of a command, or ask for help or for the version.
+fn reply_by_words(alloc: Global, error: &WordsError) -> Result<Reply, AllocError>
+    ensures { IfOk result SaysOfWords }
+{
+    match error {
+        WordsError::Words(shown) => reply_of_clap(alloc, shown),
+        WordsError::Usage => Reply::ended(alloc, &Exit::Usage),
+        WordsError::NoMemory => Err(AllocError),
+    }
+}
+
+fn reply_of_clap(alloc: Global, shown: &clap::Error) -> Result<Reply, AllocError>
+    ensures { IfOk result ShowsText }
+{
+    let text = format!(in alloc; "{shown}")?.into_bytes();
+    if shown.use_stderr() {
+        Reply::of_streams(alloc, 2, Vec::new(alloc), text)
+    } else {
+        Reply::done(alloc, text)
+    }
+}
+
+fn answer_call<C: Closure>(
+    alloc: Global,
+    closure: &mut C,
+    asked: Asked<'_, '_, '_>,
+) -> Result<Reply, RequestFault>
+    ensures answers { IfOk result (RepliesToCall
+        (run_of_asked asked.entry (state_run (C.state closure.old) (C.state closure.new)))) }
+    ensures journals { IfOk result (λ reply. JournalsChange reply.journal.items
+        (state_run (C.state closure.old) (C.state closure.new))) }
+    ensures memory { IfErr result (λ fault. fault ≡ NoMemory) }
+    ensures unchanged { OnErr result
+        ((C.state closure.new).meaning ≡ (C.state closure.old).meaning) }
+{
+    match carry_out(alloc, closure, asked) {
+        Ok(reply) => Ok(reply),
+        Err(exit) => Ok(Reply::ended(alloc, &exit)?),
+    }
+}
+
+fn carry_out<C: Closure>(
+    alloc: Global,
+    closure: &mut C,
+    asked: Asked<'_, '_, '_>,
+) -> Result<Reply, Exit>
+    ensures answers { IfOk result (Answers asked.entry.call.now.name
+        (run_of_asked asked.entry (state_run (C.state closure.old) (C.state closure.new)))) }
+    ensures ends { IfErr result (Ends asked.entry.call.now.name
+        (run_of_asked asked.entry (state_run (C.state closure.old) (C.state closure.new)))) }
+    ensures journals { IfOk result (λ reply. JournalsChange reply.journal.items
+        (state_run (C.state closure.old) (C.state closure.new))) }
+    ensures unchanged { OnErr result
+        ((C.state closure.new).meaning ≡ (C.state closure.old).meaning) }
+{
+    let most_bytes = manner_of(asked.call)?.most_bytes;
+    match asked.call.name {
+        CommandName::Report => report(alloc, closure, asked),
+        CommandName::Bundle => bundle(alloc, closure, asked),
+        CommandName::Explain => explain(alloc, closure, asked),
+        CommandName::Polls => polls(alloc, closure, asked),
+        CommandName::Status => status(alloc, closure, asked),
+        CommandName::Observe => observe(alloc, closure, asked),
+        CommandName::Merge => {
+            let room = most_bytes.saturating_sub(asked.running.state_bytes());
+            merge(alloc, closure, room, asked)
+        }
+        CommandName::Distrust => distrust(alloc, closure, asked),
+        CommandName::Stop => stop(alloc, closure, asked),
+        _ => Err(Exit::Usage),
+    }
+}

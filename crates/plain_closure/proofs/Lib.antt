@@ -1,0 +1,3 @@
+mod PlainFacts
+mod PlainChangeFacts
+mod SownFacts

@@ -1,8 +1,0 @@
-use Rattle.std.proofs.Common.{◌≡◌, ◌++◌, drop}
-use Rattle.std.specs.List.{flat_map}
-use Rattle.replica_sync.specs.Messages.{receipt_text}
-use Rattle.replica_bytes.proofs.replica_texts.chain_lines.Given as goal
-
--- what is written, with the lines of the receipts that are left, is the lines of all
-abbrev pub invariant-chain : goal.invariant-chain
-invariant-chain l = l.text.items ++ flat_map receipt_text (drop l.receipt-index l.chain) ≡ flat_map receipt_text l.chain

@@ -1,5 +1,0 @@
-use Rattle.replica_bytes.proofs.replica_texts.current_bytes.Goals as goal
-
--- the domain that was read is the one that the bytes name
-pub returns : goal.returns
-returns g c = (c.in_ok-domain.ensures.1, rw c.in_ok-domain.ensures.0 at c.in-None.ensures)

@@ -1,0 +1,31 @@
+//! A replica of a configuration, empty or of a snapshot.
+ghost use Rattle.std.specs.Prelude.{MatchResult};
+ghost use Rattle.replica_c_calls.specs.Opening.{OpensBytes, RefusesOpening};
+
+use crate::call_error::CallError;
+use crate::growing_sink::source_of;
+use closure_core::Closure;
+use fed_config::Config;
+use replica_sync::read_snapshot;
+use std::alloc::Global;
+
+/// A replica of the configuration that the bytes say: with what the snapshot holds, or with nothing
+/// where there are no bytes of a snapshot.
+///
+/// # Errors
+/// There is no replica then. Of these the first that holds:
+/// - [`CallError::Config`]: the bytes are no configuration,
+/// - [`CallError::Sync`]: the snapshot is none of this configuration,
+/// - [`CallError::NoMemory`]: memory ran out, where the two above do not say so.
+pub fn open_bytes<C: Closure>(alloc: Global, config: &[u8], snapshot: &[u8]) -> Result<C, CallError>
+    ensures { MatchResult result
+        (λ c. OpensBytes config.now snapshot.now (C.state c).meaning)
+        (RefusesOpening config.now snapshot.now) }
+{
+    let config = Config::read(alloc, config)?;
+    if snapshot.is_empty() {
+        return Ok(C::new(alloc, &config)?);
+    }
+    let mut source = source_of(alloc, snapshot)?;
+    Ok(read_snapshot(alloc, &config, &mut source)?)
+}

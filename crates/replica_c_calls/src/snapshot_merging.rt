@@ -1,0 +1,31 @@
+//! Another replica's snapshot, taken whole or not at all.
+ghost use Rattle.std.specs.Prelude.{MatchResult};
+ghost use Rattle.replica_c_calls.specs.Changes.{HasRefusedSnapshotBytes, MergesBytes};
+
+use crate::call_error::CallError;
+use crate::growing_sink::source_of;
+use closure_core::Closure;
+use replica_sync::read_snapshot;
+use std::alloc::Global;
+
+/// Takes all receipts and all records of distrust of a snapshot, and returns how many receipts were
+/// not held.
+///
+/// # Errors
+/// What is held stays. Of these the first that holds:
+/// - [`CallError::Sync`]: the bytes are no snapshot of this configuration,
+/// - [`CallError::Take`]: what it holds is refused, as [`Closure::merge`] reports it,
+/// - [`CallError::NoMemory`]: memory ran out before the snapshot was read.
+pub fn merge_bytes<C: Closure>(
+    alloc: Global,
+    closure: &mut C,
+    snapshot: &[u8],
+) -> Result<usize, CallError>
+    ensures { MatchResult result
+        (MergesBytes (C.state closure.old) snapshot.now (C.state closure.new))
+        (HasRefusedSnapshotBytes (C.state closure.old) snapshot.now (C.state closure.new)) }
+{
+    let mut source = source_of(alloc, snapshot)?;
+    let other: C = read_snapshot(alloc, closure.config(), &mut source)?;
+    Ok(closure.merge(&other)?)
+}

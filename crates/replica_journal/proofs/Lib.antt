@@ -1,0 +1,2 @@
+mod JournalFacts
+mod PrefixFacts

@@ -1,0 +1,2 @@
+-- How a journal is read, line by line
+pub mod JournalSteps

@@ -1,0 +1,101 @@
+//! Events on standard error: a line for each, pairs of a word and a value in a fixed order. No byte
+//! that another side chose stands in one.
+use crate::ending::Ending;
+use replica_sync::SyncError;
+use status_view::{PeerFault, fault_code};
+use std::alloc::Global;
+use std::fmt;
+use std::fmt::{Display, Formatter};
+use std::io::Eprint;
+use std::net::SocketAddr;
+use std::time::Duration;
+
+/// What is reported.
+#[derive(Clone, Copy, Debug)]
+pub(crate) enum LogEvent {
+    /// A session in which this replica asked has ended.
+    Pull(SocketAddr, u64, Duration, Ending),
+    /// A connection on which another replica asked has ended.
+    Serve(Option<SocketAddr>, Duration, Ending),
+    /// A connection of this machine has ended.
+    Local(Duration, Ending),
+    /// There was no room for a connection.
+    Refuse,
+    /// A connection that came could not be taken.
+    Accept,
+    /// The system did not say what is ready.
+    Poll,
+    /// The snapshot was written anew.
+    Fold(u64),
+    /// The snapshot could not be written.
+    FoldFault(SyncError),
+    /// The journal could not be written.
+    Journal(SyncError),
+}
+
+/// Writes the event's line at once. That it cannot be written changes nothing.
+pub(crate) fn log_event<R: Eprint>(rt: &R, alloc: Global, event: LogEvent) {
+    if let Ok(line) = format!(in alloc; "{event}\n") {
+        let _ = rt.eprint(line);
+    }
+}
+
+impl Display for LogEvent {
+    fn fmt<W: fmt::Write>(&self, f: &mut Formatter<W>) -> fmt::Result {
+        match self {
+            LogEvent::Pull(peer, new, time, ending) => {
+                write!(
+                    f,
+                    "event=pull peer={peer} new={new} seconds={}",
+                    Seconds(*time)
+                )?;
+                Outcome(*ending).fmt(f)
+            }
+            LogEvent::Serve(Some(peer), time, ending) => {
+                write!(f, "event=serve peer={peer} seconds={}", Seconds(*time))?;
+                Outcome(*ending).fmt(f)
+            }
+            LogEvent::Serve(None, time, ending) => {
+                write!(f, "event=serve seconds={}", Seconds(*time))?;
+                Outcome(*ending).fmt(f)
+            }
+            LogEvent::Local(time, ending) => {
+                write!(f, "event=local seconds={}", Seconds(*time))?;
+                Outcome(*ending).fmt(f)
+            }
+            LogEvent::Refuse => f.write_str("event=refuse"),
+            LogEvent::Accept => f.write_str("event=accept fault=S9"),
+            LogEvent::Poll => f.write_str("event=poll fault=S9"),
+            LogEvent::Fold(bytes) => write!(f, "event=fold bytes={bytes}"),
+            LogEvent::FoldFault(why) => write!(f, "event=fold fault={}", session_code(*why)),
+            LogEvent::Journal(why) => write!(f, "event=journal fault={}", session_code(*why)),
+        }
+    }
+}
+
+/// Seconds with three decimals.
+#[derive(Clone, Copy)]
+struct Seconds(Duration);
+
+impl Display for Seconds {
+    fn fmt<W: fmt::Write>(&self, f: &mut Formatter<W>) -> fmt::Result {
+        write!(f, "{}.{:03}", self.0.as_secs(), self.0.subsec_millis())
+    }
+}
+
+/// A fault as a last pair, or nothing where all went well.
+#[derive(Clone, Copy)]
+struct Outcome(Ending);
+
+impl Display for Outcome {
+    fn fmt<W: fmt::Write>(&self, f: &mut Formatter<W>) -> fmt::Result {
+        match self.0.fault() {
+            Some(fault) => write!(f, " fault={}", fault_code(fault)),
+            None => Ok(()),
+        }
+    }
+}
+
+fn session_code(why: SyncError) -> &'static str {
+    fault_code(PeerFault::Session(why))
+}

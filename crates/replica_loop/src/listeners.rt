@@ -1,0 +1,204 @@
+//! Where connections come in: the socket of local requests, and the address where other replicas
+//! ask; and the poll, which says what is ready.
+use crate::settings::Settings;
+use crate::socket::Socket;
+use crate::step_fault::at_step;
+use fedbundle::{Exit, Step};
+use mio::net::{TcpListener, UnixListener, UnixStream};
+use mio::{Interest, Poll, Token};
+use std::fs::{Files, Permissions};
+use std::io::ErrorKind;
+use std::net::{Net, SocketAddr};
+use std::os::unix::fs::{FileTypeExt, PermissionsExt};
+use std::time::{Duration, Instant};
+use std::{fs, io};
+
+/// Under which number the poll reports each listener. Connections have greater ones.
+pub(crate) const LOCAL_LISTENER: usize = 0;
+
+pub(crate) const GOSSIP_LISTENER: usize = 1;
+
+/// The mode of the socket: its owner alone connects.
+const OWNER_ONLY: u32 = 0o600;
+
+/// How long nothing is accepted after an accept failed.
+const PAUSE_MILLIS: u64 = 100;
+
+/// The listeners, and what is known of them.
+#[derive(Drop)]
+pub(crate) struct Listeners {
+    pub(crate) poll: Poll,
+    local: UnixListener,
+    gossip: Option<TcpListener>,
+    at_local: Queue,
+    at_gossip: Queue,
+}
+
+/// What is known of those who wait at a listener.
+#[derive(Clone, Copy)]
+struct Queue {
+    // Whether somebody may wait.
+    is_filled: bool,
+    // When the next accept is tried, after one failed.
+    closed_until: Option<Instant>,
+}
+
+/// What an accept gave.
+#[derive(Drop)]
+pub(crate) enum Arrival {
+    /// A connection, with the address of the other side where it has one.
+    Came(Socket, Option<SocketAddr>),
+    /// Nobody waits.
+    Nobody,
+    /// The one who waited has left, or a signal came. Others may wait.
+    Left,
+    /// The system refused it.
+    Failed,
+}
+
+impl Listeners {
+    /// Listens at both. The lock of the state is held, so a socket's file on which nobody listens
+    /// is that of a replica that has ended.
+    pub(crate) fn open<R: Files + Net>(
+        rt: &R,
+        settings: &Settings<'_, '_>,
+    ) -> Result<Listeners, Exit> {
+        let poll = at_step(Step::Socket, Poll::new(rt))?;
+        free_path(rt, settings.socket)?;
+        let local = at_step(Step::Socket, open_local(rt, &poll, settings.socket))?;
+        let gossip = match settings.listen {
+            Some(address) => Some(at_step(Step::Listen, open_gossip(rt, &poll, address))?),
+            None => None,
+        };
+        Ok(Listeners {
+            poll,
+            local,
+            gossip,
+            at_local: Queue::new(),
+            at_gossip: Queue::new(),
+        })
+    }
+
+    /// The poll reports that somebody waits.
+    pub(crate) fn mark(&mut self, listener: usize) {
+        match listener {
+            LOCAL_LISTENER => self.at_local.is_filled = true,
+            GOSSIP_LISTENER => self.at_gossip.is_filled = true,
+            _ => {}
+        }
+    }
+
+    /// How long to wait before the next accept: `None` where nobody waits.
+    pub(crate) fn time_left(&self, now: Instant) -> Option<Duration> {
+        match (self.at_local.time_left(now), self.at_gossip.time_left(now)) {
+            (Some(local), Some(gossip)) => Some(local.min(gossip)),
+            (local, gossip) => local.or(gossip),
+        }
+    }
+
+    /// The next connection of this machine.
+    pub(crate) fn accept_local(&mut self, now: Instant) -> Arrival {
+        if !self.at_local.is_open(now) {
+            return Arrival::Nobody;
+        }
+        match self.local.accept() {
+            Ok((stream, _)) => Arrival::Came(Socket::Unix(stream), None),
+            Err(error) => self.at_local.note(&error, now),
+        }
+    }
+
+    /// The next connection of another replica.
+    pub(crate) fn accept_gossip(&mut self, now: Instant) -> Arrival {
+        if !self.at_gossip.is_open(now) {
+            return Arrival::Nobody;
+        }
+        let Some(listener) = &self.gossip else {
+            return Arrival::Nobody;
+        };
+        match listener.accept() {
+            Ok((stream, peer)) => {
+                // Without it an answer may wait for a moment.
+                let _ = stream.set_nodelay(true);
+                Arrival::Came(Socket::Tcp(stream), Some(peer))
+            }
+            Err(error) => self.at_gossip.note(&error, now),
+        }
+    }
+}
+
+impl Queue {
+    fn new() -> Queue {
+        Queue {
+            is_filled: false,
+            closed_until: None,
+        }
+    }
+
+    // How long to wait before the next accept: `None` where nobody waits.
+    fn time_left(&self, now: Instant) -> Option<Duration> {
+        if !self.is_filled {
+            return None;
+        }
+        match self.closed_until {
+            Some(until) => Some(until.duration_since(now)),
+            None => Some(Duration::ZERO),
+        }
+    }
+
+    // Whether an accept is to be tried now.
+    fn is_open(&mut self, now: Instant) -> bool {
+        let until = self.closed_until.unwrap_or(now);
+        if !self.is_filled || now < until {
+            return false;
+        }
+        self.closed_until = None;
+        true
+    }
+
+    // An accept gave nobody. After a failure the next one waits, so that failures that come one
+    // after another take no processor.
+    fn note(&mut self, error: &io::Error, now: Instant) -> Arrival {
+        match error.kind() {
+            ErrorKind::WouldBlock => {
+                self.is_filled = false;
+                Arrival::Nobody
+            }
+            ErrorKind::ConnectionAborted | ErrorKind::Interrupted => Arrival::Left,
+            _ => {
+                self.closed_until = now.checked_add(Duration::from_millis(PAUSE_MILLIS));
+                Arrival::Failed
+            }
+        }
+    }
+}
+
+fn open_gossip<R: Net>(rt: &R, poll: &Poll, address: SocketAddr) -> io::Result<TcpListener> {
+    let mut listener = TcpListener::bind(rt, address)?;
+    poll.registry()
+        .register(&mut listener, Token(GOSSIP_LISTENER), Interest::READABLE)?;
+    Ok(listener)
+}
+
+fn open_local<R: Files + Net>(rt: &R, poll: &Poll, path: &str) -> io::Result<UnixListener> {
+    let mut listener = UnixListener::bind(rt, path)?;
+    fs::set_permissions(rt, path, Permissions::from_mode(OWNER_ONLY))?;
+    poll.registry()
+        .register(&mut listener, Token(LOCAL_LISTENER), Interest::READABLE)?;
+    Ok(listener)
+}
+
+// Removes the socket of a replica that has ended.
+fn free_path<R: Files + Net>(rt: &R, path: &str) -> Result<(), Exit> {
+    match fs::symlink_metadata(rt, path) {
+        Ok(there) if there.file_type().is_socket() => {}
+        Ok(_) => return Err(Exit::SocketTaken),
+        Err(error) if error.kind() == ErrorKind::NotFound => return Ok(()),
+        Err(error) => return at_step(Step::Socket, Err(error)),
+    }
+    match UnixStream::connect(rt, path) {
+        Err(error) if error.kind() == ErrorKind::ConnectionRefused => {
+            at_step(Step::Socket, fs::remove_file(rt, path))
+        }
+        _ => Err(Exit::SocketTaken),
+    }
+}

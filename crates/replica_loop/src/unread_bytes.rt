@@ -1,0 +1,43 @@
+//! Bytes that were read and are taken later.
+use std::alloc::{AllocError, Global};
+
+/// Bytes that were read from a connection and not taken yet.
+#[derive(Drop)]
+pub(crate) struct UnreadBytes {
+    bytes: Vec<u8>,
+    used: usize,
+}
+
+impl UnreadBytes {
+    pub(crate) fn new(alloc: Global) -> UnreadBytes {
+        UnreadBytes {
+            bytes: Vec::new(alloc),
+            used: 0,
+        }
+    }
+
+    pub(crate) fn left(&self) -> &[u8] {
+        let used = self.used.min(self.bytes.len());
+        &self.bytes[used..]
+    }
+
+    pub(crate) fn is_empty(&self) -> bool {
+        self.used >= self.bytes.len()
+    }
+
+    /// Keeps the bytes in the place of what it kept.
+    pub(crate) fn keep(&mut self, bytes: &[u8]) -> Result<(), AllocError> {
+        self.bytes.clear();
+        self.used = 0;
+        self.bytes.extend_from_slice(bytes)
+    }
+
+    /// This many of the bytes that are left were taken.
+    pub(crate) fn took(&mut self, count: usize) {
+        self.used = self.used.saturating_add(count);
+        if self.is_empty() {
+            self.bytes = Vec::new(*self.bytes.allocator());
+            self.used = 0;
+        }
+    }
+}

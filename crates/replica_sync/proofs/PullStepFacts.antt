@@ -1,0 +1,667 @@
+-- What one call does to a session that pulls.
+use Rattle.std.proofs.Common.{◌≡◌, ℕ, zero, suc, ◌+◌, ◌-◌, ◌<◌, ◌≤◌, ◌⊎◌, inl, inr, Bool, true, false, List, [], ◌∷◌, ◌++◌, length, take, drop}
+use Rattle.std.proofs.Common.{Option, None, Some, refl, sym, ap, ◌∙◌, subst, append_assoc, append-nil, length-append, take-append-drop, length-take, arith}
+use Rattle.std.specs.List.{flat_map}
+use Rattle.std.specs.Prelude.{◌↔◌}
+use Rattle.std.proofs.lemmas.Bool.{cases_eq}
+use Rattle.std.proofs.lemmas.List.{take_all}
+use Rattle.fed_config.specs.Configuration.{Configuration}
+use Rattle.receipt_core.specs.Acceptance.{Meaning}
+use Rattle.byte_lines.specs.Limits.{line_limit}
+use Rattle.byte_lines.specs.Lines.{HasLine}
+use Rattle.replica_core.specs.Session.{have_of}
+use Rattle.replica_core.specs.State.{State, no_state}
+use Rattle.replica_core.specs.declared.error.SyncError.{SyncError}
+use Rattle.replica_core.specs.declared.error.SyncError.TheVariants.{BadHeader, ConfigDiffers, VersionDiffers, NotCanonical, NotRising, BadCount, Truncated}
+use Rattle.replica_core.specs.declared.error.SyncError.TheVariants.{Refused, Io, NoMemory}
+use Rattle.replica_texts.specs.Entries.{RefusesEntryLine, placed_line}
+use Rattle.replica_texts.specs.FirstLines.{Expected, RefusesGiveLine}
+use Rattle.replica_sync.specs.Pulling.{IsGiveAbout}
+use Rattle.replica_texts.specs.Gives.{GiveBegins, Heads, RefusesHead, RefusesNextEntry, Wants, content_lines, next_entry_number}
+use Rattle.replica_sync.specs.Inside.Taking.{IsNextOf, RefusesHere}
+use Rattle.replica_texts.specs.Messages.{have_text}
+use Rattle.replica_texts.specs.Snapshots.{ended, last_of, text_of_lines}
+use Rattle.replica_texts.specs.declared.entry_line.Wanted.{Wanted}
+use Rattle.replica_texts.specs.declared.entry_line.Wanted.TheVariants.{Records, Receipts}
+use Rattle.replica_sync.proofs.TakingFacts.{wants}
+use Rattle.replica_sync.specs.Pieces.{EndsLine, piece_run}
+use Rattle.replica_sync.specs.PulledPieces.{IsPulledGive, PulledGive, PulledGives, PulledPiece, bytes_pulled, lines_pulled, receipts_pulled}
+use Rattle.replica_sync.specs.PullSessions.{GoesOnPulling, HasLinesOf, HasNoLineOf, HasPartOf, PullsPieces, StopsAnswer}
+use Rattle.replica_sync.specs.PullSessions.{StopsAsking, StopsInGive, refused_where}
+use Rattle.replica_sync.specs.Inside.AnswerSteps.{Asks, EndsAnswer, FailsPulled, LineLeft, PullState, RefusesAnswerLine, RefusesAsking, RefusesEnded}
+use Rattle.replica_sync.specs.Inside.AnswerSteps.{RefusesLong, RefusesPulled, StaysWithin, TakesAnswerLine, TakesPulled, WaitsOn}
+use Rattle.replica_sync.specs.declared.answer_lines.AnswerLines.{AnswerLines}
+use Rattle.replica_sync.proofs.CutFacts.{ended_split}
+use Rattle.replica_sync.proofs.ServedPieceFacts.{overlong_line}
+use Rattle.replica_sync.proofs.PulledPieceFacts.{LinesCame, answer_whole, asked_more, bytes_more, give_with, haves_whole, line_came, lines_then}
+use Rattle.replica_sync.proofs.PulledPieceFacts.{part_within, pulled_more, receipts_more, takes_quiet, whole_more}
+
+-- ---- nothing is taken
+
+-- A piece without a byte changes nothing.
+none_more : (later : List PulledPiece) (c : PulledPiece) → c.bytes ≡ [] → bytes_pulled later ≡ [] → bytes_pulled (later ++ c ∷ []) ≡ []
+none_more later c none before = bytes_more later c ∙ ap (λ (l : List ℕ). l ++ c.bytes) before ∙ none
+
+-- Where nothing is taken, the session is where it was.
+pub pulled_nothing : (f : Option SyncError) (lines : AnswerLines) (start : Meaning) (came : List PulledPiece) (rest output : List ℕ) (c : PulledPiece)
+    → f ≡ None → c.bytes ≡ [] → c.new ≡ c.old → PullsPieces f lines start came rest output
+    → PullsPieces f lines start (came ++ c ∷ []) rest output
+pulled_nothing None lines start came rest output c sound none quiet (inl on) = inl (record {
+  gives = on.gives;
+  later = on.later ++ c ∷ [];
+  whole = pulled_more start came on.gives on.later c on.whole;
+  few = on.few;
+  bucket = on.bucket;
+  part = subst (HasPartOf start.config lines (lines_pulled on.gives) (on.later ++ c ∷ [])) (ap (λ (l : List ℕ). rest ++ l) none ∙ append-nil rest)
+      (part_within start.config lines (lines_pulled on.gives) on.later rest c quiet on.part);
+  asked = on.asked;
+})
+pulled_nothing None lines start came rest output c sound none quiet (inr all) = inr (record {
+  gives = all.gives;
+  later = all.later ++ c ∷ [];
+  whole = pulled_more start came all.gives all.later c all.whole;
+  all = all.all;
+  bucket = all.bucket;
+  none = none_more all.later c none all.none;
+  takes = takes_quiet all.later [] c all.takes quiet;
+  asked = all.asked;
+})
+pulled_nothing (Some e) lines start came rest output c sound none quiet pulls = absurd (cc)
+
+-- After a fault nothing is taken, whatever comes.
+pub pulled_still : (f : Option SyncError) (why : SyncError) (lines : AnswerLines) (start : Meaning) (came : List PulledPiece) (rest output : List ℕ)
+    (c : PulledPiece) → f ≡ Some why → c.new ≡ c.old → PullsPieces f lines start came rest output
+    → PullsPieces f lines start (came ++ c ∷ []) rest output
+pulled_still None why lines start came rest output c stopped quiet pulls = absurd (cc)
+pulled_still (Some e) why lines start came rest output c stopped quiet (inl stops) = inl (record {
+  gives = stops.gives;
+  part = stops.part;
+  last = stops.last;
+  later = stops.later ++ c ∷ [];
+  whole = subst (PulledGives start (came ++ c ∷ []) stops.gives) (append_assoc stops.part (stops.last ∷ stops.later) (c ∷ []))
+      (pulled_more start came stops.gives (stops.part ++ stops.last ∷ stops.later) c stops.whole);
+  few = stops.few;
+  content = stops.content;
+  takes = stops.takes;
+  quiet = (stops.quiet.0, takes_quiet stops.later [] c stops.quiet.1 quiet);
+  cause = stops.cause;
+  asked = stops.asked;
+})
+pulled_still (Some e) why lines start came rest output c stopped quiet (inr stops) = inr (record {
+  gives = stops.gives;
+  part = stops.part;
+  last = stops.last;
+  later = stops.later ++ c ∷ [];
+  whole = subst (PulledGives start (came ++ c ∷ []) stops.gives) (append_assoc stops.part (stops.last ∷ stops.later) (c ∷ []))
+      (pulled_more start came stops.gives (stops.part ++ stops.last ∷ stops.later) c stops.whole);
+  few = stops.few;
+  give = stops.give;
+  about = stops.about;
+  behind = stops.behind;
+  text = stops.text;
+  takes = stops.takes;
+  quiet = takes_quiet stops.later [] c stops.quiet quiet;
+  cause = stops.cause;
+  asked = stops.asked;
+})
+
+-- ---- a piece is taken
+
+-- the piece that a call took
+abbrev pub piece_at : List ℕ → PullState → PullState → PulledPiece
+piece_at bytes old new = record { bytes = bytes; old = old.held; new = new.held }
+
+-- No line ended.
+stays : (start : Meaning) (came : List PulledPiece) (old new : PullState) (piece : List ℕ) (used : ℕ) (due output : List ℕ)
+    → StaysWithin old piece used new due → GoesOnPulling old.lines start came old.kept output
+    → GoesOnPulling new.lines start (came ++ piece_at (take used piece) old new ∷ []) new.kept output
+stays start came old new piece used due output within on =
+    let c = piece_at (take used piece) old new in
+    let all : take used piece ≡ piece = ap (λ (n : ℕ). take n piece) within.all ∙ take_all (length piece) piece (omega arith) in
+    let kept : old.kept ++ take used piece ≡ new.kept = ap (λ (l : List ℕ). old.kept ++ l) all ∙ sym within.goes.kept in
+    subst (λ (lines : AnswerLines). GoesOnPulling lines start (came ++ c ∷ []) new.kept output) (sym within.lines) (record {
+      gives = on.gives;
+      later = on.later ++ c ∷ [];
+      whole = pulled_more start came on.gives on.later c on.whole;
+      few = on.few;
+      bucket = on.bucket;
+      part = subst (HasPartOf start.config old.lines (lines_pulled on.gives) (on.later ++ c ∷ [])) kept
+          (part_within start.config old.lines (lines_pulled on.gives) on.later old.kept c within.held on.part);
+      asked = on.asked;
+    })
+
+-- what is so of the answer that is next after a line of it
+abbrev pub CameNow : Meaning → AnswerLines → ℕ → LineLeft → List ℕ → List PulledPiece → Type 0
+CameNow start lines before left bytes pieces = LinesCame start.config lines.bucket before left (lines.read + 1) bytes pieces
+
+-- More of the answer is waited for.
+waits : (start : Meaning) (lines new : AnswerLines) (before : ℕ) (left : LineLeft) (pieces : List PulledPiece) → CameNow start lines before left
+    (bytes_pulled pieces) pieces
+    → WaitsOn lines new left → new.read ≡ lines.read + 1 → new.last.items ≡ left.last → HasPartOf start.config new before pieces []
+waits start lines new before left pieces came moves read last = inr (record {
+  begun = moves.begun;
+  count = came.count;
+  distrusts = came.distrusts;
+  content = came.content;
+  begins = subst (λ (b : ℕ). GiveBegins (Some (record { config = start.config; bucket = b })) (Some (bytes_pulled pieces)) came.count
+      came.distrusts came.content (Some [])) (sym moves.bucket) came.begins;
+  takes = came.takes;
+  receipts = ap (λ (n : ℕ). length came.content.held + n) moves.receipts ∙ came.receipts;
+  records = ap (λ (n : ℕ). length came.content.records + n) moves.records ∙ came.records;
+  last = last ∙ came.last;
+  read = read ∙ came.read;
+})
+
+-- the answer that came, and the pieces in which it came
+abbrev pub give_came : Configuration → ℕ → State → List PulledPiece → PulledPiece → PulledGive
+give_came config bucket content before last = record { give = give_with config bucket content; before = before; last = last }
+
+-- One more answer came whole.
+record EndsGive (start : Meaning) (came : List PulledPiece) (gives : List PulledGive) (output : List ℕ) (lines new : AnswerLines)
+    (last : PulledPiece) : Type 0 where
+  pub g : PulledGive
+  pub is_last : g.last ≡ last
+  pub whole : PulledGives start came (gives ++ g ∷ []) []
+  pub bucket : new.bucket ≡ length gives + 1
+  pub part : HasNoLineOf new (lines_pulled (gives ++ g ∷ [])) [] []
+
+ends_give : (start : Meaning) (came : List PulledPiece) (gives : List PulledGive) (later : List PulledPiece) (c : PulledPiece) (output : List ℕ)
+    (lines new : AnswerLines) (left : LineLeft) → lines.bucket ≡ length gives → PulledGives start came gives later → 0 < length c.bytes
+    → CameNow start lines (lines_pulled gives) left (bytes_pulled later ++ c.bytes) (later ++ c ∷ []) → EndsAnswer lines new left
+    → new.read ≡ lines.read + 1
+    → EndsGive start (came ++ c ∷ []) gives output lines new c
+ends_give start came gives later c output lines new left bucket whole some now moves read =
+    let g = give_came start.config lines.bucket now.content later c in
+    let is = answer_whole start.config lines.bucket (lines_pulled gives) left (lines.read + 1) (bytes_pulled later ++ c.bytes) (later ++ c ∷ []) now
+    moves.receipts moves.records in
+    let one : IsPulledGive start.config lines.bucket g = record {
+      about = is.0;
+      text = bytes_more later c ∙ is.1;
+      ends = some;
+      takes = now.takes;
+    } in
+    let more = lines_then gives g in
+    let number = now.read in
+    let next = moves.bucket in
+    record {
+      g = g;
+      is_last = refl;
+      whole = whole_more start (came ++ c ∷ []) gives g (pulled_more start came gives later c whole)
+          (subst (λ (b : ℕ). IsPulledGive start.config b g) bucket one);
+      bucket = omega (arith, next, bucket);
+      part = record { none = moves.none; bytes = refl; takes = tt; read = omega (arith, read, number, more) };
+    }
+
+-- A line that ends has a byte in its piece.
+some_taken : (used : ℕ) (piece : List ℕ) → 0 < used → used ≤ length piece → 0 < length (take used piece)
+some_taken used piece some within = let size = length-take used piece in omega (arith, some, within, size)
+
+-- A line ended, and its answer goes on.
+line_waits : (start : Meaning) (came : List PulledPiece) (old new : PullState) (piece : List ℕ) (used : ℕ) (text output : List ℕ)
+    → old.held.config ≡ start.config → EndsLine (piece_run line_limit old.kept piece) used text → new.kept ≡ []
+    → TakesAnswerLine old.held old.lines text new.held new.lines false → GoesOnPulling old.lines start came old.kept output
+    → GoesOnPulling new.lines start (came ++ piece_at (take used piece) old new ∷ []) new.kept output
+line_waits start came old new piece used text output own ends kept takes on =
+    let c = piece_at (take used piece) old new in
+    let left = takes.left in
+    let moves = takes.moves in
+    let now = line_came start.config old.held old.lines (lines_pulled on.gives) on.later old.kept (take used piece) text new.held left c own on.part
+    takes.steps refl refl ends.parts in
+    let there = subst (λ (l : List ℕ). CameNow start old.lines (lines_pulled on.gives) left l (on.later ++ c ∷ [])) (sym (bytes_more on.later c)) now in
+    record {
+      gives = on.gives;
+      later = on.later ++ c ∷ [];
+      whole = pulled_more start came on.gives on.later c on.whole;
+      few = on.few;
+      bucket = moves.bucket ∙ on.bucket;
+      part = subst (HasPartOf start.config new.lines (lines_pulled on.gives) (on.later ++ c ∷ [])) (sym kept)
+          (waits start old.lines new.lines (lines_pulled on.gives) left (on.later ++ c ∷ []) there moves takes.read takes.last);
+      asked = on.asked;
+    }
+
+-- A line ended, and an answer with it.
+line_ends : (start : Meaning) (came : List PulledPiece) (old new : PullState) (piece : List ℕ) (used : ℕ) (text output : List ℕ)
+    → old.held.config ≡ start.config → EndsLine (piece_run line_limit old.kept piece) used text
+    → TakesAnswerLine old.held old.lines text new.held new.lines true → (on : GoesOnPulling old.lines start came old.kept output)
+    → EndsGive start (came ++ piece_at (take used piece) old new ∷ []) on.gives output old.lines new.lines (piece_at (take used piece) old new)
+line_ends start came old new piece used text output own ends takes on =
+    let c = piece_at (take used piece) old new in
+    let now = line_came start.config old.held old.lines (lines_pulled on.gives) on.later old.kept (take used piece) text new.held takes.left c own on.part
+    takes.steps refl refl ends.parts in
+    ends_give start came on.gives on.later c output old.lines new.lines takes.left on.bucket on.whole (some_taken used piece ends.some ends.within) now
+    takes.moves takes.read
+
+-- After an answer the next one is asked for, or all came.
+asks_next : (start : Meaning) (came : List PulledPiece) (old new : PullState) (piece : List ℕ) (used : ℕ) (due output : List ℕ)
+    → (on : GoesOnPulling old.lines start came old.kept output) → new.kept ≡ []
+    → EndsGive start (came ++ piece_at (take used piece) old new ∷ []) on.gives output old.lines new.lines (piece_at (take used piece) old new)
+    → Asks new.held new.lines true due → PullsPieces None new.lines start (came ++ piece_at (take used piece) old new ∷ []) new.kept (output ++ due)
+asks_next start came old new piece used due output on kept one (inl over) =
+    let longer = length-append on.gives (one.g ∷ []) in
+    let bucket = one.bucket in
+    let last = over.0 in
+    inr (record {
+      gives = on.gives ++ one.g ∷ [];
+      later = [];
+      whole = one.whole;
+      all = omega (arith, longer, bucket, last);
+      bucket = last;
+      none = refl;
+      takes = tt;
+      asked = ap (λ (l : List ℕ). output ++ l) over.1 ∙ append-nil output ∙ on.asked
+          ∙ ap (flat_map have_text) (sym (haves_whole start on.gives one.g));
+    })
+asks_next start came old new piece used due output on kept one (inr more) =
+    let c = piece_at (take used piece) old new in
+    let longer = length-append on.gives (one.g ∷ []) in
+    let bucket = one.bucket in
+    let few = more.0 in
+    inl (record {
+      gives = on.gives ++ one.g ∷ [];
+      later = [];
+      whole = one.whole;
+      few = omega (arith, longer, bucket, few);
+      bucket = omega (arith, longer, bucket);
+      part = inl (record { none = one.part.none; bytes = sym kept; takes = tt; read = one.part.read });
+      asked = ap (λ (l : List ℕ). output ++ l) more.1
+          ∙ ap (λ (d : PulledPiece). output ++ have_text (have_of d.new new.lines.bucket)) (sym one.is_last)
+          ∙ asked_more start on.gives one.g output new.lines.bucket on.asked bucket;
+    })
+
+-- A line ended, and is taken.
+line_pulled : (start : Meaning) (came : List PulledPiece) (old new : PullState) (piece : List ℕ) (used : ℕ) (text due output : List ℕ) (whole : Bool)
+    → old.held.config ≡ start.config → EndsLine (piece_run line_limit old.kept piece) used text → new.kept ≡ []
+    → TakesAnswerLine old.held old.lines text new.held new.lines whole → Asks new.held new.lines whole due
+    → GoesOnPulling old.lines start came old.kept output
+    → PullsPieces None new.lines start (came ++ piece_at (take used piece) old new ∷ []) new.kept (output ++ due)
+line_pulled start came old new piece used text due output false own ends kept takes asks on =
+    let c = piece_at (take used piece) old new in
+    let same : output ≡ output ++ due = sym (append-nil output) ∙ ap (λ (l : List ℕ). output ++ l) (sym asks) in
+    inl (subst (GoesOnPulling new.lines start (came ++ c ∷ []) new.kept) same
+    (line_waits start came old new piece used text output own ends kept takes on))
+line_pulled start came old new piece used text due output true own ends kept takes asks on =
+    asks_next start came old new piece used due output on kept (line_ends start came old new piece used text output own ends takes on) asks
+
+-- A piece is taken by a session that goes on.
+pub pulled_piece : (start : Meaning) (came : List PulledPiece) (old new : PullState) (piece : List ℕ) (used : ℕ) (due output : List ℕ)
+    → old.held.config ≡ start.config → TakesPulled old piece used new due → GoesOnPulling old.lines start came old.kept output
+    → PullsPieces None new.lines start (came ++ piece_at (take used piece) old new ∷ []) new.kept (output ++ due)
+pulled_piece start came old new piece used due output own (inl within) on =
+    let c = piece_at (take used piece) old new in
+    let same : output ≡ output ++ due = sym (append-nil output) ∙ ap (λ (l : List ℕ). output ++ l) (sym within.none) in
+    inl (subst (GoesOnPulling new.lines start (came ++ c ∷ []) new.kept) same (stays start came old new piece used due output within on))
+pulled_piece start came old new piece used due output own (inr line) on =
+    line_pulled start came old new piece used line.text due output line.whole own line.ends line.kept line.takes line.asks on
+
+-- ---- a fault
+
+-- what a session wants of an answer
+abbrev pub wish_of : Meaning → ℕ → Option Expected
+wish_of m bucket = Some (record { config = m.config; bucket = bucket })
+
+-- A fault of the first line is why the answer is not read.
+first_fault : (m : Meaning) (bucket : ℕ) (bytes rest text : List ℕ) (e : SyncError) → HasLine (Some bytes) (Some rest) text → length text ≤ line_limit
+    → RefusesGiveLine (wish_of m bucket) text e → RefusesHead (wish_of m bucket) (Some bytes) (Some rest) e
+first_fault m bucket bytes rest text BadHeader is short why = record { text = text; is = is; cause = inr (short, why) }
+first_fault m bucket bytes rest text ConfigDiffers is short why = record { text = text; is = is; cause = inr (short, why) }
+first_fault m bucket bytes rest text VersionDiffers is short why = record { text = text; is = is; cause = inr (short, why) }
+first_fault m bucket bytes rest text (NotCanonical n) is short why = absurd why
+first_fault m bucket bytes rest text (NotRising n) is short why = absurd why
+first_fault m bucket bytes rest text BadCount is short why = absurd why
+first_fault m bucket bytes rest text Truncated is short why = absurd why
+first_fault m bucket bytes rest text (Refused n cause) is short why = absurd why
+first_fault m bucket bytes rest text Io is short why = absurd why
+first_fault m bucket bytes rest text NoMemory is short why = tt
+
+-- what is wrong with a line of an answer of which this content was taken
+abbrev pub RefusesAt : Meaning → ℕ → State → Wanted → List ℕ → SyncError → Type 0
+RefusesAt m first content wanted text e = refused_where m first content wanted (last_of (content_lines content)) text e
+
+-- A fault of a later line is why the answer is not read further.
+later_fault : (m : Meaning) (first count distrusts : ℕ) (content : State) (wanted : Wanted) (further after : Option (List ℕ)) (text : List ℕ) (e : SyncError)
+    → Wants count distrusts content wanted → HasLine further after text → RefusesAt m first content wanted text e
+    → RefusesNextEntry (refused_where m first content) count distrusts content further after e
+later_fault m first count distrusts content wanted further after text BadHeader w is h = absurd h
+later_fault m first count distrusts content wanted further after text ConfigDiffers w is h = absurd h
+later_fault m first count distrusts content wanted further after text VersionDiffers w is h = absurd h
+later_fault m first count distrusts content wanted further after text (NotCanonical n) w is h =
+    record { wanted = wanted; wants = w; text = text; is = is; cause = h }
+later_fault m first count distrusts content wanted further after text (NotRising n) w is h =
+    record { wanted = wanted; wants = w; text = text; is = is; cause = h }
+later_fault m first count distrusts content wanted further after text BadCount w is h = absurd h
+later_fault m first count distrusts content wanted further after text Truncated w is h = absurd h
+later_fault m first count distrusts content wanted further after text (Refused n why) w is h =
+    record { wanted = wanted; wants = w; text = text; is = is; cause = h }
+later_fault m first count distrusts content wanted further after text Io w is h = absurd h
+later_fault m first count distrusts content wanted further after text NoMemory w is h = tt
+
+-- The same where memory may have run out besides.
+here_fault : (m : Meaning) (first count distrusts : ℕ) (content : State) (wanted : Wanted) (further after : Option (List ℕ)) (last text : List ℕ)
+    (number : ℕ) (e : SyncError) → Wants count distrusts content wanted → HasLine further after text → last ≡ last_of (content_lines content)
+    → number ≡ next_entry_number first content → RefusesHere wanted m last number text e
+    → RefusesNextEntry (refused_where m first content) count distrusts content further after e
+here_fault m first count distrusts content wanted further after last text number e w is l n (inl none) =
+    subst (RefusesNextEntry (refused_where m first content) count distrusts content further after) (sym none) tt
+here_fault m first count distrusts content wanted further after last text number e w is l n (inr why) =
+    later_fault m first count distrusts content wanted further after text e w is
+    (subst (λ (k : List ℕ). RefusesEntryLine m (placed_line wanted k (next_entry_number first content) text) e) l
+    (subst (λ (k : ℕ). RefusesEntryLine m (placed_line wanted last k text) e) n why))
+
+-- which line comes next, where this many are still to come
+pub record NextLine (receipts records : ℕ) : Type 0 where
+  pub wanted : Wanted
+  pub receipts_then : ℕ
+  pub records_then : ℕ
+  pub order : IsNextOf receipts records wanted receipts_then records_then
+
+pub next_line : (receipts records : ℕ) → 0 < receipts + records → NextLine receipts records
+next_line receipts zero some = record {
+  wanted = Receipts;
+  receipts_then = receipts - 1;
+  records_then = 0;
+  order = (refl, refl, omega (arith, some));
+}
+next_line receipts (suc records) some = record { wanted = Records; receipts_then = receipts; records_then = records; order = (omega arith, refl) }
+
+-- the stream from the kept bytes on, as soon as a line feed comes
+abbrev pub stream_at : List ℕ → List ℕ → List ℕ → List ℕ → List ℕ
+stream_at kept piece more after = (kept ++ piece) ++ (more ++ (10 ∷ after))
+
+-- A beginning of an answer is one of a longer stream.
+begins_on : (m : Meaning) (config : Configuration) (lines : AnswerLines) (before : ℕ) (later : List PulledPiece) (kept piece more after : List ℕ)
+    → m.config ≡ config → (some : HasLinesOf config lines before later kept)
+    → GiveBegins (wish_of m lines.bucket) (Some (stream_at (bytes_pulled later) piece more after)) some.count some.distrusts some.content
+    (Some (stream_at kept piece more after))
+begins_on m config lines before later kept piece more after own some =
+    let first = some.begins.first in
+    let body = ended first ++ text_of_lines (content_lines some.content) in
+    record {
+      first = first;
+      heads = subst (λ (k : Configuration). Heads (Some (record { config = k; bucket = lines.bucket })) first some.count some.distrusts) (sym own)
+          some.begins.heads;
+      begun = some.begins.begun;
+      text = ap (λ (l : List ℕ). (l ++ piece) ++ (more ++ (10 ∷ after))) some.begins.text
+          ∙ ap (λ (l : List ℕ). l ++ (more ++ (10 ∷ after))) (append_assoc body kept piece)
+          ∙ append_assoc body (kept ++ piece) (more ++ (10 ∷ after));
+    }
+
+-- Out of memory stops an answer anywhere.
+memory_stops : (m : Meaning) (config : Configuration) (lines : AnswerLines) (before : ℕ) (later : List PulledPiece) (kept piece more after : List ℕ)
+    → m.config ≡ config → (some : HasLinesOf config lines before later kept)
+    → StopsAnswer m lines.bucket (before + 1) some.content (Some (stream_at (bytes_pulled later) piece more after)) NoMemory
+memory_stops m config lines before later kept piece more after own some = inr (record {
+  count = some.count;
+  distrusts = some.distrusts;
+  further = Some (stream_at kept piece more after);
+  after = None;
+  begins = begins_on m config lines before later kept piece more after own some;
+  cause = tt;
+})
+
+-- why a line is not taken, of a session that has this much of an answer
+abbrev pub RefusesLine : PullState → List ℕ → SyncError → Type 0
+RefusesLine old piece e = (e ≡ NoMemory) ⊎ (RefusesLong old piece e ⊎ RefusesEnded old piece e)
+
+-- The first line of an answer is not taken.
+none_stops : (old : PullState) (config : Configuration) (before : ℕ) (later : List PulledPiece) (piece more after : List ℕ) (e : SyncError)
+    → HasNoLineOf old.lines before later old.kept → RefusesLine old piece e
+    → StopsAnswer old.held old.lines.bucket (before + 1) no_state (Some (stream_at (bytes_pulled later) piece more after)) e
+none_stops old config before later piece more after e none (inl out) = inl (record {
+  after = None;
+  cause = subst (RefusesHead (wish_of old.held old.lines.bucket) (Some (stream_at (bytes_pulled later) piece more after)) None) (sym out) tt;
+  none = refl;
+})
+none_stops old config before later piece more after e none (inr (inl long)) =
+    elim long.cause [
+      | inl header ↦
+          let line = overlong_line old.kept piece long.over more after in
+          let parts : stream_at (bytes_pulled later) piece more after ≡ (line.text ++ (10 ∷ [])) ++ line.rest =
+          ap (λ (l : List ℕ). stream_at l piece more after) none.bytes ∙ line.parts in
+          inl (record {
+            after = Some line.rest;
+            cause = subst (RefusesHead (wish_of old.held old.lines.bucket) (Some (stream_at (bytes_pulled later) piece more after)) (Some line.rest))
+                (sym header.1) (record { text = line.text; is = (line.plain, parts); cause = inl (refl, line.long) });
+            none = refl;
+          })
+      | inr begun ↦ absurd (let a = none.none in let b = begun.0 in cc)
+    ]
+none_stops old config before later piece more after e none (inr (inr ended)) =
+    elim ended.cause [
+      | inl first ↦
+          let rest = drop ended.used piece ++ (more ++ (10 ∷ after)) in
+          let parts : stream_at (bytes_pulled later) piece more after ≡ (ended.text ++ (10 ∷ [])) ++ rest =
+          ap (λ (l : List ℕ). stream_at l piece more after) none.bytes
+          ∙ ended_split ended.used old.kept piece (more ++ (10 ∷ after)) ended.text ended.ends.parts in
+          inl (record {
+            after = Some rest;
+            cause = first_fault old.held old.lines.bucket (stream_at (bytes_pulled later) piece more after) rest ended.text e
+                (ended.ends.plain, parts) ended.ends.short first.cause;
+            none = refl;
+          })
+      | inr begun ↦ absurd (let a = none.none in let b = begun.begun in cc)
+    ]
+
+-- A later line of an answer is not taken.
+some_stops : (old : PullState) (config : Configuration) (before : ℕ) (later : List PulledPiece) (piece more after : List ℕ) (e : SyncError)
+    → old.held.config ≡ config → 0 < old.lines.due.receipts + old.lines.due.records
+    → (some : HasLinesOf config old.lines before later old.kept) → RefusesLine old piece e
+    → StopsAnswer old.held old.lines.bucket (before + 1) some.content (Some (stream_at (bytes_pulled later) piece more after)) e
+some_stops old config before later piece more after e own due some (inl out) =
+    subst (StopsAnswer old.held old.lines.bucket (before + 1) some.content (Some (stream_at (bytes_pulled later) piece more after))) (sym out)
+    (memory_stops old.held config old.lines before later old.kept piece more after own some)
+some_stops old config before later piece more after e own due some (inr (inl long)) =
+    elim long.cause [
+      | inl header ↦ absurd (let a = some.begun in let b = header.0 in cc)
+      | inr begun ↦ elim begun.1 [
+        | inl number ↦
+            let line = overlong_line old.kept piece long.over more after in
+            let next = next_line old.lines.due.receipts old.lines.due.records due in
+            let w = wants next.wanted some.count some.distrusts some.content old.lines.due.receipts old.lines.due.records next.receipts_then
+            next.records_then next.order some.receipts some.records in
+            let read = some.read in
+            let at : old.lines.read + 1 ≡ next_entry_number (before + 1) some.content = omega (arith, read) in
+            inr (record {
+              count = some.count;
+              distrusts = some.distrusts;
+              further = Some (stream_at old.kept piece more after);
+              after = Some line.rest;
+              begins = begins_on old.held config old.lines before later old.kept piece more after own some;
+              cause = subst (RefusesNextEntry (refused_where old.held (before + 1) some.content) some.count some.distrusts some.content
+                  (Some (stream_at old.kept piece more after)) (Some line.rest)) (sym number)
+                  (record { wanted = next.wanted; wants = w; text = line.text; is = (line.plain, line.parts); cause = (at, inl line.long) });
+            })
+        | inr out ↦
+            subst (StopsAnswer old.held old.lines.bucket (before + 1) some.content (Some (stream_at (bytes_pulled later) piece more after))) (sym out)
+            (memory_stops old.held config old.lines before later old.kept piece more after own some)
+      ]
+    ]
+some_stops old config before later piece more after e own due some (inr (inr ended)) =
+    elim ended.cause [
+      | inl first ↦ absurd (let a = some.begun in let b = first.none in cc)
+      | inr entry ↦
+          let rest = drop ended.used piece ++ (more ++ (10 ∷ after)) in
+          let w = wants entry.wanted some.count some.distrusts some.content old.lines.due.receipts old.lines.due.records entry.receipts
+          entry.records entry.order some.receipts some.records in
+          let read = some.read in
+          let at : old.lines.read + 1 ≡ next_entry_number (before + 1) some.content = omega (arith, read) in
+          inr (record {
+            count = some.count;
+            distrusts = some.distrusts;
+            further = Some (stream_at old.kept piece more after);
+            after = Some rest;
+            begins = begins_on old.held config old.lines before later old.kept piece more after own some;
+            cause = here_fault old.held (before + 1) some.count some.distrusts some.content entry.wanted (Some (stream_at old.kept piece more after))
+                (Some rest) old.lines.last.items ended.text (old.lines.read + 1) e w
+                (ended.ends.plain, ended_split ended.used old.kept piece (more ++ (10 ∷ after)) ended.text ended.ends.parts) some.last at entry.cause;
+          })
+    ]
+
+-- A line is not taken.
+refused_piece : (start : Meaning) (came : List PulledPiece) (old new : PullState) (piece output : List ℕ) (e : SyncError)
+    → old.held.config ≡ start.config → (old.lines.is_begun ≡ true → 0 < old.lines.due.receipts + old.lines.due.records)
+    → RefusesPulled old piece new e → GoesOnPulling old.lines start came old.kept output
+    → StopsInGive start (came ++ piece_at piece old new ∷ []) output e
+refused_piece start came old new piece output e own due refused on =
+    let c = piece_at piece old new in
+    elim on.part [
+      | inl none ↦ record {
+        gives = on.gives;
+        part = on.later;
+        last = c;
+        later = [];
+        whole = pulled_more start came on.gives on.later c on.whole;
+        few = on.few;
+        content = no_state;
+        takes = none.takes;
+        quiet = (refused.same, tt);
+        cause = λ more after.
+            subst (λ (b : ℕ). StopsAnswer old.held b (lines_pulled on.gives + 1) no_state (Some (stream_at (bytes_pulled on.later) piece more after)) e)
+            on.bucket (none_stops old start.config (lines_pulled on.gives) on.later piece more after e none refused.cause);
+        asked = on.asked;
+      }
+      | inr some ↦ record {
+        gives = on.gives;
+        part = on.later;
+        last = c;
+        later = [];
+        whole = pulled_more start came on.gives on.later c on.whole;
+        few = on.few;
+        content = some.content;
+        takes = some.takes;
+        quiet = (refused.same, tt);
+        cause = λ more after.
+            subst (λ (b : ℕ). StopsAnswer old.held b (lines_pulled on.gives + 1) some.content (Some (stream_at (bytes_pulled on.later) piece more after)) e)
+            on.bucket (some_stops old start.config (lines_pulled on.gives) on.later piece more after e own (due some.begun) some refused.cause);
+        asked = on.asked;
+      }
+    ]
+
+-- An answer is taken whole, and the next have is not made.
+refused_asking : (start : Meaning) (came : List PulledPiece) (old new : PullState) (piece output : List ℕ) (e : SyncError)
+    → old.held.config ≡ start.config → RefusesAsking old piece new e → GoesOnPulling old.lines start came old.kept output
+    → StopsAsking start (came ++ piece_at piece old new ∷ []) output e
+refused_asking start came old new piece output e own refused on =
+    let c = piece_at piece old new in
+    let used = refused.used in
+    let takes = refused.takes in
+    let left = takes.left in
+    let now = line_came start.config old.held old.lines (lines_pulled on.gives) on.later old.kept (take used piece) refused.text new.held left c own on.part
+    takes.steps refl refl refused.ends.parts in
+    let is = answer_whole start.config old.lines.bucket (lines_pulled on.gives) left (old.lines.read + 1) (bytes_pulled on.later ++ take used piece)
+    (on.later ++ c ∷ []) now takes.moves.receipts takes.moves.records in
+    let give = give_with start.config old.lines.bucket now.content in
+    let next = takes.moves.bucket in
+    let few = refused.few in
+    let bucket = on.bucket in
+    record {
+      gives = on.gives;
+      part = on.later;
+      last = c;
+      later = [];
+      whole = pulled_more start came on.gives on.later c on.whole;
+      few = omega (arith, next, few, bucket);
+      give = give;
+      about = subst (λ (b : ℕ). IsGiveAbout start.config b give) bucket is.0;
+      behind = drop used piece;
+      text = ap (λ (l : List ℕ). bytes_pulled on.later ++ l) (sym (take-append-drop used piece))
+          ∙ sym (append_assoc (bytes_pulled on.later) (take used piece) (drop used piece))
+          ∙ ap (λ (l : List ℕ). l ++ drop used piece) is.1;
+      takes = now.takes;
+      quiet = tt;
+      cause = refused.cause;
+      asked = on.asked;
+    }
+
+-- A fault ends the session.
+pub pulled_stops : (start : Meaning) (came : List PulledPiece) (old new : PullState) (piece rest output : List ℕ) (e : SyncError)
+    → old.held.config ≡ start.config → (old.lines.is_begun ≡ true → 0 < old.lines.due.receipts + old.lines.due.records)
+    → FailsPulled old piece new e → GoesOnPulling old.lines start came old.kept output
+    → PullsPieces (Some e) new.lines start (came ++ piece_at piece old new ∷ []) rest output
+pulled_stops start came old new piece rest output e own due (inl refused) on = inl (refused_piece start came old new piece output e own due refused on)
+pulled_stops start came old new piece rest output e own due (inr refused) on = inr (refused_asking start came old new piece output e own refused on)
+
+-- ---- how many receipts were new
+
+-- One piece more counts what it brought.
+pub taken_more : (count then : ℕ) (came : List PulledPiece) (c : PulledPiece) → count ≡ receipts_pulled came
+    → then ≡ count + (length c.new.held - length c.old.held) → then ≡ receipts_pulled (came ++ c ∷ [])
+taken_more count then came c is brought = brought ∙ ap (λ (n : ℕ). n + (length c.new.held - length c.old.held)) is ∙ sym (receipts_more came c)
+
+-- A piece that changes nothing brings nothing.
+pub taken_same : (count : ℕ) (came : List PulledPiece) (c : PulledPiece) → count ≡ receipts_pulled came → c.new ≡ c.old
+    → count ≡ receipts_pulled (came ++ c ∷ [])
+taken_same count came c is quiet =
+    let same = ap (λ (m : Meaning). length m.held) quiet in
+    let more = receipts_more came c in
+    omega (arith, is, same, more)
+
+-- ---- what was written
+
+-- What was written is no longer due.
+pub wrote_have : (f : Option SyncError) (lines : AnswerLines) (start : Meaning) (came : List PulledPiece) (rest written due later : List ℕ) (count : ℕ)
+    → later ≡ drop count due → PullsPieces f lines start came rest (written ++ due)
+    → PullsPieces f lines start came rest ((written ++ take count due) ++ later)
+wrote_have f lines start came rest written due later count is pulls =
+    subst (PullsPieces f lines start came rest)
+    (ap (λ (l : List ℕ). written ++ l) (sym (take-append-drop count due)) ∙ sym (append_assoc written (take count due) (drop count due))
+    ∙ ap (λ (l : List ℕ). (written ++ take count due) ++ l) (sym is)) pulls
+
+-- Of nothing nothing is left.
+drop_none : (count : ℕ) → drop {A = ℕ} count [] ≡ []
+drop_none zero = refl
+drop_none (suc count) = refl
+
+pub none_left : (due later : List ℕ) (count : ℕ) → later ≡ drop count due → due ≡ [] → later ≡ []
+none_left due later count is none = is ∙ ap (drop count) none ∙ drop_none count
+
+-- ---- a call
+
+-- A call that takes a piece keeps the promise.
+pub read_took : (f g : Option SyncError) (start : Meaning) (came : List PulledPiece) (old new : PullState) (piece : List ℕ) (used : ℕ)
+    (due later written : List ℕ) → f ≡ None → g ≡ f → due ≡ [] → old.lines.bucket < 256 → old.held.config ≡ start.config
+    → TakesPulled old piece used new later → PullsPieces f old.lines start came old.kept (written ++ due)
+    → PullsPieces g new.lines start (came ++ piece_at (take used piece) old new ∷ []) new.kept (written ++ later)
+read_took None None start came old new piece used due later written sound same idle more own takes (inl on) =
+    pulled_piece start came old new piece used later written own takes
+    (subst (GoesOnPulling old.lines start came old.kept) (ap (λ (l : List ℕ). written ++ l) idle ∙ append-nil written) on)
+read_took None None start came old new piece used due later written sound same idle more own takes (inr all) =
+    absurd (let bucket = all.bucket in omega (arith, bucket, more))
+read_took None (Some e) start came old new piece used due later written sound same idle more own takes pulls = absurd (cc)
+read_took (Some e) g start came old new piece used due later written sound same idle more own takes pulls = absurd (cc)
+
+-- A call that returns a fault keeps it.
+pub read_stopped : (f : Option SyncError) (e : SyncError) (start : Meaning) (came : List PulledPiece) (old new : PullState)
+    (piece rest due later written : List ℕ) → f ≡ None → due ≡ [] → later ≡ [] → old.lines.bucket < 256 → old.held.config ≡ start.config
+    → (old.lines.is_begun ≡ true → 0 < old.lines.due.receipts + old.lines.due.records) → FailsPulled old piece new e
+    → PullsPieces f old.lines start came old.kept (written ++ due)
+    → PullsPieces (Some e) new.lines start (came ++ piece_at piece old new ∷ []) rest (written ++ later)
+read_stopped None e start came old new piece rest due later written sound idle quiet more own some fails (inl on) =
+    subst (PullsPieces (Some e) new.lines start (came ++ piece_at piece old new ∷ []) rest)
+    (sym (append-nil written) ∙ ap (λ (l : List ℕ). written ++ l) (sym quiet))
+    (pulled_stops start came old new piece rest written e own some fails
+    (subst (GoesOnPulling old.lines start came old.kept) (ap (λ (l : List ℕ). written ++ l) idle ∙ append-nil written) on))
+read_stopped None e start came old new piece rest due later written sound idle quiet more own some fails (inr all) =
+    absurd (let bucket = all.bucket in omega (arith, bucket, more))
+read_stopped (Some d) e start came old new piece rest due later written sound idle quiet more own some fails pulls = absurd (cc)
+
+-- A session that is not over waits for an answer.
+pub below_last : (over : Bool) (bucket : ℕ) → ((over ≡ true) ↔ (bucket ≡ 256)) → over ≡ false → bucket ≤ 256 → bucket < 256
+below_last over bucket is differs few =
+    elim (cases_eq bucket 256) [
+      | inl last ↦ absurd (let yes = is.1 last in cc)
+      | inr more ↦ omega (arith, more, few)
+    ]
+
+-- ---- a line without a number
+
+-- Out of memory refuses any line, before or after the first one of an answer.
+memory_refuses : (begun : Bool) (m : Meaning) (lines : AnswerLines) (text : List ℕ) → lines.is_begun ≡ begun
+    → (lines.is_begun ≡ true → 0 < lines.due.receipts + lines.due.records) → RefusesAnswerLine m lines text NoMemory
+memory_refuses false m lines text is some = inl (record { none = is; cause = tt })
+memory_refuses true m lines text is some =
+    let next = next_line lines.due.receipts lines.due.records (some is) in
+    inr (record { begun = is; wanted = next.wanted; receipts = next.receipts_then; records = next.records_then; order = next.order; cause = inl refl })
+
+pub no_number : (m : Meaning) (lines : AnswerLines) (text : List ℕ)
+    → (lines.is_begun ≡ true → 0 < lines.due.receipts + lines.due.records) → RefusesAnswerLine m lines text NoMemory
+no_number m lines text some = memory_refuses lines.is_begun m lines text refl some

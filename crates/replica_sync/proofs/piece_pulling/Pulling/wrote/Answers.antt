@@ -1,0 +1,14 @@
+use Rattle.std.proofs.Common.{drop, sym, drop-drop}
+use Rattle.replica_sync.specs.PullSessions.{due_have}
+use Rattle.replica_sync.proofs.PullStepFacts.{none_left, wrote_have}
+use Rattle.replica_sync.proofs.piece_pulling.Pulling.wrote.Goals as goal
+
+pub returns-else-self-len-clause-pulls : goal.returns-else-self-len-clause-pulls
+returns-else-self-len-clause-pulls c start came written h =
+    let self = c.args.self.now in
+    let later = sym (drop-drop c.args.count self.written self.have.items) in
+    record {
+      pulls = wrote_have self.fault self.lines start came _ written (due_have self) _ c.args.count later h.pulls;
+      taken = h.taken;
+      idle = λ stopped. none_left (due_have self) _ c.args.count later (h.idle stopped);
+    }

@@ -1,0 +1,175 @@
+-- A session in which a replica asks about each bucket, and the answers come in pieces; what is held
+-- may change between two of them.
+use Rattle.std.specs.Prelude.{◌≡◌, ◌≢◌, ℕ, ◌+◌, ◌<◌, ◌⊎◌, List, [], ◌∷◌, ◌++◌, length, flat_map}
+use Rattle.std.specs.Prelude.{drop, Option, None, Some, true, false}
+use Rattle.fed_config.specs.Configuration.{Configuration}
+use Rattle.receipt_core.specs.Acceptance.{Meaning}
+use Rattle.replica_core.specs.Absorbing.{entries_of}
+use Rattle.replica_core.specs.Session.{GiveMessage}
+use Rattle.replica_core.specs.State.{State}
+use Rattle.replica_core.specs.declared.error.SyncError.{SyncError}
+use Rattle.replica_core.specs.declared.error.SyncError.TheVariants.{NoMemory}
+use Rattle.replica_texts.specs.Entries.{RefusesEntryLine, placed_line}
+use Rattle.replica_texts.specs.Gives.{GiveBegins, RefusesNextEntry, content_lines}
+use Rattle.replica_texts.specs.Gives.{next_entry_number}
+use Rattle.replica_texts.specs.Messages.{give_text, have_text}
+use Rattle.replica_sync.specs.Pulling.{FailsFirst, IsGiveAbout}
+use Rattle.replica_texts.specs.Snapshots.{last_of}
+use Rattle.replica_texts.specs.declared.entry_line.Wanted.{Wanted}
+use Rattle.replica_sync.specs.Pieces.{kept_part}
+use Rattle.replica_sync.specs.PulledPieces.{PulledPiece, PulledGive, PulledGives, TakesInTurn}
+use Rattle.replica_sync.specs.PulledPieces.{bytes_pulled, haves_asked, haves_pulled}
+use Rattle.replica_sync.specs.PulledPieces.{lines_pulled, receipts_pulled}
+use Rattle.replica_sync.specs.declared.answer_lines.AnswerLines.{AnswerLines}
+use Rattle.replica_sync.specs.declared.piece_pulling.Pulling.{Pulling}
+
+-- ---- the answer that is next
+
+-- No line of it came whole; `rest` came of the first one.
+pub record HasNoLineOf (lines : AnswerLines) (before : ℕ) (later : List PulledPiece)
+    (rest : List ℕ) : Type 0 where
+  pub none : lines.is_begun ≡ false
+  pub bytes : bytes_pulled later ≡ rest
+  pub takes : TakesInTurn later []
+  pub read : lines.read ≡ before
+
+-- Its first line came, and so much of what it has, which is taken; `rest` came of the next line.
+pub record HasLinesOf (config : Configuration) (lines : AnswerLines) (before : ℕ)
+    (later : List PulledPiece) (rest : List ℕ) : Type 0 where
+  pub begun : lines.is_begun ≡ true
+  pub count : ℕ
+  pub distrusts : ℕ
+  pub content : State
+  pub begins : GiveBegins (Some (record { config = config; bucket = lines.bucket }))
+      (Some (bytes_pulled later)) count distrusts content (Some rest)
+  pub takes : TakesInTurn later (entries_of content)
+  pub receipts : length content.held + lines.due.receipts ≡ count
+  pub records : length content.records + lines.due.records ≡ distrusts
+  pub last : lines.last.items ≡ last_of (content_lines content)
+  pub read : lines.read ≡ before + 1 + length content.records + length content.held
+
+abbrev pub HasPartOf : Configuration → AnswerLines → ℕ → List PulledPiece → List ℕ → Type 0
+HasPartOf config lines before later rest = HasNoLineOf lines before later rest
+    ⊎ HasLinesOf config lines before later rest
+
+-- ---- where the session is
+
+-- These answers came whole, and a part of the next one.
+pub record GoesOnPulling (lines : AnswerLines) (start : Meaning) (came : List PulledPiece)
+    (rest output : List ℕ) : Type 0 where
+  pub gives : List PulledGive
+  pub later : List PulledPiece
+  pub whole : PulledGives start came gives later
+  pub few : length gives < 256
+  pub bucket : lines.bucket ≡ length gives
+  pub part : HasPartOf start.config lines (lines_pulled gives) later rest
+  pub asked : output ≡ flat_map have_text (haves_asked start gives)
+
+-- All came, and nothing after them is taken.
+pub record HasPulledAll (lines : AnswerLines) (start : Meaning) (came : List PulledPiece)
+    (output : List ℕ) : Type 0 where
+  pub gives : List PulledGive
+  pub later : List PulledPiece
+  pub whole : PulledGives start came gives later
+  pub all : length gives ≡ 256
+  pub bucket : lines.bucket ≡ 256
+  pub none : bytes_pulled later ≡ []
+  pub takes : TakesInTurn later []
+  pub asked : output ≡ flat_map have_text (haves_pulled start 0 gives)
+
+-- ---- why it stops
+
+-- what is wrong with a line, where m is held and so much of its answer was taken
+abbrev pub refused_where : Meaning → ℕ → State → Wanted → List ℕ → List ℕ → SyncError → Type 0
+refused_where m first content wanted last text e = RefusesEntryLine m
+    (placed_line wanted last (next_entry_number first content) text) e
+
+-- A good beginning of the answer, and after it this fault.
+pub record FailsAmong (m : Meaning) (bucket first : ℕ) (content : State)
+    (stream : Option (List ℕ)) (e : SyncError) : Type 0 where
+  pub count : ℕ
+  pub distrusts : ℕ
+  pub further : Option (List ℕ)
+  pub after : Option (List ℕ)
+  pub begins : GiveBegins (Some (record { config = m.config; bucket = bucket })) stream count
+      distrusts content further
+  pub cause : RefusesNextEntry (refused_where m first content) count distrusts content further
+      after e
+
+-- why the answer about the bucket, whose first line has the number, is not read further than this
+-- content, where m is held
+abbrev pub StopsAnswer : Meaning → ℕ → ℕ → State → Option (List ℕ) → SyncError → Type 0
+StopsAnswer m bucket first content stream e = FailsFirst m.config bucket content stream e
+    ⊎ FailsAmong m bucket first content stream e
+
+-- These answers came whole, and then a part of the next one; after it is this fault, as soon as a
+-- line feed comes. Nothing is taken from the piece on that has it.
+pub record StopsInGive (start : Meaning) (came : List PulledPiece) (output : List ℕ)
+    (e : SyncError) : Type 0 where
+  pub gives : List PulledGive
+  pub part : List PulledPiece
+  pub last : PulledPiece
+  pub later : List PulledPiece
+  pub whole : PulledGives start came gives (part ++ last ∷ later)
+  pub few : length gives < 256
+  pub content : State
+  pub takes : TakesInTurn part (entries_of content)
+  pub quiet : TakesInTurn (last ∷ later) []
+  pub cause : (more after : List ℕ) → StopsAnswer last.old (length gives) (lines_pulled gives + 1)
+      content (Some ((bytes_pulled part ++ last.bytes) ++ (more ++ (10 ∷ after)))) e
+  pub asked : output ≡ flat_map have_text (haves_asked start gives)
+
+-- One more answer came whole, and then memory ran out for the next have.
+pub record StopsAsking (start : Meaning) (came : List PulledPiece) (output : List ℕ)
+    (e : SyncError) : Type 0 where
+  pub gives : List PulledGive
+  pub part : List PulledPiece
+  pub last : PulledPiece
+  pub later : List PulledPiece
+  pub whole : PulledGives start came gives (part ++ last ∷ later)
+  pub few : length gives < 255
+  pub give : GiveMessage
+  pub about : IsGiveAbout start.config (length gives) give
+  pub behind : List ℕ
+  pub text : bytes_pulled part ++ last.bytes ≡ give_text give ++ behind
+  pub takes : TakesInTurn (part ++ last ∷ []) (entries_of give.content)
+  pub quiet : TakesInTurn later []
+  pub cause : e ≡ NoMemory
+  pub asked : output ≡ flat_map have_text (haves_asked start gives)
+
+-- ---- the machine
+
+-- the beginning of a line that has not ended
+abbrev pub kept_answer : Pulling → List ℕ
+kept_answer pulling = kept_part pulling.part
+
+-- what is to be written next
+abbrev pub due_have : Pulling → List ℕ
+due_have pulling = drop pulling.written pulling.have.items
+
+abbrev pub fault_of_pulling : Pulling → Option SyncError
+fault_of_pulling pulling = pulling.fault
+
+-- how many receipts were new
+abbrev pub count_of_pulling : Pulling → ℕ
+count_of_pulling pulling = pulling.lines.taken
+
+-- the last answer was taken to its end
+abbrev pub IsOverPulling : Pulling → Type 0
+IsOverPulling pulling = pulling.lines.bucket ≡ 256
+
+abbrev pub PullsPieces : Option SyncError → AnswerLines → Meaning → List PulledPiece → List ℕ
+    → List ℕ → Type 0
+PullsPieces None lines start came rest output = GoesOnPulling lines start came rest output
+    ⊎ HasPulledAll lines start came output
+PullsPieces (Some e) lines start came rest output = StopsInGive start came output e
+    ⊎ StopsAsking start came output e
+
+-- The session began where `start` was held, these came, and this was written: with what is to be
+-- written next it is all that was asked.
+pub record HasPulledPieces (pulling : Pulling) (start : Meaning) (came : List PulledPiece)
+    (written : List ℕ) : Type 0 where
+  pub pulls : PullsPieces (fault_of_pulling pulling) pulling.lines start came
+      (kept_answer pulling) (written ++ due_have pulling)
+  pub taken : count_of_pulling pulling ≡ receipts_pulled came
+  pub idle : fault_of_pulling pulling ≢ None → due_have pulling ≡ []

@@ -1,0 +1,121 @@
+-- What comes to a replica that pulls, in pieces: the answers of which they are parts, what is taken
+-- of each piece, and what is asked.
+use Rattle.std.specs.Prelude.{◌≡◌, ◌≢◌, ℕ, ◌+◌, ◌-◌, ◌<◌, ◌⊎◌, List, [], ◌∷◌, ◌++◌, length, map}
+use Rattle.std.specs.Prelude.{flat_map, take, Result, Ok, Err}
+use Rattle.fed_config.specs.Configuration.{Configuration}
+use Rattle.receipt_core.specs.Acceptance.{Meaning}
+use Rattle.replica_core.specs.Absorbing.{entries_of, with_entry}
+use Rattle.replica_core.specs.Session.{GiveMessage, HaveMessage, have_of}
+use Rattle.replica_core.specs.declared.entry.Entry.{Entry}
+use Rattle.replica_core.specs.declared.error.SyncError.{SyncError}
+use Rattle.replica_texts.specs.Messages.{give_text}
+use Rattle.replica_sync.specs.Pulling.{IsGiveAbout, line_count}
+use Rattle.replica_texts.specs.SoleLines.{IsWellFormed}
+use Rattle.replica_journal.specs.Journal.{entry_text}
+
+-- ---- one call
+
+-- It was not held and is held now, and its line is appended.
+pub record JournalsEntry (old new : Meaning) (before after : List ℕ) : Type 0 where
+  pub entry : Entry
+  pub form : IsWellFormed entry
+  pub meaning : new ≡ with_entry entry old
+  pub changed : new ≢ old
+  pub text : after ≡ before ++ entry_text entry
+
+-- All that changes is appended to the journal: one receipt or one record at most.
+abbrev pub Journals : Meaning → Meaning → List ℕ → List ℕ → Type 0
+Journals old new before after = ((new ≡ old) × (after ≡ before))
+    ⊎ JournalsEntry old new before after
+
+-- bytes that a call took, and what was held before and after it
+pub record PulledPiece : Type 0 where
+  pub bytes : List ℕ
+  pub old : Meaning
+  pub new : Meaning
+
+-- what came by a call: the bytes that it took; or all, where there is a fault among them
+abbrev pub piece_pulled : List ℕ → Meaning → Meaning → Result ℕ SyncError → PulledPiece
+piece_pulled piece old new (Ok used) = record { bytes = take used piece; old = old; new = new }
+piece_pulled piece old new (Err e) = record { bytes = piece; old = old; new = new }
+
+-- ---- all calls
+
+abbrev pub bytes_pulled : List PulledPiece → List ℕ
+bytes_pulled came = flat_map (λ (c : PulledPiece). c.bytes) came
+
+-- The entries are taken in turn, each by one piece, and nothing else is taken.
+abbrev pub TakesInTurn : List PulledPiece → List Entry → Type 0
+TakesInTurn [] [] = Unit {0}
+TakesInTurn [] (entry ∷ entries) = ⊥
+TakesInTurn (c ∷ came) [] = (c.new ≡ c.old) × TakesInTurn came []
+TakesInTurn (c ∷ came) (entry ∷ entries) =
+    ((c.new ≡ c.old) × TakesInTurn came (entry ∷ entries))
+    ⊎ ((c.new ≡ with_entry entry c.old) × TakesInTurn came entries)
+
+-- how many receipts were taken that were not held
+abbrev pub receipts_pulled : List PulledPiece → ℕ
+receipts_pulled [] = 0
+receipts_pulled (c ∷ came) = (length c.new.held - length c.old.held) + receipts_pulled came
+
+-- Between two of the pieces nothing changes, and this is held before the first one and after the
+-- last one.
+abbrev pub AreAlone : Meaning → List PulledPiece → Meaning → Type 0
+AreAlone before [] after = after ≡ before
+AreAlone before (c ∷ came) after = (c.old ≡ before) × AreAlone c.new came after
+
+-- ---- whole answers
+
+-- an answer, and the pieces in which it came
+pub record PulledGive : Type 0 where
+  pub give : GiveMessage
+  pub before : List PulledPiece
+  pub last : PulledPiece
+
+abbrev pub pieces_of : PulledGive → List PulledPiece
+pieces_of g = g.before ++ g.last ∷ []
+
+abbrev pub gives_of : List PulledGive → List GiveMessage
+gives_of gives = map (λ (g : PulledGive). g.give) gives
+
+-- The pieces are the answer about the bucket, the last one ends it, and what it has is taken.
+pub record IsPulledGive (config : Configuration) (bucket : ℕ) (g : PulledGive) : Type 0 where
+  pub about : IsGiveAbout config bucket g.give
+  pub text : bytes_pulled (pieces_of g) ≡ give_text g.give
+  pub ends : 0 < length g.last.bytes
+  pub takes : TakesInTurn (pieces_of g) (entries_of g.give.content)
+
+-- the answers about this bucket and those after it, one each
+abbrev pub ArePulledGives : Configuration → ℕ → List PulledGive → Type 0
+ArePulledGives config bucket [] = Unit {0}
+ArePulledGives config bucket (g ∷ gives) = IsPulledGive config bucket g
+    × ArePulledGives config (bucket + 1) gives
+
+-- These answers came whole, and then these pieces.
+pub record PulledGives (start : Meaning) (came : List PulledPiece) (gives : List PulledGive)
+    (later : List PulledPiece) : Type 0 where
+  pub order : came ≡ flat_map pieces_of gives ++ later
+  pub each : ArePulledGives start.config 0 gives
+
+-- ---- what is asked
+
+-- what is held when the last of the answers ends
+abbrev pub held_at_end : Meaning → List PulledGive → Meaning
+held_at_end held [] = held
+held_at_end held (g ∷ gives) = held_at_end g.last.new gives
+
+-- The haves to which these are the answers: each is made of what is held when the answer before it
+-- ends.
+abbrev pub haves_pulled : Meaning → ℕ → List PulledGive → List HaveMessage
+haves_pulled held bucket [] = []
+haves_pulled held bucket (g ∷ gives) = have_of held bucket
+    ∷ haves_pulled g.last.new (bucket + 1) gives
+
+-- these, and the next one
+abbrev pub haves_asked : Meaning → List PulledGive → List HaveMessage
+haves_asked start gives = haves_pulled start 0 gives
+    ++ have_of (held_at_end start gives) (length gives) ∷ []
+
+-- how many lines the answers have
+abbrev pub lines_pulled : List PulledGive → ℕ
+lines_pulled gives = line_count (gives_of gives)

@@ -1,0 +1,280 @@
+//! A pull whose answers come in pieces.
+ghost use Rattle.std.specs.Prelude.{◌≡◌, ◌+◌, ◌-◌, ◌≤◌, ◌<◌, ◌++◌, ◌⊎◌, ◌↔◌, [], ◌∷◌, List, ℕ};
+ghost use Rattle.std.specs.Prelude.{IfOk, IfErr, IsTrue, OnOk, OnErr, None, Some, MatchResult};
+ghost use Rattle.std.specs.Prelude.{length, take, drop, true, vec_len};
+ghost use Rattle.receipt_core.specs.Acceptance.{Meaning};
+ghost use Rattle.replica_core.specs.Session.{have_of};
+ghost use Rattle.replica_core.specs.declared.error.SyncError.TheVariants.{NoMemory, Truncated};
+ghost use Rattle.replica_texts.specs.Messages.{have_text};
+ghost use Rattle.byte_lines.specs.Limits.{line_limit};
+ghost use Rattle.replica_sync.specs.Pieces.{longest};
+ghost use Rattle.replica_sync.specs.PulledPieces.{Journals, PulledPiece, piece_pulled};
+
+use crate::answer_lines::AnswerLines;
+use crate::line_part::{LinePart, PieceEnd};
+use crate::text_sink::TextSink;
+use closure_core::Closure;
+use replica_core::{Have, SyncError, have};
+use replica_texts::write_have;
+use std::alloc::{AllocError, Global};
+
+// The most bytes that a line of an answer has, without its line feed.
+const LONGEST_LINE: usize = 8_388_608;
+
+/// A session in which a replica pulls, without the connection: it is given the bytes of the answers
+/// in pieces of any size, and says what is to be written.
+///
+/// It asks about each bucket in order, from 0 to 255, as [`pull`](crate::pull) does. Each
+/// have has the ids that are held when the answer before it ends. Each record and each receipt is
+/// taken when its line ends, so a session that breaks off loses nothing. The closure is borrowed by
+/// each call. It is always to be one of the same configuration, and may change between two calls.
+///
+/// Beside what is held, memory is taken for one have and for a few lines, and never for a number
+/// that the other side says.
+#[derive(Drop)]
+pub struct Pulling {
+    part: LinePart,
+    lines: AnswerLines,
+    // The have that is being written, and how much of it was.
+    have: Vec<u8>,
+    written: usize,
+    fault: Option<SyncError>,
+    ghost inside: { written ≤ vec_len have },
+    ghost limit: { longest part ≡ line_limit },
+}
+
+impl Pulling {
+    ghost use Rattle.replica_sync.specs.PullSessions.{HasPulledPieces, IsOverPulling};
+    ghost use Rattle.replica_sync.specs.PullSessions.{count_of_pulling, due_have, kept_answer};
+    ghost use Rattle.replica_sync.specs.PullSessions.{fault_of_pulling};
+    ghost use Rattle.replica_sync.specs.Inside.AnswerSteps.{Asks, FailsPulled, TakesPulled};
+
+    /// The beginning of a session: the have about the first bucket is to be written.
+    ///
+    /// # Errors
+    /// [`SyncError::NoMemory`]: memory ran out.
+    pub fn new<C: Closure>(alloc: Global, closure: &C) -> Result<Pulling, SyncError>
+        ensures ok { IfOk result
+            (λ p. HasPulledPieces p (C.state closure.now).meaning [] []) }
+        ensures refused { IfErr result (λ e. e ≡ NoMemory) }
+    {
+        Ok(Pulling {
+            part: LinePart::new(alloc, LONGEST_LINE),
+            lines: AnswerLines::new(alloc),
+            have: have_about(alloc, closure, 0)?,
+            written: 0,
+            fault: None,
+        })
+    }
+
+    /// Takes the next bytes of the stream, up to the end of a line at most, and returns how many
+    /// were taken. The others are to be given again. None is taken while something is to be
+    /// written, and none after the last answer; else all are, or those up to the end of a line.
+    ///
+    /// Where the line says what was not held, it is held now, and is appended to the journal as
+    /// [`push_entry`](replica_journal::push_entry) does: one receipt or one record at most. This
+    /// may be so also where a fault is returned.
+    ///
+    /// # Errors
+    /// What the lines before the fault say stays held, and nothing is to be written any more. Each
+    /// later call returns the same fault, and takes nothing. Lines are counted from 1 over all
+    /// answers. Of these the first that holds:
+    /// - [`SyncError::BadHeader`]: a line is no answer's first, of whatever format and number of
+    ///   buckets, or is about another bucket than was asked about, or has more than 8,388,608
+    ///   bytes,
+    /// - [`SyncError::ConfigDiffers`]: it is of another configuration,
+    /// - [`SyncError::VersionDiffers`]: it has another format than 2, or another number of buckets
+    ///   than 256,
+    /// - [`SyncError::NotCanonical`]: a line is not a record's where a record should stand, or not
+    ///   a receipt's where a receipt should, or has more than 8,388,608 bytes,
+    /// - [`SyncError::NotRising`]: a line is not greater than the one before it in its answer,
+    /// - [`SyncError::Refused`]: a receipt or a record is not of the configuration, or is one too
+    ///   many,
+    /// - [`SyncError::NoMemory`]: memory ran out.
+    pub fn read<C: Closure>(
+        &mut self,
+        alloc: Global,
+        closure: &mut C,
+        piece: &[u8],
+        journal: &mut Vec<u8>,
+    ) -> Result<usize, SyncError>
+        ensures pulls { (start : Meaning) (came : List PulledPiece) (written : List ℕ)
+            → (C.state closure.old).meaning.config ≡ start.config
+            → HasPulledPieces self.old start came written → HasPulledPieces self.new start
+            (came ++ piece_pulled piece.now (C.state closure.old).meaning
+            (C.state closure.new).meaning result ∷ []) written }
+        ensures journals { Journals (C.state closure.old).meaning (C.state closure.new).meaning
+            journal.old.items journal.new.items }
+        ensures taken { IfOk result (λ used. (used ≤ length piece.now)
+            × ((used ≡ length piece.now) ⊎ ((0 < used)
+            ⊎ ((0 < length (due_have self.new)) ⊎ IsOverPulling self.new)))) }
+        ensures waits { 0 < length (due_have self.old) → self.new ≡ self.old }
+        ensures fault { MatchResult result (λ _. fault_of_pulling self.new ≡ None)
+            (λ e. fault_of_pulling self.new ≡ Some e) }
+    {
+        if let Some(why) = self.fault {
+            return Err(why);
+        }
+        if self.is_over() {
+            return Ok(0);
+        }
+        if !self.output().is_empty() {
+            return Ok(0);
+        }
+        match self.advance(alloc, closure, piece, journal) {
+            Ok(used) => Ok(used),
+            Err(why) => {
+                self.fault = Some(why);
+                Err(why)
+            }
+        }
+    }
+
+    // Takes the piece up to the end of a line, and makes the next have where an answer ends.
+    fn advance<C: Closure>(
+        &mut self,
+        alloc: Global,
+        closure: &mut C,
+        piece: &[u8],
+        journal: &mut Vec<u8>,
+    ) -> Result<usize, SyncError>
+        requires idle { due_have self.old ≡ [] }
+        requires more { self.old.lines.bucket < 256 }
+        ensures ok { IfOk result (λ used. TakesPulled (record {
+          held = (C.state closure.old).meaning;
+          lines = self.old.lines;
+          kept = kept_answer self.old;
+        }) piece.now used (record {
+          held = (C.state closure.new).meaning;
+          lines = self.new.lines;
+          kept = kept_answer self.new;
+        }) (due_have self.new)) }
+        ensures refused { IfErr result (FailsPulled (record {
+          held = (C.state closure.old).meaning;
+          lines = self.old.lines;
+          kept = kept_answer self.old;
+        }) piece.now (record {
+          held = (C.state closure.new).meaning;
+          lines = self.new.lines;
+          kept = kept_answer self.new;
+        })) }
+        ensures quiet { OnErr result (due_have self.new ≡ []) }
+        ensures fault { self.new.fault ≡ self.old.fault }
+        ensures taken { self.new.lines.taken ≡ self.old.lines.taken
+            + (length (C.state closure.new).meaning.held
+            - length (C.state closure.old).meaning.held) }
+        ensures journals { Journals (C.state closure.old).meaning (C.state closure.new).meaning
+            journal.old.items journal.new.items }
+    {
+        match self.part.take(piece)? {
+            PieceEnd::Within => Ok(piece.len()),
+            PieceEnd::TooLong => Err(self.lines.overlong(alloc)),
+            PieceEnd::Line(used) => {
+                if self.lines.take(alloc, closure, self.part.line(), journal)? {
+                    self.ask(alloc, closure)?;
+                }
+                Ok(used)
+            }
+        }
+    }
+
+    // Makes the have about the next bucket, if there is one.
+    fn ask<C: Closure>(&mut self, alloc: Global, closure: &C) -> Result<(), AllocError>
+        requires idle { due_have self.old ≡ [] }
+        ensures ok { OnOk result
+            (Asks (C.state closure.now).meaning self.new.lines true (due_have self.new)) }
+        ensures refused { OnErr result
+            ((self.new.lines.bucket < 256) × (due_have self.new ≡ [])) }
+        ensures part { self.new.part ≡ self.old.part }
+        ensures lines { self.new.lines ≡ self.old.lines }
+        ensures fault { self.new.fault ≡ self.old.fault }
+    {
+        if let Some(bucket) = self.lines.bucket() {
+            self.have = have_about(alloc, closure, bucket)?;
+            self.written = 0;
+        }
+        Ok(())
+    }
+
+    /// What is to be written next.
+    pub fn output(&self) -> &[u8]
+        ensures { result.now ≡ due_have self.now }
+    {
+        &self.have[self.written..]
+    }
+
+    /// Says that the first `count` bytes of the output were written.
+    pub fn wrote(&mut self, count: usize)
+        requires { count ≤ length (due_have self.old) }
+        ensures pulls { (start : Meaning) (came : List PulledPiece) (written : List ℕ)
+            → HasPulledPieces self.old start came written
+            → HasPulledPieces self.new start came (written ++ take count (due_have self.old)) }
+        ensures due { due_have self.new ≡ drop count (due_have self.old) }
+        ensures fault { fault_of_pulling self.new ≡ fault_of_pulling self.old }
+    {
+        self.written += count;
+        if self.written == self.have.len() {
+            // It needs no memory any more.
+            self.have = Vec::new(*self.have.allocator());
+            self.written = 0;
+        }
+    }
+
+    /// Whether the last answer was taken to its end. What follows it is not read.
+    pub fn is_over(&self) -> bool
+        ensures { IsTrue result ↔ IsOverPulling self.now }
+    {
+        self.lines.bucket().is_none()
+    }
+
+    /// How many receipts were taken that were not held.
+    pub fn taken(&self) -> u64
+        ensures { result ≡ count_of_pulling self.now }
+    {
+        self.lines.taken()
+    }
+
+    /// Whether the stream may end here: the last answer was taken to its end.
+    ///
+    /// # Errors
+    /// The fault that was found; or [`SyncError::Truncated`]: the stream ends before that.
+    pub fn end(&self) -> Result<(), SyncError>
+        ensures whole { OnOk result
+            ((fault_of_pulling self.now ≡ None) × IsOverPulling self.now) }
+        ensures refused { IfErr result (λ e. (fault_of_pulling self.now ≡ Some e)
+            ⊎ ((fault_of_pulling self.now ≡ None) × (e ≡ Truncated)
+            × (IsOverPulling self.now → ⊥))) }
+    {
+        match self.fault {
+            Some(why) => Err(why),
+            None => {
+                if self.is_over() {
+                    Ok(())
+                } else {
+                    Err(SyncError::Truncated)
+                }
+            }
+        }
+    }
+}
+
+// The have about the bucket, as text, of what the closure holds.
+fn have_about<C: Closure>(alloc: Global, closure: &C, bucket: u8) -> Result<Vec<u8>, AllocError>
+    ensures { IfOk result
+        (λ text. text.items ≡ have_text (have_of (C.state closure.now).meaning bucket)) }
+{
+    match have(alloc, closure, bucket) {
+        Ok(own) => have_line(alloc, &own),
+        Err(_) => Err(AllocError),
+    }
+}
+
+fn have_line(alloc: Global, own: &Have) -> Result<Vec<u8>, AllocError>
+    ensures { IfOk result (λ text. text.items ≡ have_text own.now) }
+{
+    let mut sink = TextSink::new(alloc);
+    match write_have(alloc, own, &mut sink) {
+        Ok(()) => Ok(sink.into_text()),
+        Err(_) => Err(AllocError),
+    }
+}

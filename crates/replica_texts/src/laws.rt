@@ -1,0 +1,86 @@
+//! What is so of every snapshot and of every stream of messages. A call that needs a law calls its
+//! function, which does nothing, and cites what it ensures.
+ghost use Rattle.std.specs.Prelude.{◌≡◌, ◌≢◌, List, Option, Some};
+ghost use Rattle.std.specs.Prelude.{ℕ};
+ghost use Rattle.std.specs.Io.KnownBytes.{Consumes};
+ghost use Rattle.fed_config.specs.Configuration.{Configuration, IsConfiguration};
+ghost use Rattle.byte_lines.specs.Lines.{HasNoFeed};
+ghost use Rattle.receipt_core.specs.Acceptance.{Meaning};
+ghost use Rattle.replica_core.specs.Session.{HaveMessage, GiveMessage};
+ghost use Rattle.replica_core.specs.declared.entry.Entry.{Entry};
+ghost use Rattle.replica_core.specs.declared.error.SyncError.{SyncError};
+ghost use Rattle.replica_core.specs.declared.error.SyncError.TheVariants.{Io, NoMemory};
+ghost use Rattle.replica_texts.specs.Entries.{entry_line};
+ghost use Rattle.replica_texts.specs.Messages.{have_text, give_text};
+ghost use Rattle.replica_texts.specs.FirstLines.{HasDigestOf};
+ghost use Rattle.replica_texts.specs.Haves.{IsAskable, RefusesHave};
+ghost use Rattle.replica_texts.specs.Gives.{IsGive, RefusesGive};
+ghost use Rattle.replica_texts.specs.Snapshots.{IsSnapshot, RefusesSnapshot};
+ghost use Rattle.replica_texts.specs.SoleLines.{IsWellFormed, written_header};
+
+/// What a stream says is one: it is the text of one set at most, and none that a replica of a valid
+/// configuration reads has a fault. Only a source that fails, or lack of memory, may keep it from
+/// being read.
+///
+/// - `one`: of two sets whose text it is, both are the same.
+/// - `read`: it has no fault where it is the text of a set.
+/// - `one_cause`: where it is none, it has one fault.
+pub fn snapshots()
+    ensures one { (config : Configuration) (bytes : List ℕ) (m n : Meaning)
+        → IsSnapshot config (Some bytes) m → IsSnapshot config (Some bytes) n → m ≡ n }
+    ensures read { (config : Configuration) (bytes : List ℕ) (m : Meaning) (e : SyncError)
+        → IsConfiguration config → e ≢ Io → e ≢ NoMemory
+        → IsSnapshot config (Some bytes) m → RefusesSnapshot config (Some bytes) e → ⊥ }
+    ensures one_cause { (config : Configuration) (bytes : List ℕ) (d e : SyncError)
+        → IsConfiguration config → d ≢ Io → d ≢ NoMemory → e ≢ Io → e ≢ NoMemory
+        → RefusesSnapshot config (Some bytes) d → RefusesSnapshot config (Some bytes) e → d ≡ e }
+{}
+
+/// What a stream asks is one, and a have that a line can ask is read. Only a source that fails,
+/// or lack of memory, may keep it from being read.
+///
+/// - `one`: of two haves that it begins with, both are the same, and so is what follows them.
+/// - `read`: where it begins with a have, of the configuration if one is wanted, it has no
+///   fault there.
+/// - `one_cause`: where it begins with none, it has one fault there.
+pub fn haves()
+    ensures one { (bytes : List ℕ) (p q : HaveMessage) (left rest : Option (List ℕ))
+        → IsAskable p → IsAskable q
+        → Consumes (Some bytes) left (have_text p)
+        → Consumes (Some bytes) rest (have_text q)
+        → (p ≡ q) × (left ≡ rest) }
+    ensures read { (config : Option Configuration) (bytes : List ℕ) (q : HaveMessage)
+        (left new : Option (List ℕ)) (e : SyncError)
+        → IsAskable q → HasDigestOf config q.config → e ≢ Io → e ≢ NoMemory
+        → Consumes (Some bytes) left (have_text q) → RefusesHave config (Some bytes) new e
+        → ⊥ }
+    ensures one_cause { (config : Option Configuration) (bytes : List ℕ)
+        (new since : Option (List ℕ)) (d e : SyncError) → d ≢ Io → d ≢ NoMemory → e ≢ Io
+        → e ≢ NoMemory → RefusesHave config (Some bytes) new d
+        → RefusesHave config (Some bytes) since e → d ≡ e }
+{}
+
+/// What a stream answers is one, and an answer that is there to its last byte is read. Only a
+/// source that fails, or lack of memory, may keep it from being read.
+///
+/// - `one`: of two answers that it begins with, both are the same, and so is what follows them.
+/// - `read`: where it begins with a whole answer, it has no fault before that answer's end.
+/// - `one_cause`: where it begins with none, it has one fault.
+pub fn gives()
+    ensures one { (bytes : List ℕ) (a b : GiveMessage) (left rest : Option (List ℕ))
+        → IsGive a → IsGive b
+        → Consumes (Some bytes) left (give_text a) → Consumes (Some bytes) rest (give_text b)
+        → (a ≡ b) × (left ≡ rest) }
+    ensures read { (bytes : List ℕ) (a : GiveMessage) (left new : Option (List ℕ)) (e : SyncError)
+        → IsGive a → e ≢ Io → e ≢ NoMemory
+        → Consumes (Some bytes) left (give_text a) → RefusesGive (Some bytes) new e → ⊥ }
+    ensures one_cause { (bytes : List ℕ) (new since : Option (List ℕ)) (d e : SyncError)
+        → d ≢ Io → d ≢ NoMemory → e ≢ Io → e ≢ NoMemory
+        → RefusesGive (Some bytes) new d → RefusesGive (Some bytes) since e → d ≡ e }
+{}
+
+/// No line of a receipt or a record has a line feed in it, and no first line of a snapshot has one.
+pub fn sole_lines()
+    ensures first { (config : Configuration) → HasNoFeed (written_header config) }
+    ensures entry { (entry : Entry) → IsWellFormed entry → HasNoFeed (entry_line entry) }
+{}

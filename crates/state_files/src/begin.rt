@@ -1,0 +1,138 @@
+//! What a replica that stays does first with its files.
+use crate::journal::Journal;
+use crate::load::load_state;
+use crate::made_files::MadeFiles;
+use closure_core::Closure;
+use fed_config::Config;
+use fedbundle::{CommandError, FileFault};
+use replica_core::SyncError;
+use state_steps::{BeginStep, Beginning, FileStep, FoundFiles};
+use std::alloc::{AllocError, Global};
+use std::fs::{File, Files};
+
+/// How many steps there are at most between the loading and the journal.
+const SAVE_STEPS: u32 = 5;
+
+/// How many steps it takes to begin the journal.
+const JOURNAL_STEPS: u32 = 2;
+
+/// The beginning of a replica on its files: they are loaded, saved where that is due, and an empty
+/// journal is begun, in this order. [`Beginning`] says which step comes next; a call for which
+/// another one is due does nothing but fail.
+#[derive(Drop)]
+pub struct StateBeginning {
+    beginning: Beginning,
+    made: MadeFiles,
+}
+
+impl StateBeginning {
+    /// The beginning with the files that were found beside the path, or none where there is neither
+    /// a state nor a journal, and `may_be_new` does not allow that.
+    ///
+    /// # Errors
+    /// Memory ran out.
+    pub fn of(
+        alloc: Global,
+        path: &str,
+        found: FoundFiles,
+        may_be_new: bool,
+    ) -> Result<Option<StateBeginning>, AllocError> {
+        match Beginning::of(found, may_be_new) {
+            Some(beginning) => Ok(Some(StateBeginning {
+                beginning,
+                made: MadeFiles::new(alloc, path)?,
+            })),
+            None => Ok(None),
+        }
+    }
+
+    /// What the state file and its journal hold.
+    ///
+    /// # Errors
+    /// Those of [`load_state`].
+    pub fn load<C: Closure, R: Files>(
+        &mut self,
+        files: &R,
+        alloc: Global,
+        config: &Config,
+        path: &str,
+    ) -> Result<C, CommandError> {
+        match load_state(files, alloc, config, path) {
+            Ok(closure) => {
+                self.beginning.done();
+                Ok(closure)
+            }
+            Err(error) => {
+                self.beginning.failed();
+                Err(error)
+            }
+        }
+    }
+
+    /// Saves what was loaded, where there was a journal or no state file.
+    ///
+    /// # Errors
+    /// - [`SyncError::Io`]: the system refused a step,
+    /// - [`SyncError::NoMemory`]: memory ran out.
+    pub fn save<C: Closure, R: Files<File = File>>(
+        &mut self,
+        files: &R,
+        alloc: Global,
+        closure: &C,
+        path: &str,
+    ) -> Result<(), FileFault> {
+        for _ in 0..SAVE_STEPS {
+            match self.beginning.next() {
+                Some(BeginStep::Change(FileStep::BeginJournal)) => break,
+                Some(BeginStep::Change(step)) => self.change(files, alloc, closure, path, step)?,
+                _ => break,
+            }
+        }
+        Ok(())
+    }
+
+    /// Begins an empty journal.
+    ///
+    /// # Errors
+    /// - [`SyncError::Io`]: the system refused a step, or what was loaded is not saved yet,
+    /// - [`SyncError::NoMemory`]: memory ran out.
+    pub fn begin_journal<C: Closure, R: Files<File = File>>(
+        mut self,
+        files: &R,
+        alloc: Global,
+        closure: &C,
+        path: &str,
+    ) -> Result<Journal, FileFault> {
+        for _ in 0..JOURNAL_STEPS {
+            let Some(BeginStep::Change(step)) = self.beginning.next() else {
+                break;
+            };
+            self.change(files, alloc, closure, path, step)?;
+        }
+        let is_done = self.beginning.is_done();
+        match self.made.into_journal() {
+            Some(file) if is_done => Journal::of_file(files, file, path),
+            _ => Err(FileFault::from(SyncError::Io)),
+        }
+    }
+
+    fn change<C: Closure, R: Files<File = File>>(
+        &mut self,
+        files: &R,
+        alloc: Global,
+        closure: &C,
+        path: &str,
+        step: FileStep,
+    ) -> Result<(), FileFault> {
+        match self.made.do_step(files, alloc, closure, path, step) {
+            Ok(()) => {
+                self.beginning.done();
+                Ok(())
+            }
+            Err(fault) => {
+                self.beginning.failed();
+                Err(fault)
+            }
+        }
+    }
+}

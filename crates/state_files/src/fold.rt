@@ -1,0 +1,57 @@
+//! A fold: what is held takes the place of the state file, and the journal is begun anew.
+use crate::made_files::MadeFiles;
+use closure_core::Closure;
+use fedbundle::FileFault;
+use state_steps::{FoldEnd, Folding};
+use std::alloc::{AllocError, Global};
+use std::fs::{File, Files};
+
+/// How many steps a fold has.
+const STEPS: u32 = 6;
+
+/// Why a fold is over before its end.
+#[derive(Clone, Copy, Debug)]
+pub enum FoldFault {
+    /// The journal is as it was, and goes on.
+    Kept(FileFault),
+    /// It was being emptied.
+    Emptying(FileFault),
+}
+
+impl From<AllocError> for FoldFault {
+    fn from(refused: AllocError) -> FoldFault {
+        FoldFault::Kept(FileFault::from(refused))
+    }
+}
+
+/// Writes what is held as the snapshot in the state file, and begins an empty journal, whose file
+/// is returned; or none, where the journal goes on.
+///
+/// # Errors
+/// Where the system refused a step, or memory ran out.
+pub fn fold_state<C: Closure, R: Files<File = File>>(
+    files: &R,
+    alloc: Global,
+    closure: &C,
+    path: &str,
+) -> Result<Option<File>, FoldFault> {
+    let mut made = MadeFiles::new(alloc, path)?;
+    let mut folding = Folding::begin();
+    for _ in 0..STEPS {
+        let Some(step) = folding.next() else {
+            break;
+        };
+        if let Err(fault) = made.do_step(files, alloc, closure, path, step) {
+            return Err(match folding.failed() {
+                FoldEnd::JournalGoesOn => FoldFault::Kept(fault),
+                FoldEnd::ReplicaEnds => FoldFault::Emptying(fault),
+            });
+        }
+        folding.done();
+    }
+    if folding.is_done() {
+        Ok(made.into_journal())
+    } else {
+        Ok(None)
+    }
+}

@@ -1,0 +1,38 @@
+//! The files of a state: the state file, which has a snapshot of what a replica holds, the journal
+//! of what came since, and the lock of both. Each call of the system stands here once, and
+//! `state_steps` says in which order they come.
+//!
+//! What a file holds is outside all contracts: these calls are proved only to be safe and to
+//! return. That a step does to the files what `state_steps` says of it is shown by runs of the
+//! program.
+//!
+//! `lock` is the lock, `state` the state file, and `journal` the journal to which lines are
+//! appended. `load` reads both, `save` writes what is held and removes the journal, `begin` is what
+//! a replica that stays does first, and `fold` what it does where its journal is long. `made_files`
+//! does the steps of these three; a file that it makes is a `new_file`, whose mode and owner
+//! `access` gives. `file_names` has the files' names, and `named_files` what the system has under
+//! one.
+#![tactic(auto)]
+
+mod access;
+mod begin;
+mod file_names;
+mod fold;
+mod journal;
+mod load;
+mod lock;
+mod made_files;
+mod named_files;
+mod new_file;
+mod save;
+mod state;
+
+pub use begin::StateBeginning;
+pub use file_names::{has_journal, journal_path};
+pub use fold::{FoldFault, fold_state};
+pub use journal::Journal;
+pub use load::load_state;
+pub use lock::{StateLock, is_marked, try_lock_state};
+pub use save::save_state;
+pub use state::{SeenState, see_state, state_bytes};
+pub use state_steps::FoundFiles;

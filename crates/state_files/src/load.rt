@@ -1,0 +1,57 @@
+//! What the state file and its journal hold.
+use crate::file_names::journal_path;
+use crate::state::load_snapshot;
+use byte_lines::FromRead;
+use closure_core::Closure;
+use fed_config::Config;
+use fedbundle::{CommandError, FileFault};
+use replica_journal::read_journal;
+use std::alloc::Global;
+use std::fs::Files;
+use std::{fs, io};
+
+/// The closure of what is held: what the snapshot in the state file says, and what the whole lines
+/// of its journal say. Where neither file is there it holds nothing.
+///
+/// The journal is opened before the state file, so what another command folds into the state
+/// meanwhile is found in one of the two.
+///
+/// # Errors
+/// - [`CommandError::Sync`]: the state file is refused, as by [`read_snapshot`], or cannot be
+///   opened,
+/// - [`CommandError::Journal`]: the same of its journal, as by [`read_journal`],
+/// - [`CommandError::NoMemory`]: memory ran out before either was opened.
+///
+/// Of a file that is there and cannot be opened, the reason is `NoMemory` if the system says that
+/// memory ran out, and else `Io`.
+///
+/// [`read_snapshot`]: replica_sync::read_snapshot
+pub fn load_state<C: Closure, R: Files>(
+    files: &R,
+    alloc: Global,
+    config: &Config,
+    path: &str,
+) -> Result<C, CommandError> {
+    let name = journal_path(alloc, path)?;
+    match fs::open(files, name.as_str()) {
+        Ok(journal) => {
+            let closure = load_snapshot(files, alloc, config, path)?;
+            with_journal(alloc, closure, journal)
+        }
+        Err(error) if error.kind() == io::ErrorKind::NotFound => {
+            Ok(load_snapshot(files, alloc, config, path)?)
+        }
+        Err(error) => Err(CommandError::Journal(FileFault::from(error).why)),
+    }
+}
+
+fn with_journal<C: Closure, F: io::Read + Drop>(
+    alloc: Global,
+    closure: C,
+    journal: F,
+) -> Result<C, CommandError> {
+    match read_journal(alloc, closure, &mut FromRead::new(journal)) {
+        Ok(held) => Ok(held),
+        Err(why) => Err(CommandError::Journal(why)),
+    }
+}

@@ -1,0 +1,94 @@
+//! A file that is to have a name of the state: how it is made, and how a snapshot gets into it.
+use crate::access::{owner_only, take_access};
+use crate::named_files::found;
+use byte_lines::FromWrite;
+use closure_core::Closure;
+use fedbundle::FileFault;
+use replica_core::SyncError;
+use replica_sync::write_snapshot;
+use std::alloc::Global;
+use std::fs::{File, Files};
+use std::io::{BufWriter, Write};
+use std::{fs, io};
+
+/// The bytes that are gathered before they are written to the file.
+const BUFFER_BYTES: usize = 65_536;
+
+/// Makes the file that has the name from now on. A file that has it is removed first, so that
+/// nothing is written through a link or into a pipe. The new file has the mode and, where the
+/// system allows it, the owner and the group of the state file at the path; where it does not, the
+/// group has no access. Where there is no state file, the mode is 0600.
+pub(crate) fn create_new<R: Files<File = File>>(
+    files: &R,
+    name: &str,
+    path: &str,
+) -> Result<File, FileFault> {
+    found(fs::remove_file(files, name))?;
+    let mut options = owner_only();
+    options.create_new(true);
+    let file = options.open(files, name)?;
+    if let Some(state) = found(fs::metadata(files, path))? {
+        take_access(&file, &state)?;
+    }
+    Ok(file)
+}
+
+/// Writes a snapshot of what is held into the file.
+pub(crate) fn with_snapshot<C: Closure>(
+    alloc: Global,
+    closure: &C,
+    file: File,
+) -> Result<File, FileFault> {
+    let mut noting = NotingFile { file, code: None };
+    match write_into(alloc, closure, &mut noting) {
+        Ok(()) => Ok(noting.file),
+        Err(why) => Err(FileFault {
+            why,
+            code: noting.code,
+        }),
+    }
+}
+
+// A file that keeps the system's number of the last fault of a write.
+#[derive(Drop)]
+struct NotingFile {
+    file: File,
+    code: Option<i32>,
+}
+
+impl io::Write for NotingFile {
+    fn write(&mut self, bytes: &[u8]) -> io::Result<usize> {
+        let mut file = &self.file;
+        let written = file.write(bytes);
+        if let Err(error) = &written {
+            self.code = error.raw_os_error();
+        }
+        written
+    }
+
+    fn flush(&mut self) -> io::Result<()> {
+        Ok(())
+    }
+}
+
+fn write_into<C: Closure>(
+    alloc: Global,
+    closure: &C,
+    file: &mut NotingFile,
+) -> Result<(), SyncError> {
+    let buffer = match BufWriter::with_capacity(alloc, BUFFER_BYTES, file) {
+        Ok(buffer) => buffer,
+        Err(error) => return Err(FileFault::from(error).why),
+    };
+    let mut sink = FromWrite::new(buffer);
+    write_snapshot(alloc, closure, &mut sink)?;
+    written_out(sink.into_inner())
+}
+
+// Has the buffer give all of its bytes.
+fn written_out<W: io::Write + Drop>(buffer: BufWriter<W>) -> Result<(), SyncError> {
+    match buffer.into_inner() {
+        Ok(_) => Ok(()),
+        Err(_) => Err(SyncError::Io),
+    }
+}

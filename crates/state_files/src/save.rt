@@ -1,0 +1,53 @@
+//! What a command does at its end: what is held takes the place of the state file.
+use crate::made_files::MadeFiles;
+use closure_core::Closure;
+use fedbundle::FileFault;
+use replica_core::SyncError;
+use state_steps::Saving;
+use std::alloc::Global;
+use std::fs::{File, Files};
+
+/// How many steps a save has.
+const STEPS: u32 = 5;
+
+/// Writes what is held as the snapshot in the state file, and then removes its journal, which has
+/// nothing else.
+///
+/// The snapshot is written to the file named like the state file with `.new` after it, the system
+/// puts that on the disk, it gets the state file's name, and the system puts the folder on the
+/// disk; [`Saving`] says so. So at any fault, and wherever the process is killed, the state file is
+/// as it was or as it is to be. A kill before the journal is removed leaves both, and they say the
+/// same.
+///
+/// The new file has the mode and, where the system allows it, the owner and the group of the state
+/// file that it replaces; where it does not, the group has no access. Where there was no state
+/// file, the mode is 0600.
+///
+/// # Errors
+/// Where the journal is not removed, the state file is written.
+/// - [`SyncError::Io`]: the system refused a step,
+/// - [`SyncError::NoMemory`]: memory ran out.
+pub fn save_state<C: Closure, R: Files<File = File>>(
+    files: &R,
+    alloc: Global,
+    closure: &C,
+    path: &str,
+) -> Result<(), FileFault> {
+    let mut made = MadeFiles::new(alloc, path)?;
+    let mut saving = Saving::begin();
+    for _ in 0..STEPS {
+        let Some(step) = saving.next() else {
+            break;
+        };
+        if let Err(fault) = made.do_step(files, alloc, closure, path, step) {
+            saving.failed();
+            return Err(fault);
+        }
+        saving.done();
+    }
+    if saving.is_done() {
+        Ok(())
+    } else {
+        Err(FileFault::from(SyncError::Io))
+    }
+}

@@ -1,0 +1,68 @@
+//! The state file: the snapshot of what a replica holds, kept between two commands.
+use crate::named_files::{found, is_named};
+use byte_lines::FromRead;
+use closure_core::Closure;
+use fed_config::Config;
+use fedbundle::FileFault;
+use replica_core::SyncError;
+use replica_sync::read_snapshot;
+use std::alloc::Global;
+use std::fs::{File, Files};
+use std::{fs, io};
+
+/// How many bytes the state file has, or `None` where there is none.
+///
+/// # Errors
+/// Where the system does not say: `NoMemory` if memory ran out, and else `Io`.
+pub fn state_bytes<R: Files>(files: &R, path: &str) -> Result<Option<u64>, FileFault> {
+    Ok(found(fs::metadata(files, path))?.map(|state| state.len()))
+}
+
+/// The state file as it was found, or that there was none. The file is kept open, so that the
+/// system gives its number to no other file.
+#[derive(Drop)]
+pub struct SeenState {
+    file: Option<File>,
+}
+
+/// Remembers which state file there is.
+///
+/// # Errors
+/// Where the file is there and cannot be opened, `NoMemory` if the system says that memory ran out,
+/// and else `Io`.
+pub fn see_state<R: Files<File = File>>(files: &R, path: &str) -> Result<SeenState, FileFault> {
+    let file = found(fs::open(files, path))?;
+    Ok(SeenState { file })
+}
+
+impl SeenState {
+    /// Whether no command has written the state file since: each gives it to a new file.
+    ///
+    /// # Errors
+    /// Where the system does not say: `NoMemory` if memory ran out, and else `Io`.
+    pub fn is_last<R: Files>(&self, files: &R, path: &str) -> Result<bool, FileFault> {
+        match &self.file {
+            Some(file) => is_named(files, file, path),
+            None => Ok(found(fs::metadata(files, path))?.is_none()),
+        }
+    }
+}
+
+/// The closure whose snapshot stands in the file. A file that is not there stands for one that
+/// holds nothing.
+///
+/// # Errors
+/// Those of [`read_snapshot`]. Where the file is there and cannot be opened, `NoMemory` if the
+/// system says that memory ran out, and else `Io`.
+pub(crate) fn load_snapshot<C: Closure, R: Files>(
+    files: &R,
+    alloc: Global,
+    config: &Config,
+    path: &str,
+) -> Result<C, SyncError> {
+    match fs::open(files, path) {
+        Ok(file) => read_snapshot(alloc, config, &mut FromRead::new(file)),
+        Err(error) if error.kind() == io::ErrorKind::NotFound => Ok(C::new(alloc, config)?),
+        Err(error) => Err(FileFault::from(error).why),
+    }
+}

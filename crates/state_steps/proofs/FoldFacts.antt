@@ -1,0 +1,170 @@
+-- Lemmas on how far a fold has come.
+use Rattle.std.proofs.Common.{◌≡◌, ◌≢◌, ℕ, ◌⊎◌, inl, inr, Bool, true, false, List, [], ◌∷◌, take, Option, None, Some, sym, ap, subst, refl}
+use Rattle.state_steps.specs.Files.{FileText, HasOneFile, HasWholeLine, IsFirstFile, KeepsLine, StateDisk}
+use Rattle.state_steps.specs.Files.{appended, appending, kept_file, longer_file, settled_name, synced_file, unkept_file, with_first}
+use Rattle.state_steps.specs.Folds.{IsDueOn, IsKeptOn, IsTakenOver, following_step, steps_left}
+use Rattle.state_steps.specs.Steps.{FailsDue, IsDoneOrNot, StateTexts, WritesLine, after_due}
+use Rattle.state_steps.specs.declared.file_step.FileStep.{FileStep}
+use Rattle.state_steps.specs.declared.file_step.FileStep.TheVariants.{WriteSnapshot, SyncSnapshot, ReplaceSnapshot}
+use Rattle.state_steps.specs.declared.file_step.FileStep.TheVariants.{SyncFolder, RemoveJournal, BeginJournal, SyncJournal}
+use Rattle.state_steps.proofs.LineFacts.{journalled_appended, keeping_appended, keeping_appending}
+use Rattle.state_steps.proofs.StepFacts.{keeping_both, keeping_settled, one_settled, replaced_keeps, settled_first, snapshot_keeps}
+
+-- ---- at each step no line is lost
+
+pub keeps_now : (texts : StateTexts) (next : Option FileStep) (whole : Bool) (disk : StateDisk) (line : List ℕ)
+    → IsDueOn texts next disk → IsKeptOn texts next whole disk line → KeepsLine disk line
+keeps_now texts (Some WriteSnapshot) whole disk line due kept = kept
+keeps_now texts (Some SyncSnapshot) whole disk line due kept = kept.0
+keeps_now texts (Some ReplaceSnapshot) whole disk line due kept = kept.0
+keeps_now texts (Some SyncFolder) whole disk line due kept = kept.0
+keeps_now texts (Some BeginJournal) whole disk line due kept =
+    snapshot_keeps disk.snapshot disk.journal texts.snapshot line due.1 kept
+keeps_now texts (Some SyncJournal) whole disk line due kept =
+    snapshot_keeps disk.snapshot disk.journal texts.snapshot line due.0 kept
+keeps_now texts (Some RemoveJournal) whole disk line due kept = absurd due
+keeps_now texts None whole disk line due kept = kept
+
+-- ---- a step is done
+
+pub done_due : (texts : StateTexts) (next : Option FileStep) (whole : Bool) (disk : StateDisk) → IsDueOn texts next disk
+    → IsDueOn texts (following_step whole next) (after_due texts next disk)
+done_due texts (Some WriteSnapshot) whole disk due = (due, refl)
+done_due texts (Some SyncSnapshot) whole disk due = (due.0, ap synced_file due.1)
+done_due texts (Some ReplaceSnapshot) whole disk due = (due.0, due.1)
+done_due texts (Some SyncFolder) true disk due = (due.0, settled_first disk.snapshot (kept_file texts.snapshot) due.1)
+done_due texts (Some SyncFolder) false disk due = due.0
+done_due texts (Some BeginJournal) whole disk due = (due.1, refl)
+done_due texts (Some SyncJournal) whole disk due = one_settled disk.journal _ due.1
+done_due texts (Some RemoveJournal) whole disk due = absurd due
+done_due texts None whole disk due = due
+
+-- a new snapshot that has the line takes it over
+taken_written : (whole : Bool) (texts : StateTexts) (disk : StateDisk) (line : List ℕ) → HasWholeLine texts.snapshot line
+    → IsTakenOver whole texts disk line
+taken_written true texts disk line has = has
+taken_written false texts disk line has = inl has
+
+pub done_kept : (texts : StateTexts) (next : Option FileStep) (whole : Bool) (disk : StateDisk) (line : List ℕ)
+    → IsDueOn texts next disk → IsKeptOn texts next whole disk line → WritesLine texts next line
+    → IsKeptOn texts (following_step whole next) whole (after_due texts next disk) line
+done_kept texts (Some WriteSnapshot) whole disk line due kept writes =
+    (kept, taken_written whole texts (after_due texts (Some WriteSnapshot) disk) line writes)
+done_kept texts (Some SyncSnapshot) true disk line due kept writes = (kept.0, kept.1)
+done_kept texts (Some SyncSnapshot) false disk line due kept writes = (kept.0, kept.1)
+done_kept texts (Some ReplaceSnapshot) true disk line due kept writes = (
+  keeping_both disk.new disk.snapshot disk.journal line (replaced_keeps texts disk line due.0 due.1 (inl kept.1)) kept.0,
+  kept.1,
+)
+done_kept texts (Some ReplaceSnapshot) false disk line due kept writes = (
+  keeping_both disk.new disk.snapshot disk.journal line (replaced_keeps texts disk line due.0 due.1 kept.1) kept.0,
+  kept.1,
+)
+done_kept texts (Some SyncFolder) true disk line due kept writes = kept.1
+done_kept texts (Some SyncFolder) false disk line due kept writes = keeping_settled disk.snapshot disk.journal line kept.0
+done_kept texts (Some BeginJournal) whole disk line due kept writes = kept
+done_kept texts (Some SyncJournal) whole disk line due kept writes =
+    snapshot_keeps disk.snapshot (settled_name (with_first synced_file disk.journal)) texts.snapshot line due.0 kept
+done_kept texts (Some RemoveJournal) whole disk line due kept writes = absurd due
+done_kept texts None whole disk line due kept writes = kept
+
+-- ---- lines are appended
+
+pub one_journal : (texts : StateTexts) (next : Option FileStep) (disk : StateDisk) → steps_left next ≢ 1
+    → IsDueOn texts next disk → HasOneFile disk.journal
+one_journal texts (Some WriteSnapshot) disk not_last due = due
+one_journal texts (Some SyncSnapshot) disk not_last due = due.0
+one_journal texts (Some ReplaceSnapshot) disk not_last due = due.0
+one_journal texts (Some SyncFolder) disk not_last due = due.0
+one_journal texts (Some BeginJournal) disk not_last due = due.0
+one_journal texts (Some SyncJournal) disk not_last due = absurd (not_last refl)
+one_journal texts (Some RemoveJournal) disk not_last due = absurd due
+one_journal texts None disk not_last due = due
+
+pub appending_keeps : (texts : StateTexts) (next : Option FileStep) (whole : Bool) (disk : StateDisk) (bytes line : List ℕ)
+    → steps_left next ≢ 1 → IsDueOn texts next disk → IsKeptOn texts next whole disk line
+    → KeepsLine (appending bytes disk) line
+appending_keeps texts next whole disk bytes line not_last due kept =
+    keeping_appending disk.snapshot disk.journal bytes line (one_journal texts next disk not_last due)
+    (keeps_now texts next whole disk line due kept)
+
+one_appended : (journals : List FileText) (bytes : List ℕ) → HasOneFile journals
+    → HasOneFile (with_first (λ file. synced_file (longer_file bytes file)) journals)
+one_appended [] bytes one = absurd one
+one_appended (file ∷ []) bytes one = tt
+one_appended (file ∷ (other ∷ files)) bytes one = absurd one
+
+pub appended_due : (texts : StateTexts) (next : Option FileStep) (disk : StateDisk) (bytes : List ℕ)
+    → steps_left next ≢ 1 → IsDueOn texts next disk → IsDueOn texts next (appended bytes disk)
+appended_due texts (Some WriteSnapshot) disk bytes not_last due = one_appended disk.journal bytes due
+appended_due texts (Some SyncSnapshot) disk bytes not_last due = (one_appended disk.journal bytes due.0, due.1)
+appended_due texts (Some ReplaceSnapshot) disk bytes not_last due = (one_appended disk.journal bytes due.0, due.1)
+appended_due texts (Some SyncFolder) disk bytes not_last due = (one_appended disk.journal bytes due.0, due.1)
+appended_due texts (Some BeginJournal) disk bytes not_last due = (one_appended disk.journal bytes due.0, due.1)
+appended_due texts (Some SyncJournal) disk bytes not_last due = absurd (not_last refl)
+appended_due texts (Some RemoveJournal) disk bytes not_last due = absurd due
+appended_due texts None disk bytes not_last due = one_appended disk.journal bytes due
+
+taken_later : (whole : Bool) (texts : StateTexts) (disk : StateDisk) (bytes line : List ℕ) → IsTakenOver whole texts disk line
+    → IsTakenOver false texts (appended bytes disk) line
+taken_later true texts disk bytes line taken = inl taken
+taken_later false texts disk bytes line (inl has) = inl has
+taken_later false texts disk bytes line (inr has) = inr (journalled_appended disk.journal bytes line has)
+
+pub appended_kept : (texts : StateTexts) (next : Option FileStep) (whole : Bool) (disk : StateDisk) (bytes line : List ℕ)
+    → steps_left next ≢ 1 → IsDueOn texts next disk → IsKeptOn texts next whole disk line
+    → IsKeptOn texts next false (appended bytes disk) line
+appended_kept texts (Some WriteSnapshot) whole disk bytes line not_last due kept =
+    keeping_appended disk.snapshot disk.journal bytes line due kept
+appended_kept texts (Some SyncSnapshot) whole disk bytes line not_last due kept =
+    (keeping_appended disk.snapshot disk.journal bytes line due.0 kept.0, taken_later whole texts disk bytes line kept.1)
+appended_kept texts (Some ReplaceSnapshot) whole disk bytes line not_last due kept =
+    (keeping_appended disk.snapshot disk.journal bytes line due.0 kept.0, taken_later whole texts disk bytes line kept.1)
+appended_kept texts (Some SyncFolder) whole disk bytes line not_last due kept =
+    (keeping_appended disk.snapshot disk.journal bytes line due.0 kept.0, taken_later whole texts disk bytes line kept.1)
+appended_kept texts (Some BeginJournal) whole disk bytes line not_last due kept = kept
+appended_kept texts (Some SyncJournal) whole disk bytes line not_last due kept = absurd (not_last refl)
+appended_kept texts (Some RemoveJournal) whole disk bytes line not_last due kept = absurd due
+appended_kept texts None whole disk bytes line not_last due kept =
+    keeping_appended disk.snapshot disk.journal bytes line due kept
+
+-- a fold whose snapshot is not begun is as it was
+pub appended_fresh : (texts : StateTexts) (next : Option FileStep) (whole : Bool) (disk : StateDisk) (bytes line : List ℕ)
+    → next ≡ Some WriteSnapshot → IsDueOn texts next disk → IsKeptOn texts next whole disk line
+    → IsKeptOn texts next whole (appended bytes disk) line
+appended_fresh texts next whole disk bytes line is due kept =
+    subst (λ step. IsKeptOn texts step whole (appended bytes disk) line) (sym is)
+    (keeping_appended disk.snapshot disk.journal bytes line (subst (λ step. IsDueOn texts step disk) is due)
+    (subst (λ step. IsKeptOn texts step whole disk line) is kept))
+
+-- ---- a step that failed
+
+done_or_not : (texts : StateTexts) (step : FileStep) (whole : Bool) (disk left : StateDisk) (line : List ℕ)
+    → IsDueOn texts (Some step) disk → IsKeptOn texts (Some step) whole disk line → WritesLine texts (Some step) line
+    → IsDoneOrNot texts step disk left → KeepsLine left line
+done_or_not texts step whole disk left line due kept writes (inl is) =
+    subst (λ d. KeepsLine d line) (sym is) (keeps_now texts (Some step) whole disk line due kept)
+done_or_not texts step whole disk left line due kept writes (inr is) = subst (λ d. KeepsLine d line) (sym is)
+    (keeps_now texts (following_step whole (Some step)) whole (after_due texts (Some step) disk) line
+    (done_due texts (Some step) whole disk due) (done_kept texts (Some step) whole disk line due kept writes))
+
+-- What a step that failed leaves keeps each line that was kept.
+pub failed_keeps : (texts : StateTexts) (next : Option FileStep) (whole : Bool) (disk left : StateDisk) (line : List ℕ)
+    → IsDueOn texts next disk → IsKeptOn texts next whole disk line → FailsDue texts next disk left → KeepsLine left line
+failed_keeps texts (Some WriteSnapshot) whole disk left line due kept fails = subst (λ d. KeepsLine d line) (sym fails.1) kept
+failed_keeps texts (Some SyncSnapshot) whole disk left line due kept fails =
+    done_or_not texts SyncSnapshot whole disk left line due kept tt fails
+failed_keeps texts (Some ReplaceSnapshot) whole disk left line due kept fails =
+    done_or_not texts ReplaceSnapshot whole disk left line due kept tt fails
+failed_keeps texts (Some SyncFolder) whole disk left line due kept fails =
+    done_or_not texts SyncFolder whole disk left line due kept tt fails
+failed_keeps texts (Some RemoveJournal) whole disk left line due kept fails = absurd due
+failed_keeps texts (Some BeginJournal) whole disk left line due kept (inl fails) =
+    done_or_not texts BeginJournal whole disk left line due kept tt fails
+failed_keeps texts (Some BeginJournal) whole disk left line due kept (inr fails) = subst (λ d. KeepsLine d line) (sym fails.1)
+    (snapshot_keeps disk.snapshot (unkept_file (take fails.0 texts.first_line) ∷ disk.journal) texts.snapshot line due.1 kept)
+failed_keeps texts (Some SyncJournal) whole disk left line due kept (inl fails) =
+    done_or_not texts SyncJournal whole disk left line due kept tt fails
+failed_keeps texts (Some SyncJournal) whole disk left line due kept (inr fails) = subst (λ d. KeepsLine d line) (sym fails)
+    (snapshot_keeps disk.snapshot (with_first synced_file disk.journal) texts.snapshot line due.0 kept)
+failed_keeps texts None whole disk left line due kept fails = subst (λ d. KeepsLine d line) (sym fails) kept

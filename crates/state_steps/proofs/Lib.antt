@@ -1,0 +1,6 @@
+mod LineFacts
+mod StepFacts
+mod FoldFacts
+mod SaveFacts
+mod BeginFacts
+mod AppendFacts

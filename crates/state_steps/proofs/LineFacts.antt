@@ -1,0 +1,98 @@
+-- Lemmas on the whole lines of a text that gets longer, and on what a stop leaves of files.
+use Rattle.std.proofs.Common.{◌≡◌, ℕ, ◌⊎◌, inl, inr, Bool, true, false, nat_eq, List, [], ◌∷◌, ◌++◌, take, sym, ap, subst, refl}
+use Rattle.std.proofs.lemmas.List.{append-nil}
+use Rattle.std.proofs.lemmas.List.Elements.{Contains-append_left}
+use Rattle.std.specs.Prelude.{Contains, ◌==◌}
+use Rattle.byte_lines.specs.Lines.{Lines, before, lines_of, with_byte}
+use Rattle.state_steps.specs.Files.{AreKeeping, FileText, HasOneFile, HasWholeLine, IsFoundAt, IsJournalled, kept_file}
+use Rattle.state_steps.specs.Files.{longer_file, settled_name, synced_file, with_first}
+
+-- ---- whole lines
+
+-- a byte before lines of which the first ones are these
+before_more : (b : ℕ) (old new : List (List ℕ)) (old_rest new_rest : List ℕ) (more : List (List ℕ)) → new ≡ old ++ more
+    → (later : List (List ℕ)) × ((before b new new_rest).whole ≡ (before b old old_rest).whole ++ later)
+before_more b [] new old_rest new_rest more is = ((before b new new_rest).whole, refl)
+before_more b (text ∷ texts) new old_rest new_rest more is = (more, ap (λ l. (before b l new_rest).whole) is)
+
+byte_more : (b : ℕ) (feed : Bool) (old new : Lines) (more : List (List ℕ)) → new.whole ≡ old.whole ++ more
+    → (later : List (List ℕ)) × ((with_byte feed b new).whole ≡ (with_byte feed b old).whole ++ later)
+byte_more b true old new more is = (more, ap (λ l. [] ∷ l) is)
+byte_more b false old new more is = before_more b old.whole new.whole old.rest new.rest more is
+
+-- The whole lines of a text are the first ones of a longer text.
+lines_more : (text more : List ℕ) → (later : List (List ℕ)) × ((lines_of (text ++ more)).whole ≡ (lines_of text).whole ++ later)
+lines_more [] more = ((lines_of more).whole, refl)
+lines_more (b ∷ text) more =
+    let rest = lines_more text more in
+    byte_more b (b == 10) (lines_of text) (lines_of (text ++ more)) rest.0 rest.1
+
+-- A whole line stays one as the text gets longer.
+pub line_stays : (text more line : List ℕ) → HasWholeLine text line → HasWholeLine (text ++ more) line
+line_stays text more line has =
+    let split = lines_more text more in
+    subst (λ lines. Contains lines line) (sym split.1) (Contains-append_left (lines_of text).whole split.0 line has)
+
+-- ---- what a stop leaves
+
+-- A file of which a stop leaves what the disk has, and any beginning of what came since, keeps what the disk has.
+pub left_has : (file : FileText) (text line : List ℕ) (size : ℕ) → text ≡ file.kept ++ take size file.since
+    → HasWholeLine file.kept line → HasWholeLine text line
+left_has file text line size is has =
+    subst (λ t. HasWholeLine t line) (sym is) (line_stays file.kept (take size file.since) line has)
+
+-- So does a name that has one file.
+pub found_has : (file : FileText) (text line : List ℕ) → IsFoundAt (file ∷ []) text → HasWholeLine file.kept line
+    → HasWholeLine text line
+found_has file text line (inl left) has = left_has file text line left.0 left.1 has
+found_has file text line (inr none) has = absurd none
+
+-- A name that has one file, all of which is on the disk, keeps its lines.
+pub kept_has : (name : List FileText) (own text line : List ℕ) → name ≡ kept_file own ∷ [] → IsFoundAt name text
+    → HasWholeLine own line → HasWholeLine text line
+kept_has name own text line is found has = found_has (kept_file own) text line (subst (λ n. IsFoundAt n text) is found) has
+
+-- What the disk has of a journal in one file is found.
+pub journal_has : (journals : List FileText) (text line : List ℕ) → HasOneFile journals → IsFoundAt journals text
+    → IsJournalled journals line → HasWholeLine text line
+journal_has [] text line one found has = absurd one
+journal_has (file ∷ []) text line one found has = found_has file text line found has
+journal_has (file ∷ (other ∷ files)) text line one found has = absurd one
+
+-- What is found after the folder was put on the disk was found before.
+pub found_settled : (name : List FileText) (text : List ℕ) → IsFoundAt (settled_name name) text → IsFoundAt name text
+found_settled [] text found = absurd found
+found_settled (file ∷ files) text (inl left) = inl left
+found_settled (file ∷ files) text (inr none) = absurd none
+
+-- ---- journals that get longer
+
+-- Where the journal is replaced by one that has all that the disk has of it, no line is lost.
+pub keeping_longer : (snapshots : List FileText) (file longer : FileText) (more line : List ℕ) → longer.kept ≡ file.kept ++ more
+    → AreKeeping snapshots (file ∷ []) line → AreKeeping snapshots (longer ∷ []) line
+keeping_longer snapshots file longer more line is keeping snapshot journal at_snapshot at_journal =
+    elim (keeping snapshot file.kept at_snapshot (inl (0, sym (append-nil file.kept)))) [
+      | inl has ↦ inl has
+      | inr has ↦ inr (found_has longer journal line at_journal
+          (subst (λ t. HasWholeLine t line) (sym is) (line_stays file.kept more line has)))
+    ]
+
+pub keeping_appending : (snapshots journals : List FileText) (bytes line : List ℕ) → HasOneFile journals
+    → AreKeeping snapshots journals line → AreKeeping snapshots (with_first (longer_file bytes) journals) line
+keeping_appending snapshots [] bytes line one keeping = absurd one
+keeping_appending snapshots (file ∷ []) bytes line one keeping =
+    keeping_longer snapshots file (longer_file bytes file) [] line (sym (append-nil file.kept)) keeping
+keeping_appending snapshots (file ∷ (other ∷ files)) bytes line one keeping = absurd one
+
+pub keeping_appended : (snapshots journals : List FileText) (bytes line : List ℕ) → HasOneFile journals
+    → AreKeeping snapshots journals line
+    → AreKeeping snapshots (with_first (λ file. synced_file (longer_file bytes file)) journals) line
+keeping_appended snapshots [] bytes line one keeping = absurd one
+keeping_appended snapshots (file ∷ []) bytes line one keeping =
+    keeping_longer snapshots file (synced_file (longer_file bytes file)) (file.since ++ bytes) line refl keeping
+keeping_appended snapshots (file ∷ (other ∷ files)) bytes line one keeping = absurd one
+
+pub journalled_appended : (journals : List FileText) (bytes line : List ℕ) → IsJournalled journals line
+    → IsJournalled (with_first (λ file. synced_file (longer_file bytes file)) journals) line
+journalled_appended [] bytes line has = absurd has
+journalled_appended (file ∷ files) bytes line has = line_stays file.kept (file.since ++ bytes) line has

@@ -1,0 +1,6 @@
+pub mod Files
+pub mod Steps
+pub mod Folds
+pub mod Saves
+pub mod Begins
+pub mod Appends

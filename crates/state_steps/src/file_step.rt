@@ -1,0 +1,21 @@
+//! The steps that change the files of a state.
+
+/// A step that changes the files of a state: its snapshot, and the journal of what came since.
+#[derive(Clone, Copy, Debug, PartialEq, Eq)]
+pub enum FileStep {
+    /// All that is held now is written as a snapshot to a new file, under a name that nobody reads.
+    WriteSnapshot,
+    /// The system puts the new file on the disk.
+    SyncSnapshot,
+    /// The new file is given the snapshot's name.
+    ReplaceSnapshot,
+    /// The system puts the folder with the names on the disk.
+    SyncFolder,
+    /// The journal is removed.
+    RemoveJournal,
+    /// A new file with a journal's first line alone is given the journal's name. Where the name has
+    /// no file for a moment, that is read as an empty one.
+    BeginJournal,
+    /// The system puts the new journal, and the folder, on the disk.
+    SyncJournal,
+}

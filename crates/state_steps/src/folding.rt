@@ -1,0 +1,177 @@
+//! The steps of a fold, in their order.
+ghost use Rattle.std.specs.Prelude.{◌≡◌, ◌≢◌, ◌-◌, ◌≤◌, ◌↔◌, IsTrue, true, false, List, ℕ};
+ghost use Rattle.std.specs.Prelude.{None, Some};
+ghost use Rattle.state_steps.specs.Files.{HasOneFile, HasWholeLine, IsJournalled, KeepsLine};
+ghost use Rattle.state_steps.specs.Files.{StateDisk, appended, appending};
+ghost use Rattle.state_steps.specs.Folds.{FoldKeeps, IsDueOn, IsFolded, fold_end};
+ghost use Rattle.state_steps.specs.Folds.{following_step, steps_left};
+ghost use Rattle.state_steps.specs.Steps.{FailsDue, StateTexts, WritesLine, after_due};
+ghost use Rattle.state_steps.specs.declared.folding.FoldEnd.TheVariants.{JournalGoesOn};
+
+use crate::file_step::FileStep;
+
+/// What is to be done where a step of a fold failed.
+#[derive(Clone, Copy, Debug, PartialEq, Eq)]
+pub enum FoldEnd {
+    /// The journal is as it was, and lines are appended to it as before.
+    JournalGoesOn,
+    /// The journal was being emptied: what the disk has of it is not known, so the replica ends.
+    ReplicaEnds,
+}
+
+/// A journal that is being folded into a snapshot: it says which step is due. Its caller says when
+/// the step is done or that it failed, and when lines were appended to the journal meanwhile.
+///
+/// At each moment each line that was kept is a whole line of what a stop leaves of the snapshot or
+/// of the journal. A journal that got lines since the snapshot was begun is not emptied.
+#[derive(Clone, Copy, Debug)]
+pub struct Folding {
+    next: Option<FileStep>,
+    // Whether the new snapshot has all lines, since none was appended after it was begun.
+    is_whole: bool,
+}
+
+impl Folding {
+    /// The beginning of a fold.
+    ///
+    /// - `due`: it may begin whatever was written under the name of the new file.
+    /// - `keeps`: each line that is kept then goes on being kept.
+    pub fn begin() -> Folding
+        ensures due { (texts : StateTexts) (disk : StateDisk)
+            → HasOneFile disk.journal → IsDueOn texts result.next disk }
+        ensures keeps { (texts : StateTexts) (disk : StateDisk) (line : List ℕ)
+            → HasOneFile disk.journal → KeepsLine disk line → FoldKeeps texts result disk line }
+        ensures steps { steps_left result.next ≡ 6 }
+        ensures whole { IsTrue result.is_whole }
+    {
+        Folding {
+            next: Some(FileStep::WriteSnapshot),
+            is_whole: true,
+        }
+    }
+
+    /// The step that is due; none where the fold is over.
+    pub fn next(&self) -> Option<FileStep>
+        ensures { result ≡ self.now.next }
+    {
+        self.next
+    }
+
+    /// Whether the new snapshot has all lines. Where the fold is over, this says whether the
+    /// journal was emptied.
+    pub fn is_whole(&self) -> bool
+        ensures { result ≡ self.now.is_whole }
+    {
+        self.is_whole
+    }
+
+    /// Says that the step that was due is done.
+    ///
+    /// - `due`: the files are as they have to be for the next step.
+    /// - `keeps`: no line is lost, where the snapshot is written with each line that is kept then.
+    /// - `folded`: after the last step the journal is empty, and the snapshot is the new one.
+    /// - `holds`: that has each line.
+    /// - `steps`: after six steps in which nothing is appended the journal is emptied.
+    pub fn done(&mut self)
+        ensures due { (texts : StateTexts) (disk : StateDisk) → IsDueOn texts self.old.next disk
+            → IsDueOn texts self.new.next (after_due texts self.old.next disk) }
+        ensures keeps { (texts : StateTexts) (disk : StateDisk) (line : List ℕ)
+            → FoldKeeps texts self.old disk line → WritesLine texts self.old.next line
+            → FoldKeeps texts self.new (after_due texts self.old.next disk) line }
+        ensures folded { (texts : StateTexts) (disk : StateDisk)
+            → steps_left self.old.next ≡ 1 → IsDueOn texts self.old.next disk
+            → IsFolded texts (after_due texts self.old.next disk) }
+        ensures holds { (texts : StateTexts) (disk : StateDisk) (line : List ℕ)
+            → steps_left self.old.next ≡ 1 → FoldKeeps texts self.old disk line
+            → HasWholeLine texts.snapshot line }
+        ensures steps { IsTrue self.old.is_whole
+            → steps_left self.new.next ≡ steps_left self.old.next - 1 }
+        ensures fewer { steps_left self.new.next ≤ steps_left self.old.next - 1 }
+        ensures whole { self.new.is_whole ≡ self.old.is_whole }
+    {
+        self.next = step_after(self.next, self.is_whole);
+    }
+
+    /// Whether the fold is over and the journal was emptied.
+    pub fn is_done(&self) -> bool
+        ensures { IsTrue result ↔ (self.now.next ≡ None) × IsTrue self.now.is_whole }
+    {
+        self.next.is_none() && self.is_whole
+    }
+
+    /// Says that the step that was due failed: what it left is its work, or none or a part of it.
+    /// It returns what is to be done.
+    ///
+    /// - `keeps`: no line is lost.
+    /// - `goes_on`: where the journal goes on, it is as it was.
+    /// - `ends`: the replica ends where the journal was being emptied.
+    /// - `over`: the fold is over, and not done.
+    pub fn failed(&mut self) -> FoldEnd
+        ensures keeps { (texts : StateTexts) (disk left : StateDisk) (line : List ℕ)
+            → FoldKeeps texts self.old disk line → FailsDue texts self.old.next disk left
+            → KeepsLine left line }
+        ensures goes_on { (texts : StateTexts) (disk left : StateDisk) → result ≡ JournalGoesOn
+            → IsDueOn texts self.old.next disk → FailsDue texts self.old.next disk left
+            → (left.journal ≡ disk.journal) × IsDueOn texts self.new.next left }
+        ensures ends { result ≡ fold_end self.old.next }
+        ensures over { (self.new.next ≡ None) × (self.new.is_whole ≡ false) }
+    {
+        let end = match self.next {
+            Some(FileStep::BeginJournal | FileStep::SyncJournal) => FoldEnd::ReplicaEnds,
+            _ => FoldEnd::JournalGoesOn,
+        };
+        self.next = None;
+        self.is_whole = false;
+        end
+    }
+
+    /// Says that lines were appended to the journal, and are on the disk. Between the emptying of
+    /// the journal and its sync none may be.
+    ///
+    /// - `due`: the files are as they have to be for the next step.
+    /// - `meanwhile`: before the lines are on the disk no other line is lost.
+    /// - `keeps`: nor after that.
+    /// - `new_lines`: what is a line of the journal now is not lost from now on.
+    /// - `goes_on`: a fold whose snapshot is not begun has the lines in it; where the journal would
+    ///   be emptied next, the fold is over; and else it goes on.
+    pub fn append(&mut self)
+        requires { steps_left self.old.next ≢ 1 }
+        ensures due { (texts : StateTexts) (disk : StateDisk) (bytes : List ℕ)
+            → IsDueOn texts self.old.next disk
+            → IsDueOn texts self.new.next (appended bytes disk) }
+        ensures meanwhile { (texts : StateTexts) (disk : StateDisk) (bytes line : List ℕ)
+            → FoldKeeps texts self.old disk line → KeepsLine (appending bytes disk) line }
+        ensures keeps { (texts : StateTexts) (disk : StateDisk) (bytes line : List ℕ)
+            → FoldKeeps texts self.old disk line
+            → FoldKeeps texts self.new (appended bytes disk) line }
+        ensures new_lines { (texts : StateTexts) (disk : StateDisk) (bytes line : List ℕ)
+            → IsDueOn texts self.old.next disk
+            → IsJournalled (appended bytes disk).journal line
+            → FoldKeeps texts self.new (appended bytes disk) line }
+        ensures goes_on { steps_left self.old.next ≢ 2 → self.new.next ≡ self.old.next }
+        ensures fresh { steps_left self.old.next ≡ 6 → self.new ≡ self.old }
+    {
+        match self.next {
+            Some(FileStep::WriteSnapshot) => {}
+            Some(FileStep::BeginJournal) => {
+                self.next = None;
+                self.is_whole = false;
+            }
+            _ => self.is_whole = false,
+        }
+    }
+}
+
+// The step that is due after this one.
+fn step_after(step: Option<FileStep>, is_whole: bool) -> Option<FileStep>
+    ensures { result ≡ following_step is_whole step }
+{
+    match step {
+        Some(FileStep::WriteSnapshot) => Some(FileStep::SyncSnapshot),
+        Some(FileStep::SyncSnapshot) => Some(FileStep::ReplaceSnapshot),
+        Some(FileStep::ReplaceSnapshot) => Some(FileStep::SyncFolder),
+        Some(FileStep::SyncFolder) if is_whole => Some(FileStep::BeginJournal),
+        Some(FileStep::BeginJournal) => Some(FileStep::SyncJournal),
+        _ => None,
+    }
+}

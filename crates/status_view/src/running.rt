@@ -1,0 +1,65 @@
+//! What a running replica knows of itself beside what it holds, as a value.
+ghost use Rattle.std.specs.Prelude.{◌≡◌};
+ghost use Rattle.status_view.specs.Running.{fault_code};
+
+use replica_core::SyncError;
+
+/// What a running replica knows beside what it holds: how long its files are, and how the sessions
+/// went in which it asked its peers.
+#[derive(Clone, Copy, Debug)]
+pub struct RunningStatus<'a> {
+    /// The bytes of the snapshot in the state file.
+    pub snapshot_bytes: u64,
+    /// The bytes of the journal beside it.
+    pub journal_bytes: u64,
+    /// Its peers, in the order in which they are asked.
+    pub peers: &'a [PeerStatus],
+}
+
+impl RunningStatus<'_> {
+    /// The bytes of both files.
+    pub fn state_bytes(&self) -> u64 {
+        self.snapshot_bytes.saturating_add(self.journal_bytes)
+    }
+}
+
+/// A peer, and how the sessions went in which it was asked.
+#[derive(Debug, Drop)]
+pub struct PeerStatus {
+    /// Its address, as an IP address and a port.
+    pub address: String,
+    /// The Unix second at which a session last ended well; `None` if none did.
+    pub ended_well: Option<u64>,
+    /// Why the last session failed that did; `None` if none did.
+    pub fault: Option<PeerFault>,
+    /// How many receipts came from it that were not held.
+    pub receipts: u64,
+}
+
+/// Why a session with a peer failed.
+#[derive(Clone, Copy, Debug, PartialEq, Eq)]
+pub enum PeerFault {
+    /// What it said, its connection, or memory.
+    Session(SyncError),
+    /// It sent more bytes than this replica takes.
+    TooManyBytes,
+}
+
+/// The short name of a fault: the code of its error, `S1` to `S10`, or `bytes`.
+pub fn fault_code(fault: PeerFault) -> &'static str
+    ensures { result.now ≡ fault_code fault }
+{
+    match fault {
+        PeerFault::TooManyBytes => "bytes",
+        PeerFault::Session(SyncError::BadHeader) => "S1",
+        PeerFault::Session(SyncError::ConfigDiffers) => "S2",
+        PeerFault::Session(SyncError::VersionDiffers) => "S3",
+        PeerFault::Session(SyncError::NotCanonical(_)) => "S4",
+        PeerFault::Session(SyncError::NotRising(_)) => "S5",
+        PeerFault::Session(SyncError::BadCount) => "S6",
+        PeerFault::Session(SyncError::Truncated) => "S7",
+        PeerFault::Session(SyncError::Refused(..)) => "S8",
+        PeerFault::Session(SyncError::Io) => "S9",
+        PeerFault::Session(SyncError::NoMemory) => "S10",
+    }
+}
