@@ -39,7 +39,7 @@ use Rattle.fedbundle_c.specs.declared.held_replica.Replica.{Replica}
 
 -- what the replica of a handle holds
 abbrev pub state_in : Replica → HeldAndRoom
-state_in replica = replica.closure
+state_in replica = replica.closure.state
 
 abbrev pub meaning_in : Replica → Meaning
 meaning_in replica = (state_in replica).meaning
