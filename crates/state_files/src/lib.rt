@@ -11,7 +11,7 @@
 //! a replica that stays does first, and `fold` what it does where its journal is long. `made_files`
 //! does the steps of these three; a file that it makes is a `new_file`, whose mode and owner
 //! `access` gives. `file_names` has the files' names, and `named_files` what the system has under
-//! one.
+//! one: what this program did not make is never changed.
 #![tactic(auto)]
 
 mod access;

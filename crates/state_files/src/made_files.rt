@@ -1,6 +1,6 @@
 //! The steps that change the files of a state, as calls of the system.
 use crate::file_names::{journal_path, new_path, sync_folder};
-use crate::named_files::found;
+use crate::named_files::remove_own;
 use crate::new_file::{create_new, with_snapshot};
 use closure_core::Closure;
 use fed_config::Config;
@@ -60,10 +60,7 @@ impl MadeFiles {
                 Ok(fs::rename(files, self.new_name.as_str(), path)?)
             }
             FileStep::SyncFolder => sync_folder(files, path),
-            FileStep::RemoveJournal => {
-                found(fs::remove_file(files, self.journal_name.as_str()))?;
-                Ok(())
-            }
+            FileStep::RemoveJournal => remove_own(files, self.journal_name.as_str()),
             FileStep::BeginJournal => self.begin_journal(files, alloc, closure.config(), path),
             FileStep::SyncJournal => {
                 sync_file(&self.journal)?;

@@ -1,6 +1,6 @@
 //! A file that is to have a name of the state: how it is made, and how a snapshot gets into it.
 use crate::access::{owner_only, take_access};
-use crate::named_files::found;
+use crate::named_files::{found, remove_own};
 use byte_lines::FromWrite;
 use closure_core::Closure;
 use fedbundle::FileFault;
@@ -14,16 +14,16 @@ use std::{fs, io};
 /// The bytes that are gathered before they are written to the file.
 const BUFFER_BYTES: usize = 65_536;
 
-/// Makes the file that has the name from now on. A file that has it is removed first, so that
-/// nothing is written through a link or into a pipe. The new file has the mode and, where the
-/// system allows it, the owner and the group of the state file at the path; where it does not, the
-/// group has no access. Where there is no state file, the mode is 0600.
+/// Makes the file that has the name from now on. A file of this program that has it is removed
+/// first; anything else that has it is refused, and stays as it is. The new file has the mode and,
+/// where the system allows it, the owner and the group of the state file at the path; where it does
+/// not, the group has no access. Where there is no state file, the mode is 0600.
 pub(crate) fn create_new<R: Files<File = File>>(
     files: &R,
     name: &str,
     path: &str,
 ) -> Result<File, FileFault> {
-    found(fs::remove_file(files, name))?;
+    remove_own(files, name)?;
     let mut options = owner_only();
     options.create_new(true);
     let file = options.open(files, name)?;
