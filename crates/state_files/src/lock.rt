@@ -24,9 +24,18 @@ const MARK_BYTES: usize = 21;
 #[derive(Drop)]
 pub struct StateLock {
     file: File,
+    name: String,
 }
 
 impl StateLock {
+    /// Whether the lock's name still leads to the file that is locked.
+    ///
+    /// # Errors
+    /// Where the system does not say: `NoMemory` if memory ran out, and else `Io`.
+    pub(crate) fn is_named<R: Files>(&self, files: &R) -> Result<bool, FileFault> {
+        is_named(files, &self.file, self.name.as_str())
+    }
+
     /// Leaves a mark in the lock's file that a replica has the lock, and will keep it.
     ///
     /// # Errors
@@ -76,7 +85,7 @@ pub fn try_lock_state<R: Files<File = File>>(
             }
             if is_named(files, &file, name.as_str())? {
                 clear_mark(&file)?;
-                return Ok(Some(StateLock { file }));
+                return Ok(Some(StateLock { file, name }));
             }
         }
     }

@@ -27,21 +27,32 @@ pub(crate) fn create_new<R: Files<File = File>>(
     let mut options = owner_only();
     options.create_new(true);
     let file = options.open(files, name)?;
-    if let Some(state) = found(fs::metadata(files, path))? {
-        take_access(&file, &state)?;
+    match take_state_access(files, &file, path) {
+        Ok(()) => Ok(file),
+        Err(fault) => {
+            // That it stays changes nothing: the next one takes its place.
+            let _ = fs::remove_file(files, name);
+            Err(fault)
+        }
     }
-    Ok(file)
+}
+
+fn take_state_access<R: Files>(files: &R, file: &File, path: &str) -> Result<(), FileFault> {
+    match found(fs::metadata(files, path))? {
+        Some(state) => take_access(file, &state),
+        None => Ok(()),
+    }
 }
 
 /// Writes a snapshot of what is held into the file.
-pub(crate) fn with_snapshot<C: Closure>(
+pub(crate) fn write_closure<C: Closure>(
     alloc: Global,
     closure: &C,
-    file: File,
-) -> Result<File, FileFault> {
+    file: &File,
+) -> Result<(), FileFault> {
     let mut noting = NotingFile { file, code: None };
     match write_into(alloc, closure, &mut noting) {
-        Ok(()) => Ok(noting.file),
+        Ok(()) => Ok(()),
         Err(why) => Err(FileFault {
             why,
             code: noting.code,
@@ -51,14 +62,14 @@ pub(crate) fn with_snapshot<C: Closure>(
 
 // A file that keeps the system's number of the last fault of a write.
 #[derive(Drop)]
-struct NotingFile {
-    file: File,
+struct NotingFile<'a> {
+    file: &'a File,
     code: Option<i32>,
 }
 
-impl io::Write for NotingFile {
+impl io::Write for NotingFile<'_> {
     fn write(&mut self, bytes: &[u8]) -> io::Result<usize> {
-        let mut file = &self.file;
+        let mut file = self.file;
         let written = file.write(bytes);
         if let Err(error) = &written {
             self.code = error.raw_os_error();
@@ -74,7 +85,7 @@ impl io::Write for NotingFile {
 fn write_into<C: Closure>(
     alloc: Global,
     closure: &C,
-    file: &mut NotingFile,
+    file: &mut NotingFile<'_>,
 ) -> Result<(), SyncError> {
     let buffer = match BufWriter::with_capacity(alloc, BUFFER_BYTES, file) {
         Ok(buffer) => buffer,
