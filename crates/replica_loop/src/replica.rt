@@ -12,7 +12,6 @@ use state_files::{
     FoundFiles, StateBeginning, StateLock, has_journal, is_marked, state_bytes, try_lock_state,
 };
 use std::alloc::Global;
-use std::fs;
 use std::fs::{File, Files};
 use std::io::{Eprint, Print};
 use std::net::Net;
@@ -112,8 +111,7 @@ fn run_held<C: Closure, R: Files<File = File> + Net + Clock + Print + Eprint>(
     let mut events = Events::with_capacity(alloc, MOST_EVENTS)?;
     print_ready(rt, alloc, &held.closure)?;
     let ended = run_turns(rt, alloc, held, &mut running, &mut events, settings);
-    // A socket that stays is replaced by the next replica.
-    let _ = fs::remove_file(rt, settings.socket);
+    running.remove_socket(rt, settings.socket);
     ended
 }
 

@@ -306,6 +306,11 @@ impl RunningReplica {
         self.table.remove_ended();
     }
 
+    /// Removes the socket's file, if it is still that of this replica.
+    pub(crate) fn remove_socket<R: Files>(&self, rt: &R, path: &str) {
+        self.listeners.remove_socket(rt, path);
+    }
+
     /// Whether it was asked to end, and the replies are sent or had their time.
     pub(crate) fn has_ended(&self) -> bool {
         match self.ends_at {
