@@ -1,7 +1,7 @@
 // The commands with `--at`: a running replica carries them out.
 use crate::streams::input;
 use byte_lines::read_up_to;
-use fedbundle::{Call, CommandError, CommandName, Exit};
+use fedbundle::{Call, CommandError, CommandName, Exit, Step};
 use local_answers::{MOST_INPUT, request_words};
 use replica_loop::{AskFault, ask_replica};
 
@@ -23,6 +23,7 @@ pub(crate) fn ask(rt: &HostRuntime, call: &Call<'_>, path: &str) -> Result<u8, E
     match asked {
         Ok(status) => Ok(status),
         Err(AskFault::NoReplica) => Err(Exit::NoReplica),
+        Err(AskFault::Socket(fault)) => Err(Exit::of_file(Step::Socket, fault)),
         Err(AskFault::Io) => Err(Exit::Refused(CommandError::Io)),
         Err(AskFault::NoMemory) => Err(Exit::Refused(CommandError::NoMemory)),
     }

@@ -1,5 +1,7 @@
 //! The other side of a local request: the words and the input go to the replica, and its reply
 //! goes to the standard streams.
+use crate::socket_path::too_long;
+use fedbundle::FileFault;
 use memchr::memchr;
 use request_lines::{ReplyHead, read_reply_head, write_request_words};
 use std::alloc::{AllocError, AllocFailed, Global};
@@ -12,6 +14,8 @@ use std::os::unix::net::UnixStream;
 pub enum AskFault {
     /// Nobody listens on the socket, or the reply is cut.
     NoReplica,
+    /// The system refuses access to the socket, or takes its path for none.
+    Socket(FileFault),
     /// A stream failed.
     Io,
     /// Memory ran out.
@@ -42,6 +46,8 @@ const MAX_READS: u64 = 1 << 48;
 /// # Errors
 /// A change may have been made all the same, unless nobody listens.
 /// - [`AskFault::NoReplica`]: nobody listens on the socket, or the reply is cut,
+/// - [`AskFault::Socket`]: the system refuses access to the socket, or its path has more than 107
+///   bytes,
 /// - [`AskFault::Io`]: a stream failed,
 /// - [`AskFault::NoMemory`]: memory ran out.
 pub fn ask_replica<R: Net, O: Write, E: Write>(
@@ -67,15 +73,26 @@ fn exchange<R: Net>(
     line: &[u8],
     input: &[u8],
 ) -> Result<Vec<u8>, AskFault> {
-    let Ok(mut stream) = UnixStream::connect(net, path) else {
-        return Err(AskFault::NoReplica);
-    };
+    let mut stream = connect(net, path)?;
     // Where the replica refuses the request before it has read all of it, its reply says so.
     if stream.write_all(line).is_ok() && stream.write_all(input).is_ok() {
         let _ = stream.shutdown(Shutdown::Write);
     }
     let reply = read_all(alloc, &mut stream)?;
     Ok(reply)
+}
+
+fn connect<R: Net>(net: &R, path: &str) -> Result<UnixStream, AskFault> {
+    if let Err(fault) = too_long(path) {
+        return Err(AskFault::Socket(fault));
+    }
+    match UnixStream::connect(net, path) {
+        Ok(stream) => Ok(stream),
+        Err(error) if error.kind() == ErrorKind::PermissionDenied => {
+            Err(AskFault::Socket(FileFault::from(error)))
+        }
+        Err(_) => Err(AskFault::NoReplica),
+    }
 }
 
 // What comes until the stream ends or fails.

@@ -125,6 +125,11 @@ impl ConnectionTable {
         Ok(())
     }
 
+    /// Whether requests have changed something that is not on the disk yet.
+    pub(crate) fn has_changes(&self) -> bool {
+        self.connections.iter().any(has_change)
+    }
+
     /// What requests have changed is on the disk.
     pub(crate) fn settle(&mut self) {
         for conn in &mut self.connections {
@@ -179,6 +184,13 @@ fn time_of(conn: &LiveConnection, now: Instant) -> Duration {
 fn is_stop(conn: &LiveConnection) -> bool {
     match &conn.talk {
         Talk::Local(talk) => talk.is_stop(),
+        _ => false,
+    }
+}
+
+fn has_change(conn: &LiveConnection) -> bool {
+    match &conn.talk {
+        Talk::Local(talk) => !talk.journal().is_empty(),
         _ => false,
     }
 }

@@ -2,6 +2,7 @@
 //! that another side chose stands in one.
 use crate::ending::Ending;
 use replica_sync::SyncError;
+use state_files::LostFile;
 use status_view::{PeerFault, fault_code};
 use std::alloc::Global;
 use std::fmt;
@@ -31,6 +32,8 @@ pub(crate) enum LogEvent {
     FoldFault(SyncError),
     /// The journal could not be written.
     Journal(SyncError),
+    /// A file of the state was removed or replaced.
+    Lost(LostFile),
 }
 
 /// Writes the event's line at once. That it cannot be written changes nothing.
@@ -69,6 +72,9 @@ impl Display for LogEvent {
             LogEvent::Fold(bytes) => write!(f, "event=fold bytes={bytes}"),
             LogEvent::FoldFault(why) => write!(f, "event=fold fault={}", session_code(*why)),
             LogEvent::Journal(why) => write!(f, "event=journal fault={}", session_code(*why)),
+            LogEvent::Lost(LostFile::Lock) => f.write_str("event=lost file=lock"),
+            LogEvent::Lost(LostFile::Journal) => f.write_str("event=lost file=journal"),
+            LogEvent::Lost(LostFile::State) => f.write_str("event=lost file=state"),
         }
     }
 }

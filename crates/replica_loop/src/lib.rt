@@ -7,10 +7,10 @@
 //!
 //! `replica` begins and ends a replica, and `turn` is one round of the loop: what came is read, the
 //! changes go to the journal, and only then anything is written; a long journal goes into the
-//! snapshot. `state_files` has these files. Connections come in at the `listeners`.
-//! `connection_table` has them, `live_connection` is one of them, and what is said on it is a
-//! `talk`. `peers` has what `status` shows of the peers. `client` is the other side of a local
-//! request.
+//! snapshot. `kept_files` has these files, by the calls of `state_files`. Connections come in at
+//! the `listeners`; a `socket_path` is that of one of them. `connection_table` has them,
+//! `live_connection` is one of them, and what is said on it is a `talk`. `peers` has what `status`
+//! shows of the peers. `client` is the other side of a local request.
 #![tactic(auto)]
 
 mod client;
@@ -18,6 +18,7 @@ mod connection_table;
 mod ending;
 mod event_log;
 mod held_state;
+mod kept_files;
 mod listeners;
 mod live_connection;
 mod local_talk;
@@ -27,6 +28,7 @@ mod replica;
 mod served_talk;
 mod settings;
 mod socket;
+mod socket_path;
 mod step_fault;
 mod talk;
 mod turn;

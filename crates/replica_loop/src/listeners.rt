@@ -2,7 +2,8 @@
 //! ask; and the poll, which says what is ready.
 use crate::settings::Settings;
 use crate::socket::Socket;
-use crate::step_fault::at_step;
+use crate::socket_path::{FileId, file_id, too_long};
+use crate::step_fault::{at_step, file_at_step};
 use fedbundle::{Exit, Step};
 use mio::net::{TcpListener, UnixListener, UnixStream};
 use mio::{Interest, Poll, Token};
@@ -29,6 +30,7 @@ const PAUSE_MILLIS: u64 = 100;
 pub(crate) struct Listeners {
     pub(crate) poll: Poll,
     local: UnixListener,
+    local_file: FileId,
     gossip: Option<TcpListener>,
     at_local: Queue,
     at_gossip: Queue,
@@ -64,8 +66,10 @@ impl Listeners {
         settings: &Settings<'_, '_>,
     ) -> Result<Listeners, Exit> {
         let poll = at_step(Step::Socket, Poll::new(rt))?;
+        file_at_step(Step::Socket, too_long(settings.socket))?;
         free_path(rt, settings.socket)?;
         let local = at_step(Step::Socket, open_local(rt, &poll, settings.socket))?;
+        let local_file = at_step(Step::Socket, file_id(rt, settings.socket))?;
         let gossip = match settings.listen {
             Some(address) => Some(at_step(Step::Listen, open_gossip(rt, &poll, address))?),
             None => None,
@@ -73,10 +77,21 @@ impl Listeners {
         Ok(Listeners {
             poll,
             local,
+            local_file,
             gossip,
             at_local: Queue::new(),
             at_gossip: Queue::new(),
         })
+    }
+
+    /// Removes the socket's file, unless its path names something else by now. One that stays is
+    /// replaced by the next replica.
+    pub(crate) fn remove_socket<R: Files>(&self, rt: &R, path: &str) {
+        if let Ok(found) = file_id(rt, path)
+            && found == self.local_file
+        {
+            let _ = fs::remove_file(rt, path);
+        }
     }
 
     /// The poll reports that somebody waits.

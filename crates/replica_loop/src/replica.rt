@@ -12,7 +12,6 @@ use state_files::{
     FoundFiles, StateBeginning, StateLock, has_journal, is_marked, state_bytes, try_lock_state,
 };
 use std::alloc::Global;
-use std::fs;
 use std::fs::{File, Files};
 use std::io::{Eprint, Print};
 use std::net::Net;
@@ -45,11 +44,11 @@ pub fn run_replica<R: Runtime<File = File, A = Global> + Net>(
     settings: &Settings<'_, '_>,
 ) -> Result<(), Exit> {
     let alloc = rt.alloc();
-    let _lock = lock(rt, alloc, settings.state)?;
+    let lock = lock(rt, alloc, settings.state)?;
     let mut beginning = find(rt, alloc, settings)?;
     let closure: ExchangeClosure = load(rt, alloc, config, &mut beginning, settings.state)?;
     let mut held = HeldState::new(alloc, closure);
-    run_held(rt, alloc, &mut held, beginning, settings)
+    run_held(rt, alloc, &mut held, lock, beginning, settings)
 }
 
 fn lock<R: Files<File = File>>(rt: &R, alloc: Global, path: &str) -> Result<StateLock, Exit> {
@@ -81,8 +80,9 @@ fn find<R: Files<File = File>>(
     }
 }
 
-// What is held, all of which is in the snapshot then.
-fn load<C: Closure, R: Files<File = File>>(
+// What is held, all of which is in the snapshot then; or, where that could not be written, in the
+// files as they were.
+fn load<C: Closure, R: Files<File = File> + Eprint>(
     rt: &R,
     alloc: Global,
     config: &Config,
@@ -90,7 +90,12 @@ fn load<C: Closure, R: Files<File = File>>(
     path: &str,
 ) -> Result<C, Exit> {
     let closure: C = beginning.load(rt, alloc, config, path)?;
-    file_at_step(Step::Save, beginning.save(rt, alloc, &closure, path))?;
+    match beginning.save(rt, alloc, &closure, path) {
+        Err(fault) if beginning.is_resumed() => {
+            log_event(rt, alloc, LogEvent::FoldFault(fault.why));
+        }
+        saved => file_at_step(Step::Save, saved)?,
+    }
     Ok(closure)
 }
 
@@ -98,15 +103,15 @@ fn run_held<C: Closure, R: Files<File = File> + Net + Clock + Print + Eprint>(
     rt: &R,
     alloc: Global,
     held: &mut HeldState<C>,
+    lock: StateLock,
     beginning: StateBeginning,
     settings: &Settings<'_, '_>,
 ) -> Result<(), Exit> {
-    let mut running = RunningReplica::begin(rt, alloc, &held.closure, beginning, settings)?;
+    let mut running = RunningReplica::begin(rt, alloc, &held.closure, lock, beginning, settings)?;
     let mut events = Events::with_capacity(alloc, MOST_EVENTS)?;
     print_ready(rt, alloc, &held.closure)?;
     let ended = run_turns(rt, alloc, held, &mut running, &mut events, settings);
-    // A socket that stays is replaced by the next replica.
-    let _ = fs::remove_file(rt, settings.socket);
+    running.remove_socket(rt, settings.socket);
     ended
 }
 

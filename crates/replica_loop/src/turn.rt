@@ -1,9 +1,11 @@
 //! One turn of the loop: what is ready is read, what came is put on the disk, and only then
-//! anything is written. So nobody is shown a change that a kill could take back.
+//! anything is written. So nobody is shown a change that a kill could take back. `kept_files` has
+//! what is on the disk.
 use crate::connection_table::ConnectionTable;
 use crate::ending::Ending;
 use crate::event_log::{LogEvent, log_event};
 use crate::held_state::HeldState;
+use crate::kept_files::KeptFiles;
 use crate::listeners::{Arrival, Listeners};
 use crate::live_connection::LiveConnection;
 use crate::local_talk::{LocalTalk, Surroundings};
@@ -19,7 +21,7 @@ use fedbundle::{Exit, FileFault, Step};
 use mio::Events;
 use mio::net::TcpStream;
 use replica_sync::SyncError;
-use state_files::{FoldFault, Journal, StateBeginning, fold_state};
+use state_files::{StateBeginning, StateLock};
 use status_view::RunningStatus;
 use std::alloc::Global;
 use std::fs::{File, Files};
@@ -46,7 +48,7 @@ pub(crate) struct RunningReplica {
     listeners: Listeners,
     table: ConnectionTable,
     peers: Peers,
-    journal: Journal,
+    files: KeptFiles,
     now: Instant,
     // When it ends, once it was asked to.
     ends_at: Option<Instant>,
@@ -61,6 +63,7 @@ impl RunningReplica {
         rt: &R,
         alloc: Global,
         closure: &C,
+        lock: StateLock,
         beginning: StateBeginning,
         settings: &Settings<'_, '_>,
     ) -> Result<RunningReplica, Exit> {
@@ -71,7 +74,7 @@ impl RunningReplica {
             listeners,
             table: ConnectionTable::new(alloc)?,
             peers: Peers::new(alloc, settings.peers, settings.every, now)?,
-            journal: file_at_step(Step::Journal, journal)?,
+            files: KeptFiles::new(lock, file_at_step(Step::Journal, journal)?),
             now,
             ends_at: None,
             has_reported: false,
@@ -209,7 +212,7 @@ impl RunningReplica {
         let Some(peer) = self.peers.begin(self.now) else {
             return;
         };
-        let held = running_status(&self.journal, &self.peers).state_bytes();
+        let held = running_status(&self.files, &self.peers).state_bytes();
         let left = most_bytes.saturating_sub(held);
         if let Err(ending) = self.connect(rt, alloc, closure, peer, left) {
             self.peers.end(ending, 0, None);
@@ -248,7 +251,7 @@ impl RunningReplica {
     pub(crate) fn read<C: Closure>(&mut self, alloc: Global, held: &mut HeldState<C>) {
         let around = Surroundings {
             now: self.now,
-            running: running_status(&self.journal, &self.peers),
+            running: running_status(&self.files, &self.peers),
         };
         self.table.read(alloc, held, &around);
         if self.ends_at.is_none() && self.table.is_stopped() {
@@ -258,8 +261,14 @@ impl RunningReplica {
     }
 
     /// Puts on the disk what came in this turn. Where that fails, the replies say so.
-    pub(crate) fn commit<C: Closure>(&mut self, held: &mut HeldState<C>) -> Result<(), FileFault> {
-        match self.put_on_disk(held.fresh.as_slice()) {
+    pub(crate) fn commit<C: Closure, R: Files<File = File> + Eprint>(
+        &mut self,
+        rt: &R,
+        alloc: Global,
+        held: &mut HeldState<C>,
+        path: &str,
+    ) -> Result<(), FileFault> {
+        match self.files.keep(rt, alloc, held, &self.table, path) {
             Ok(()) => {
                 held.fresh.clear();
                 self.table.settle();
@@ -271,12 +280,6 @@ impl RunningReplica {
                 Err(fault)
             }
         }
-    }
-
-    fn put_on_disk(&mut self, pulled: &[u8]) -> Result<(), FileFault> {
-        self.journal.append(pulled)?;
-        self.table.append_to(&mut self.journal)?;
-        self.journal.sync()
     }
 
     /// Writes what is to be written on each connection.
@@ -303,30 +306,9 @@ impl RunningReplica {
         self.table.remove_ended();
     }
 
-    /// Writes the snapshot anew where the journal is long. Where that fails, the journal goes on.
-    pub(crate) fn fold<C: Closure, R: Files<File = File> + Eprint>(
-        &mut self,
-        rt: &R,
-        alloc: Global,
-        closure: &C,
-        path: &str,
-    ) -> Result<(), FileFault> {
-        if !self.journal.is_long() {
-            return Ok(());
-        }
-        match fold_state(rt, alloc, closure, path) {
-            Ok(Some(file)) => {
-                self.journal = Journal::of_file(rt, file, path)?;
-                log_event(rt, alloc, LogEvent::Fold(self.journal.snapshot_bytes()));
-            }
-            Ok(None) => self.journal.put_off(),
-            Err(FoldFault::Kept(fault)) => {
-                self.journal.put_off();
-                log_event(rt, alloc, LogEvent::FoldFault(fault.why));
-            }
-            Err(FoldFault::Emptying(fault)) => return Err(fault),
-        }
-        Ok(())
+    /// Removes the socket's file, if it is still that of this replica.
+    pub(crate) fn remove_socket<R: Files>(&self, rt: &R, path: &str) {
+        self.listeners.remove_socket(rt, path);
     }
 
     /// Whether it was asked to end, and the replies are sent or had their time.
@@ -339,10 +321,10 @@ impl RunningReplica {
 }
 
 // What the replica says of itself.
-fn running_status<'a>(journal: &Journal, peers: &'a Peers) -> RunningStatus<'a> {
+fn running_status<'a>(files: &KeptFiles, peers: &'a Peers) -> RunningStatus<'a> {
     RunningStatus {
-        snapshot_bytes: journal.snapshot_bytes(),
-        journal_bytes: journal.bytes(),
+        snapshot_bytes: files.snapshot_bytes(),
+        journal_bytes: files.journal_bytes(),
         peers: peers.statuses(),
     }
 }
@@ -390,9 +372,11 @@ pub(crate) fn turn<C: Closure, R: Files<File = File> + Net + Clock + Eprint>(
     running.accept(rt, alloc);
     running.begin_pull(rt, alloc, &held.closure, settings.most_bytes);
     running.read(alloc, held);
-    running.commit(held)?;
+    running.commit(rt, alloc, held, settings.state)?;
     running.write();
     running.end_connections(rt, alloc, settings.is_verbose);
-    running.fold(rt, alloc, &held.closure, settings.state)?;
+    running
+        .files
+        .fold(rt, alloc, &held.closure, settings.state)?;
     Ok(running.has_ended())
 }

@@ -2,11 +2,13 @@
 use crate::journal::Journal;
 use crate::load::load_state;
 use crate::made_files::MadeFiles;
+use crate::resume::resume_journal;
+use crate::state::{SeenState, see_state};
 use closure_core::Closure;
 use fed_config::Config;
 use fedbundle::{CommandError, FileFault};
 use replica_core::SyncError;
-use state_steps::{BeginStep, Beginning, FileStep, FoundFiles};
+use state_steps::{BeginStep, Beginning, FileStep, FoldEnd, FoundFiles};
 use std::alloc::{AllocError, Global};
 use std::fs::{File, Files};
 
@@ -23,6 +25,9 @@ const JOURNAL_STEPS: u32 = 2;
 pub struct StateBeginning {
     beginning: Beginning,
     made: MadeFiles,
+    has_journal: bool,
+    // Whether it goes on with the journal that was found, since the state could not be saved.
+    is_resumed: bool,
 }
 
 impl StateBeginning {
@@ -41,6 +46,8 @@ impl StateBeginning {
             Some(beginning) => Ok(Some(StateBeginning {
                 beginning,
                 made: MadeFiles::new(alloc, path)?,
+                has_journal: found.has_journal,
+                is_resumed: false,
             })),
             None => Ok(None),
         }
@@ -63,10 +70,15 @@ impl StateBeginning {
                 Ok(closure)
             }
             Err(error) => {
-                self.beginning.failed();
+                let _ = self.beginning.failed();
                 Err(error)
             }
         }
+    }
+
+    /// Whether it goes on where the save failed: the journal that was found is as it was.
+    pub fn is_resumed(&self) -> bool {
+        self.is_resumed
     }
 
     /// Saves what was loaded, where there was a journal or no state file.
@@ -91,7 +103,8 @@ impl StateBeginning {
         Ok(())
     }
 
-    /// Begins an empty journal.
+    /// Begins an empty journal; or goes on with the journal that was found, where the state could
+    /// not be saved.
     ///
     /// # Errors
     /// - [`SyncError::Io`]: the system refused a step, or what was loaded is not saved yet,
@@ -103,6 +116,9 @@ impl StateBeginning {
         closure: &C,
         path: &str,
     ) -> Result<Journal, FileFault> {
+        if self.is_resumed {
+            return resume_journal(files, alloc, path);
+        }
         for _ in 0..JOURNAL_STEPS {
             let Some(BeginStep::Change(step)) = self.beginning.next() else {
                 break;
@@ -110,9 +126,22 @@ impl StateBeginning {
             self.change(files, alloc, closure, path, step)?;
         }
         let is_done = self.beginning.is_done();
+        let state = self.state(files, path)?;
         match self.made.into_journal() {
-            Some(file) if is_done => Journal::of_file(files, file, path),
+            Some(file) if is_done => Journal::of_file(alloc, file, state, path),
             _ => Err(FileFault::from(SyncError::Io)),
+        }
+    }
+
+    // The state file: the one that was written here, or else the one that was loaded.
+    fn state<R: Files<File = File>>(
+        &mut self,
+        files: &R,
+        path: &str,
+    ) -> Result<SeenState, FileFault> {
+        match self.made.take_snapshot() {
+            Some(file) => Ok(SeenState::of_file(file)),
+            None => see_state(files, path),
         }
     }
 
@@ -130,9 +159,37 @@ impl StateBeginning {
                 Ok(())
             }
             Err(fault) => {
-                self.beginning.failed();
+                let end = self.beginning.failed();
+                self.is_resumed = self.has_journal && end == FoldEnd::JournalGoesOn;
                 Err(fault)
             }
         }
+    }
+}
+
+/// Begins anew while a replica runs: writes what it holds as the snapshot in the state file, and
+/// begins an empty journal. Whatever the files were before, what is held is in them then.
+///
+/// # Errors
+/// - [`SyncError::Io`]: the system refused a step,
+/// - [`SyncError::NoMemory`]: memory ran out.
+pub fn begin_anew<C: Closure, R: Files<File = File>>(
+    files: &R,
+    alloc: Global,
+    closure: &C,
+    path: &str,
+) -> Result<Journal, FileFault> {
+    let found = FoundFiles {
+        has_state: true,
+        has_journal: true,
+    };
+    match StateBeginning::of(alloc, path, found, true)? {
+        Some(mut again) => {
+            // What the files have is held.
+            again.beginning.done();
+            again.save(files, alloc, closure, path)?;
+            again.begin_journal(files, alloc, closure, path)
+        }
+        None => Err(FileFault::from(SyncError::Io)),
     }
 }

@@ -1,4 +1,5 @@
 //! A fold: what is held takes the place of the state file, and the journal is begun anew.
+use crate::journal::Journal;
 use crate::made_files::MadeFiles;
 use closure_core::Closure;
 use fedbundle::FileFault;
@@ -14,7 +15,7 @@ const STEPS: u32 = 6;
 pub enum FoldFault {
     /// The journal is as it was, and goes on.
     Kept(FileFault),
-    /// It was being emptied.
+    /// It was being emptied: nothing may be appended to it. The snapshot has all that is held.
     Emptying(FileFault),
 }
 
@@ -24,8 +25,8 @@ impl From<AllocError> for FoldFault {
     }
 }
 
-/// Writes what is held as the snapshot in the state file, and begins an empty journal, whose file
-/// is returned; or none, where the journal goes on.
+/// Writes what is held as the snapshot in the state file, and begins an empty journal in the place
+/// of this one. Returns whether it did, and not where the journal goes on.
 ///
 /// # Errors
 /// Where the system refused a step, or memory ran out.
@@ -34,7 +35,8 @@ pub fn fold_state<C: Closure, R: Files<File = File>>(
     alloc: Global,
     closure: &C,
     path: &str,
-) -> Result<Option<File>, FoldFault> {
+    journal: &mut Journal,
+) -> Result<bool, FoldFault> {
     let mut made = MadeFiles::new(alloc, path)?;
     let mut folding = Folding::begin();
     for _ in 0..STEPS {
@@ -47,11 +49,20 @@ pub fn fold_state<C: Closure, R: Files<File = File>>(
                 FoldEnd::ReplicaEnds => FoldFault::Emptying(fault),
             });
         }
+        if let Some(state) = made.take_snapshot() {
+            journal.see(state);
+        }
         folding.done();
     }
-    if folding.is_done() {
-        Ok(made.into_journal())
-    } else {
-        Ok(None)
+    match made.into_journal() {
+        Some(file) if folding.is_done() => begin_in_place(file, journal),
+        _ => Ok(false),
+    }
+}
+
+fn begin_in_place(file: File, journal: &mut Journal) -> Result<bool, FoldFault> {
+    match journal.begin_with(file) {
+        Ok(()) => Ok(true),
+        Err(fault) => Err(FoldFault::Emptying(fault)),
     }
 }

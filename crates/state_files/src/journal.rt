@@ -1,8 +1,12 @@
 //! The journal of a running replica: what came since the snapshot was written.
-use crate::state::state_bytes;
+use crate::file_names::journal_path;
+use crate::lock::StateLock;
+use crate::named_files::is_named;
+use crate::state::SeenState;
 use fedbundle::FileFault;
 use replica_core::SyncError;
 use state_steps::{AppendStep, Appending};
+use std::alloc::Global;
 use std::fs::{File, Files};
 use std::io::Write;
 
@@ -10,37 +14,92 @@ use std::io::Write;
 /// the snapshot's.
 const LONG_JOURNAL: u64 = 8_388_608;
 
-/// The journal's file, to which lines are appended, and how many bytes it and the snapshot have.
-/// [`Appending`] says what comes next: after a fault nothing is appended any more.
+/// The system's number for a file that was replaced (`ESTALE`).
+const STALE_FILE: i32 = 116;
+
+/// A file of a state whose name leads to another file now, or to none.
+#[derive(Clone, Copy, Debug, PartialEq, Eq)]
+pub enum LostFile {
+    /// The lock's: another command may have the state.
+    Lock,
+    /// The journal's: what was appended is in a file that nobody reads.
+    Journal,
+    /// The state's: what it had may be gone.
+    State,
+}
+
+impl LostFile {
+    /// The fault by which a replica ends that has lost the file.
+    pub fn fault(self) -> FileFault {
+        FileFault {
+            why: SyncError::Io,
+            code: Some(STALE_FILE),
+        }
+    }
+}
+
+/// Why lines may not be acknowledged.
+#[derive(Clone, Copy, Debug)]
+pub enum AppendFault {
+    /// The system refused a step.
+    File(FileFault),
+    /// The lines are on the disk, and a name leads to another file.
+    Lost(LostFile),
+}
+
+impl From<FileFault> for AppendFault {
+    fn from(fault: FileFault) -> AppendFault {
+        AppendFault::File(fault)
+    }
+}
+
+/// The journal's file, to which lines are appended, the state file beside it, and how many bytes
+/// the two have. [`Appending`] says what comes next: after a fault nothing is appended any more.
 #[derive(Drop)]
 pub struct Journal {
     file: File,
+    name: String,
     bytes: u64,
     appending: Appending,
+    state: SeenState,
     snapshot_bytes: u64,
     // How long it is when it is folded next, where folding it was refused before.
     fold_at: u64,
 }
 
 impl Journal {
-    /// The empty journal whose file was begun beside a state file that has all that is held.
-    ///
-    /// # Errors
-    /// Where the system does not say how long the two are: `NoMemory` if memory ran out, and else
-    /// `Io`.
-    pub fn of_file<R: Files<File = File>>(
-        files: &R,
+    /// The journal whose file was begun beside a state file that has all that is held.
+    pub(crate) fn of_file(
+        alloc: Global,
         file: File,
+        state: SeenState,
         path: &str,
     ) -> Result<Journal, FileFault> {
-        let snapshot_bytes = state_bytes(files, path)?.unwrap_or(0);
+        let snapshot_bytes = state.bytes()?;
         Ok(Journal {
             bytes: file.metadata()?.len(),
             file,
+            name: journal_path(alloc, path)?,
             appending: Appending::begin(),
+            state,
             snapshot_bytes,
             fold_at: LONG_JOURNAL.max(snapshot_bytes / 2),
         })
+    }
+
+    /// The state file was replaced by this one, which was written here.
+    pub(crate) fn see(&mut self, state: File) {
+        self.state = SeenState::of_file(state);
+    }
+
+    /// It was emptied: it goes on in this file.
+    pub(crate) fn begin_with(&mut self, file: File) -> Result<(), FileFault> {
+        self.snapshot_bytes = self.state.bytes()?;
+        self.bytes = file.metadata()?.len();
+        self.file = file;
+        self.appending = Appending::begin();
+        self.fold_at = LONG_JOURNAL.max(self.snapshot_bytes / 2);
+        Ok(())
     }
 
     /// Appends the lines. After a fault what the disk holds is not known.
@@ -73,20 +132,30 @@ impl Journal {
         }
     }
 
-    /// Has the system write to the disk what was appended. After a fault what the disk holds is not
-    /// known.
+    /// Has the system write to the disk what was appended, and looks whether the names of the lock,
+    /// of the journal and of the state at the path lead to the same files as before. Only then the
+    /// lines may be acknowledged. After a fault what the disk holds is not known.
     ///
     /// # Errors
-    /// `NoMemory` if the system says that memory ran out, and else `Io`; `Io` also where an earlier
-    /// call failed.
-    pub fn sync(&mut self) -> Result<(), FileFault> {
+    /// - [`AppendFault::File`]: `NoMemory` if the system says that memory ran out, and else `Io`;
+    ///   `Io` also where an earlier call failed,
+    /// - [`AppendFault::Lost`]: a name leads to another file.
+    pub fn sync<R: Files>(
+        &mut self,
+        files: &R,
+        lock: &StateLock,
+        path: &str,
+    ) -> Result<(), AppendFault> {
         if let Some(AppendStep::SyncLines) = self.appending.next() {
             self.sync_lines()?;
+        }
+        if let Some(AppendStep::SeeNames) = self.appending.next() {
+            self.see_names(files, lock, path)?;
         }
         if self.appending.is_done() {
             Ok(())
         } else {
-            Err(FileFault::from(SyncError::Io))
+            Err(AppendFault::File(FileFault::from(SyncError::Io)))
         }
     }
 
@@ -101,6 +170,47 @@ impl Journal {
                 Err(FileFault::from(error))
             }
         }
+    }
+
+    fn see_names<R: Files>(
+        &mut self,
+        files: &R,
+        lock: &StateLock,
+        path: &str,
+    ) -> Result<(), AppendFault> {
+        let fault = match self.lost_file(files, lock, path) {
+            Ok(None) => {
+                self.appending.done();
+                return Ok(());
+            }
+            Ok(Some(lost)) => AppendFault::Lost(lost),
+            Err(fault) => AppendFault::File(fault),
+        };
+        self.appending.failed();
+        Err(fault)
+    }
+
+    /// The first of the lock, the journal and the state whose name leads to another file now, or to
+    /// none.
+    ///
+    /// # Errors
+    /// Where the system does not say: `NoMemory` if memory ran out, and else `Io`.
+    pub fn lost_file<R: Files>(
+        &self,
+        files: &R,
+        lock: &StateLock,
+        path: &str,
+    ) -> Result<Option<LostFile>, FileFault> {
+        if !lock.is_named(files)? {
+            return Ok(Some(LostFile::Lock));
+        }
+        if !is_named(files, &self.file, self.name.as_str())? {
+            return Ok(Some(LostFile::Journal));
+        }
+        if !self.state.is_last(files, path)? {
+            return Ok(Some(LostFile::State));
+        }
+        Ok(None)
     }
 
     /// Whether it is long enough to be folded.

@@ -10,8 +10,9 @@
 //! appended. `load` reads both, `save` writes what is held and removes the journal, `begin` is what
 //! a replica that stays does first, and `fold` what it does where its journal is long. `made_files`
 //! does the steps of these three; a file that it makes is a `new_file`, whose mode and owner
-//! `access` gives. `file_names` has the files' names, and `named_files` what the system has under
-//! one.
+//! `access` gives. `resume` goes on with a journal where the state cannot be written. `file_names`
+//! has the files' names, and `named_files` what the system has under one: what this program did not
+//! make is never changed.
 #![tactic(auto)]
 
 mod access;
@@ -24,15 +25,16 @@ mod lock;
 mod made_files;
 mod named_files;
 mod new_file;
+mod resume;
 mod save;
 mod state;
 
-pub use begin::StateBeginning;
+pub use begin::{StateBeginning, begin_anew};
 pub use file_names::{has_journal, journal_path};
 pub use fold::{FoldFault, fold_state};
-pub use journal::Journal;
+pub use journal::{AppendFault, Journal, LostFile};
 pub use load::load_state;
 pub use lock::{StateLock, is_marked, try_lock_state};
-pub use save::save_state;
+pub use save::{save_snapshot, save_state};
 pub use state::{SeenState, see_state, state_bytes};
 pub use state_steps::FoundFiles;

@@ -1,13 +1,14 @@
 //! The lock of a state file.
 use crate::access::owner_only;
 use crate::file_names::lock_path;
-use crate::named_files::{found, is_named};
+use crate::named_files::{foreign_file, found, is_named, is_plain_file};
 use fedbundle::FileFault;
 use replica_core::SyncError;
 use std::alloc::Global;
-use std::fs;
 use std::fs::{File, Files, TryLockError};
-use std::io::Write;
+use std::io::{ErrorKind, Write};
+use std::os::unix::fs::FileExt;
+use std::{fs, io};
 
 /// How often the lock is taken anew because its file was removed or replaced meanwhile.
 const MAX_LOCK_TRIES: u32 = 100;
@@ -15,21 +16,40 @@ const MAX_LOCK_TRIES: u32 = 100;
 /// What a running replica writes into the lock's file: that it has bytes says so.
 const MARK: &[u8] = b"a replica is running\n";
 
+const MARK_BYTES: usize = 21;
+
 /// Keeps other commands that write the same state file waiting, until it is dropped or the process
 /// ends. It is an exclusive lock of the file named like the state file with `.lock` after it,
 /// which stays where it is.
 #[derive(Drop)]
 pub struct StateLock {
     file: File,
+    name: String,
 }
 
 impl StateLock {
+    /// Whether the lock's name still leads to the file that is locked.
+    ///
+    /// # Errors
+    /// Where the system does not say: `NoMemory` if memory ran out, and else `Io`.
+    pub(crate) fn is_named<R: Files>(&self, files: &R) -> Result<bool, FileFault> {
+        is_named(files, &self.file, self.name.as_str())
+    }
+
     /// Leaves a mark in the lock's file that a replica has the lock, and will keep it.
     ///
     /// # Errors
-    /// `NoMemory` if the system says that memory ran out, and else `Io`.
+    /// `NoMemory` if the system says that memory ran out, and else `Io`. The file is empty then,
+    /// unless the system refuses that too.
     pub fn mark(&mut self) -> Result<(), FileFault> {
-        Ok(self.file.write_all(MARK)?)
+        match self.file.write_all(MARK) {
+            Ok(()) => Ok(()),
+            Err(error) => {
+                // A part of the line would be taken for another program's.
+                let _ = self.file.set_len(0);
+                Err(FileFault::from(error))
+            }
+        }
     }
 }
 
@@ -45,10 +65,12 @@ pub fn is_marked<R: Files>(files: &R, alloc: Global, path: &str) -> Result<bool,
 
 /// Takes the lock, or returns `None` at once where another command that writes this state file is
 /// at work. A lock's file that is not there is made with the mode 0600, so that no other account
-/// can lock it. Where the file was removed or replaced meanwhile, the new one is locked.
+/// can lock it. Where the file was removed or replaced meanwhile, the new one is locked. A file
+/// that this program did not write stays as it is.
 ///
 /// # Errors
 /// - [`SyncError::Io`]: the lock's file cannot be made or locked, or was replaced a hundred times,
+///   or what has its name is no file, or one with another text than a lock's,
 /// - [`SyncError::NoMemory`]: memory ran out.
 pub fn try_lock_state<R: Files<File = File>>(
     files: &R,
@@ -57,22 +79,36 @@ pub fn try_lock_state<R: Files<File = File>>(
 ) -> Result<Option<StateLock>, FileFault> {
     let name = lock_path(alloc, path)?;
     for _ in 0..MAX_LOCK_TRIES {
-        let file = open_lock(files, name.as_str())?;
-        if !has_locked(&file)? {
-            return Ok(None);
-        }
-        if is_named(files, &file, name.as_str())? {
-            clear_mark(&file)?;
-            return Ok(Some(StateLock { file }));
+        if let Some(file) = open_lock(files, name.as_str())? {
+            if !has_locked(&file)? {
+                return Ok(None);
+            }
+            if is_named(files, &file, name.as_str())? {
+                clear_mark(&file)?;
+                return Ok(Some(StateLock { file, name }));
+            }
         }
     }
     Err(FileFault::from(SyncError::Io))
 }
 
-fn open_lock<R: Files<File = File>>(files: &R, name: &str) -> Result<File, FileFault> {
+// The lock's file, without following a link; or `None` where it came or went meanwhile.
+fn open_lock<R: Files<File = File>>(files: &R, name: &str) -> Result<Option<File>, FileFault> {
     let mut options = owner_only();
-    options.create(true);
-    Ok(options.open(files, name)?)
+    options.read(true);
+    if is_plain_file(files, name)? {
+        return found(options.open(files, name));
+    }
+    options.create_new(true);
+    made(options.open(files, name))
+}
+
+fn made(answer: io::Result<File>) -> Result<Option<File>, FileFault> {
+    match answer {
+        Ok(file) => Ok(Some(file)),
+        Err(error) if error.kind() == ErrorKind::AlreadyExists => Ok(None),
+        Err(error) => Err(FileFault::from(error)),
+    }
 }
 
 // Whether the file is locked now; else another open of it has the lock.
@@ -84,10 +120,20 @@ fn has_locked(file: &File) -> Result<bool, FileFault> {
     }
 }
 
-// Takes away the mark of a replica that was killed.
+// Takes away the mark of a replica that was killed. A file with another text is refused.
 fn clear_mark(file: &File) -> Result<(), FileFault> {
-    if file.metadata()?.len() > 0 {
-        file.set_len(0)?;
+    let bytes = file.metadata()?.len();
+    if bytes == 0 {
+        return Ok(());
     }
-    Ok(())
+    if bytes != MARK.len() as u64 || !has_mark(file)? {
+        return Err(foreign_file());
+    }
+    Ok(file.set_len(0)?)
+}
+
+fn has_mark(file: &File) -> Result<bool, FileFault> {
+    let mut bytes = [0; MARK_BYTES];
+    file.read_exact_at(&mut bytes, 0)?;
+    Ok(bytes.as_slice() == MARK)
 }

@@ -1,7 +1,7 @@
 //! The steps that change the files of a state, as calls of the system.
 use crate::file_names::{journal_path, new_path, sync_folder};
-use crate::named_files::found;
-use crate::new_file::{create_new, with_snapshot};
+use crate::named_files::remove_own;
+use crate::new_file::{create_new, write_closure};
 use closure_core::Closure;
 use fed_config::Config;
 use fedbundle::FileFault;
@@ -13,11 +13,12 @@ use std::fs::{File, Files};
 use std::io::Write;
 
 /// The names of the files beside a state file, and the files that are made, each from its writing
-/// on: the new snapshot until it has its name, and the journal.
+/// on: the new snapshot, which has its own name later, and the journal.
 #[derive(Drop)]
 pub(crate) struct MadeFiles {
     new_name: String,
     journal_name: String,
+    new: Option<File>,
     snapshot: Option<File>,
     journal: Option<File>,
 }
@@ -29,9 +30,15 @@ impl MadeFiles {
         Ok(MadeFiles {
             new_name: new_path(alloc, path)?,
             journal_name,
+            new: None,
             snapshot: None,
             journal: None,
         })
+    }
+
+    /// The snapshot that has its name now, once.
+    pub(crate) fn take_snapshot(&mut self) -> Option<File> {
+        self.snapshot.take()
     }
 
     /// The journal that was begun.
@@ -39,7 +46,8 @@ impl MadeFiles {
         self.journal
     }
 
-    /// Does the step to the files of the state file at the path.
+    /// Does the step to the files of the state file at the path. Where it fails, no new snapshot is
+    /// left that never gets its name.
     pub(crate) fn do_step<C: Closure, R: Files<File = File>>(
         &mut self,
         files: &R,
@@ -48,27 +56,57 @@ impl MadeFiles {
         path: &str,
         step: FileStep,
     ) -> Result<(), FileFault> {
+        let done = self.try_step(files, alloc, closure, path, step);
+        if done.is_err() && step.leaves_new() {
+            self.remove_new(files);
+        }
+        done
+    }
+
+    fn try_step<C: Closure, R: Files<File = File>>(
+        &mut self,
+        files: &R,
+        alloc: Global,
+        closure: &C,
+        path: &str,
+        step: FileStep,
+    ) -> Result<(), FileFault> {
         match step {
-            FileStep::WriteSnapshot => {
-                let file = create_new(files, self.new_name.as_str(), path)?;
-                self.snapshot = Some(with_snapshot(alloc, closure, file)?);
-                Ok(())
-            }
-            FileStep::SyncSnapshot => sync_file(&self.snapshot),
+            FileStep::WriteSnapshot => self.write_snapshot(files, alloc, closure, path),
+            FileStep::SyncSnapshot => sync_file(&self.new),
             FileStep::ReplaceSnapshot => {
-                self.snapshot = None;
-                Ok(fs::rename(files, self.new_name.as_str(), path)?)
+                fs::rename(files, self.new_name.as_str(), path)?;
+                self.snapshot = self.new.take();
+                Ok(())
             }
             FileStep::SyncFolder => sync_folder(files, path),
-            FileStep::RemoveJournal => {
-                found(fs::remove_file(files, self.journal_name.as_str()))?;
-                Ok(())
-            }
+            FileStep::RemoveJournal => remove_own(files, self.journal_name.as_str()),
             FileStep::BeginJournal => self.begin_journal(files, alloc, closure.config(), path),
             FileStep::SyncJournal => {
                 sync_file(&self.journal)?;
                 sync_folder(files, path)
             }
+        }
+    }
+
+    fn write_snapshot<C: Closure, R: Files<File = File>>(
+        &mut self,
+        files: &R,
+        alloc: Global,
+        closure: &C,
+        path: &str,
+    ) -> Result<(), FileFault> {
+        let file = self
+            .new
+            .insert(create_new(files, self.new_name.as_str(), path)?);
+        write_closure(alloc, closure, file)
+    }
+
+    // Removes the new snapshot that was made here. That it stays changes nothing: nobody reads it,
+    // and the next one takes its place.
+    fn remove_new<R: Files>(&mut self, files: &R) {
+        if self.new.take().is_some() {
+            let _ = fs::remove_file(files, self.new_name.as_str());
         }
     }
 

@@ -1,8 +1,18 @@
-//! What the system has under a name.
+//! What the system has under a name, and whether this program made it.
 use fedbundle::FileFault;
+use replica_core::SyncError;
 use std::fs::{File, Files};
+use std::io::Read;
 use std::os::unix::fs::MetadataExt;
 use std::{fs, io};
+
+/// With what each snapshot and each journal begins.
+const BEGINNING: &[u8] = b"{\"config\":\"";
+
+const BEGINNING_BYTES: usize = 11;
+
+/// The system's number for a file that is there already (`EEXIST`).
+const FILE_EXISTS: i32 = 17;
 
 /// What the system says of a name, or `None` where nothing has the name.
 pub(crate) fn found<T: Drop>(answer: io::Result<T>) -> Result<Option<T>, FileFault> {
@@ -11,6 +21,44 @@ pub(crate) fn found<T: Drop>(answer: io::Result<T>) -> Result<Option<T>, FileFau
         Err(error) if error.kind() == io::ErrorKind::NotFound => Ok(None),
         Err(error) => Err(FileFault::from(error)),
     }
+}
+
+/// The fault where the file under a name is not one that this program made.
+pub(crate) fn foreign_file() -> FileFault {
+    FileFault {
+        why: SyncError::Io,
+        code: Some(FILE_EXISTS),
+    }
+}
+
+/// Whether a file has the name. A link or a pipe that has it is refused.
+pub(crate) fn is_plain_file<R: Files>(files: &R, name: &str) -> Result<bool, FileFault> {
+    match found(fs::symlink_metadata(files, name))? {
+        Some(there) if there.is_file() => Ok(true),
+        Some(_) => Err(foreign_file()),
+        None => Ok(false),
+    }
+}
+
+/// Removes the file that has the name, if there is one. What does not begin as a snapshot or a
+/// journal is refused, and stays as it is; a file without a byte is one that was just begun.
+pub(crate) fn remove_own<R: Files>(files: &R, name: &str) -> Result<(), FileFault> {
+    if is_plain_file(files, name)? {
+        if !begins_as_own(files, name)? {
+            return Err(foreign_file());
+        }
+        found(fs::remove_file(files, name))?;
+    }
+    Ok(())
+}
+
+fn begins_as_own<R: Files>(files: &R, name: &str) -> Result<bool, FileFault> {
+    let Some(mut file) = found(fs::open(files, name))? else {
+        return Ok(true);
+    };
+    let mut bytes = [0; BEGINNING_BYTES];
+    let count = file.read(&mut bytes)?.min(BEGINNING_BYTES);
+    Ok(BEGINNING.starts_with(&bytes[..count]))
 }
 
 /// Whether the open file is the one that has the name now.

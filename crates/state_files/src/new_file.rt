@@ -1,6 +1,6 @@
 //! A file that is to have a name of the state: how it is made, and how a snapshot gets into it.
 use crate::access::{owner_only, take_access};
-use crate::named_files::found;
+use crate::named_files::{found, remove_own};
 use byte_lines::FromWrite;
 use closure_core::Closure;
 use fedbundle::FileFault;
@@ -14,34 +14,45 @@ use std::{fs, io};
 /// The bytes that are gathered before they are written to the file.
 const BUFFER_BYTES: usize = 65_536;
 
-/// Makes the file that has the name from now on. A file that has it is removed first, so that
-/// nothing is written through a link or into a pipe. The new file has the mode and, where the
-/// system allows it, the owner and the group of the state file at the path; where it does not, the
-/// group has no access. Where there is no state file, the mode is 0600.
+/// Makes the file that has the name from now on. A file of this program that has it is removed
+/// first; anything else that has it is refused, and stays as it is. The new file has the mode and,
+/// where the system allows it, the owner and the group of the state file at the path; where it does
+/// not, the group has no access. Where there is no state file, the mode is 0600.
 pub(crate) fn create_new<R: Files<File = File>>(
     files: &R,
     name: &str,
     path: &str,
 ) -> Result<File, FileFault> {
-    found(fs::remove_file(files, name))?;
+    remove_own(files, name)?;
     let mut options = owner_only();
     options.create_new(true);
     let file = options.open(files, name)?;
-    if let Some(state) = found(fs::metadata(files, path))? {
-        take_access(&file, &state)?;
+    match take_state_access(files, &file, path) {
+        Ok(()) => Ok(file),
+        Err(fault) => {
+            // That it stays changes nothing: the next one takes its place.
+            let _ = fs::remove_file(files, name);
+            Err(fault)
+        }
     }
-    Ok(file)
+}
+
+fn take_state_access<R: Files>(files: &R, file: &File, path: &str) -> Result<(), FileFault> {
+    match found(fs::metadata(files, path))? {
+        Some(state) => take_access(file, &state),
+        None => Ok(()),
+    }
 }
 
 /// Writes a snapshot of what is held into the file.
-pub(crate) fn with_snapshot<C: Closure>(
+pub(crate) fn write_closure<C: Closure>(
     alloc: Global,
     closure: &C,
-    file: File,
-) -> Result<File, FileFault> {
+    file: &File,
+) -> Result<(), FileFault> {
     let mut noting = NotingFile { file, code: None };
     match write_into(alloc, closure, &mut noting) {
-        Ok(()) => Ok(noting.file),
+        Ok(()) => Ok(()),
         Err(why) => Err(FileFault {
             why,
             code: noting.code,
@@ -51,14 +62,14 @@ pub(crate) fn with_snapshot<C: Closure>(
 
 // A file that keeps the system's number of the last fault of a write.
 #[derive(Drop)]
-struct NotingFile {
-    file: File,
+struct NotingFile<'a> {
+    file: &'a File,
     code: Option<i32>,
 }
 
-impl io::Write for NotingFile {
+impl io::Write for NotingFile<'_> {
     fn write(&mut self, bytes: &[u8]) -> io::Result<usize> {
-        let mut file = &self.file;
+        let mut file = self.file;
         let written = file.write(bytes);
         if let Err(error) = &written {
             self.code = error.raw_os_error();
@@ -74,7 +85,7 @@ impl io::Write for NotingFile {
 fn write_into<C: Closure>(
     alloc: Global,
     closure: &C,
-    file: &mut NotingFile,
+    file: &mut NotingFile<'_>,
 ) -> Result<(), SyncError> {
     let buffer = match BufWriter::with_capacity(alloc, BUFFER_BYTES, file) {
         Ok(buffer) => buffer,

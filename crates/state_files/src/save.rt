@@ -33,9 +33,40 @@ pub fn save_state<C: Closure, R: Files<File = File>>(
     closure: &C,
     path: &str,
 ) -> Result<(), FileFault> {
+    let saving = save_within(files, alloc, closure, path, STEPS)?;
+    if saving.is_done() {
+        Ok(())
+    } else {
+        Err(FileFault::from(SyncError::Io))
+    }
+}
+
+/// The same without its last step: what has the journal's name stays as it is.
+///
+/// # Errors
+/// - [`SyncError::Io`]: the system refused a step,
+/// - [`SyncError::NoMemory`]: memory ran out.
+pub fn save_snapshot<C: Closure, R: Files<File = File>>(
+    files: &R,
+    alloc: Global,
+    closure: &C,
+    path: &str,
+) -> Result<(), FileFault> {
+    save_within(files, alloc, closure, path, STEPS - 1)?;
+    Ok(())
+}
+
+// A save that is over after so many steps.
+fn save_within<C: Closure, R: Files<File = File>>(
+    files: &R,
+    alloc: Global,
+    closure: &C,
+    path: &str,
+    steps: u32,
+) -> Result<Saving, FileFault> {
     let mut made = MadeFiles::new(alloc, path)?;
     let mut saving = Saving::begin();
-    for _ in 0..STEPS {
+    for _ in 0..steps {
         let Some(step) = saving.next() else {
             break;
         };
@@ -45,9 +76,5 @@ pub fn save_state<C: Closure, R: Files<File = File>>(
         }
         saving.done();
     }
-    if saving.is_done() {
-        Ok(())
-    } else {
-        Err(FileFault::from(SyncError::Io))
-    }
+    Ok(saving)
 }

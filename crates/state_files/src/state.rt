@@ -36,6 +36,19 @@ pub fn see_state<R: Files<File = File>>(files: &R, path: &str) -> Result<SeenSta
 }
 
 impl SeenState {
+    /// The state file is this one, which was written here.
+    pub(crate) fn of_file(file: File) -> SeenState {
+        SeenState { file: Some(file) }
+    }
+
+    /// How many bytes it has; none where there was no file.
+    pub(crate) fn bytes(&self) -> Result<u64, FileFault> {
+        match &self.file {
+            Some(file) => Ok(file.metadata()?.len()),
+            None => Ok(0),
+        }
+    }
+
     /// Whether no command has written the state file since: each gives it to a new file.
     ///
     /// # Errors

@@ -7,7 +7,7 @@ use Rattle.state_steps.specs.Files.{appending, kept_file, longer_file, synced_fi
 use Rattle.state_steps.specs.declared.appending.AppendStage.{AppendStage}
 use Rattle.state_steps.specs.declared.appending.AppendStage.TheVariants.{OnDisk, Due, Failed}
 use Rattle.state_steps.specs.declared.appending.AppendStep.{AppendStep}
-use Rattle.state_steps.specs.declared.appending.AppendStep.TheVariants.{WriteLines, SyncLines}
+use Rattle.state_steps.specs.declared.appending.AppendStep.TheVariants.{WriteLines, SyncLines, SeeNames}
 use Rattle.state_steps.proofs.LineFacts.{keeping_appending, keeping_longer, kept_has}
 
 -- ---- the journal's one file
@@ -44,7 +44,9 @@ keeping_synced snapshots (file ∷ (other ∷ files)) line one keeping = absurd 
 pub add_due : (written : List ℕ) (stage : AppendStage) (disk : StateDisk) → IsAppendedOn written stage disk
     → IsAppendedOn written (with_lines stage) disk
 add_due written OnDisk disk due = kept_written written disk.journal due
-add_due written (Due step) disk due = due
+add_due written (Due WriteLines) disk due = due
+add_due written (Due SyncLines) disk due = due
+add_due written (Due SeeNames) disk due = kept_written written disk.journal due
 add_due written Failed disk due = due
 
 pub append_due : (written bytes : List ℕ) (stage : AppendStage) (disk : StateDisk) → IsAppendedOn written stage disk
@@ -52,6 +54,7 @@ pub append_due : (written bytes : List ℕ) (stage : AppendStage) (disk : StateD
 append_due written bytes OnDisk disk due = due
 append_due written bytes (Due WriteLines) disk due = more_written written bytes disk.journal due
 append_due written bytes (Due SyncLines) disk due = synced_written written disk.journal due
+append_due written bytes (Due SeeNames) disk due = due
 append_due written bytes Failed disk due = due
 
 pub append_kept : (written bytes : List ℕ) (stage : AppendStage) (disk : StateDisk) (line : List ℕ)
@@ -61,6 +64,7 @@ append_kept written bytes (Due WriteLines) disk line due kept =
     keeping_appending disk.snapshot disk.journal bytes line (one_written written disk.journal due) kept
 append_kept written bytes (Due SyncLines) disk line due kept =
     keeping_synced disk.snapshot disk.journal line (one_written written disk.journal due) kept
+append_kept written bytes (Due SeeNames) disk line due kept = kept
 append_kept written bytes Failed disk line due kept = kept
 
 -- What a step that failed leaves keeps each line that was kept.
@@ -72,6 +76,7 @@ append_failed written bytes (Due WriteLines) disk left line due kept fails = sub
 append_failed written bytes (Due SyncLines) disk left line due kept (inl is) = subst (λ d. KeepsLine d line) (sym is) kept
 append_failed written bytes (Due SyncLines) disk left line due kept (inr is) = subst (λ d. KeepsLine d line) (sym is)
     (keeping_synced disk.snapshot disk.journal line (one_written written disk.journal due) kept)
+append_failed written bytes (Due SeeNames) disk left line due kept fails = subst (λ d. KeepsLine d line) (sym fails) kept
 append_failed written bytes Failed disk left line due kept fails = subst (λ d. KeepsLine d line) (sym fails) kept
 
 -- ---- what may be acknowledged

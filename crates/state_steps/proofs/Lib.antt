@@ -4,3 +4,4 @@ mod FoldFacts
 mod SaveFacts
 mod BeginFacts
 mod AppendFacts
+mod ResumeFacts

@@ -1,10 +1,12 @@
--- Lines are appended to a journal: they are written at its end, and then put on the disk.
+-- Lines are appended to a journal: they are written at its end, and put on the disk; and then it is
+-- looked whether the names still lead to the files.
 use Rattle.std.specs.Prelude.{◌≡◌, ℕ, ◌⊎◌, ◌++◌, List, [], ◌∷◌, take, Option, None, Some}
 use Rattle.state_steps.specs.Files.{FileText, KeepsLine, StateDisk, appending, kept_file}
 use Rattle.state_steps.specs.Files.{synced_file, text_now, with_first}
 use Rattle.state_steps.specs.declared.appending.Appending.{Appending}
 use Rattle.state_steps.specs.declared.appending.AppendStep.{AppendStep}
 use Rattle.state_steps.specs.declared.appending.AppendStep.TheVariants.{WriteLines, SyncLines}
+use Rattle.state_steps.specs.declared.appending.AppendStep.TheVariants.{SeeNames}
 use Rattle.state_steps.specs.declared.appending.AppendStage.{AppendStage}
 use Rattle.state_steps.specs.declared.appending.AppendStage.TheVariants.{OnDisk, Due, Failed}
 
@@ -26,12 +28,14 @@ with_lines Failed = Failed
 abbrev pub following_append : AppendStage → AppendStage
 following_append OnDisk = OnDisk
 following_append (Due WriteLines) = Due SyncLines
-following_append (Due SyncLines) = OnDisk
+following_append (Due SyncLines) = Due SeeNames
+following_append (Due SeeNames) = OnDisk
 following_append Failed = Failed
 
 -- ---- what the steps do
 
--- These bytes are written at the end of the journal, or it is put on the disk.
+-- These bytes are written at the end of the journal, or it is put on the disk. A look changes
+-- nothing.
 abbrev pub after_append : List ℕ → AppendStage → StateDisk → StateDisk
 after_append bytes (Due WriteLines) disk = appending bytes disk
 after_append bytes (Due SyncLines) disk = record disk {
@@ -64,6 +68,7 @@ IsWrittenTo written _ = ⊥
 -- the journal at this stage, of which this text was written
 abbrev pub IsAppendedOn : List ℕ → AppendStage → StateDisk → Type 0
 IsAppendedOn written OnDisk disk = disk.journal ≡ kept_file written ∷ []
+IsAppendedOn written (Due SeeNames) disk = disk.journal ≡ kept_file written ∷ []
 IsAppendedOn written (Due step) disk = IsWrittenTo written disk.journal
 IsAppendedOn written Failed disk = Unit {0}
 

@@ -12,6 +12,8 @@ use Rattle.state_steps.specs.declared.beginning.BeginStep as step
 use Rattle.state_steps.specs.declared.beginning.BeginStage.{BeginStage}
 use Rattle.state_steps.specs.declared.beginning.BeginStage.TheVariants.{LoadAndSave, Load, Change}
 use Rattle.state_steps.specs.declared.beginning.BeginStage.TheVariants.{Done, Failed}
+use Rattle.state_steps.specs.declared.folding.FoldEnd.{FoldEnd}
+use Rattle.state_steps.specs.declared.folding.FoldEnd.TheVariants.{JournalGoesOn, ReplicaEnds}
 use Rattle.state_steps.specs.declared.saving.SaveStage.TheVariants.{Due}
 use Rattle.state_steps.specs.declared.file_step.FileStep.{FileStep}
 use Rattle.state_steps.specs.declared.file_step.FileStep.TheVariants.{WriteSnapshot, SyncSnapshot}
@@ -115,3 +117,13 @@ pub record BeginKeeps (texts : StateTexts) (begin : Beginning) (disk : StateDisk
 pub record HasBegun (texts : StateTexts) (begin : Beginning) (disk : StateDisk) : Type 0 where
   pub done : begin.stage ≡ Done
   pub journal : disk.journal ≡ kept_file texts.first_line ∷ []
+
+-- ---- a beginning that failed
+
+-- what is to be done where the step failed: before the journal is removed, it is as it was found
+abbrev pub begin_end : BeginStage → FoldEnd
+begin_end (Change WriteSnapshot) = JournalGoesOn
+begin_end (Change SyncSnapshot) = JournalGoesOn
+begin_end (Change ReplaceSnapshot) = JournalGoesOn
+begin_end (Change SyncFolder) = JournalGoesOn
+begin_end _ = ReplicaEnds

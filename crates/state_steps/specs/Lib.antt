@@ -4,3 +4,4 @@ pub mod Folds
 pub mod Saves
 pub mod Begins
 pub mod Appends
+pub mod Resumes

@@ -1,5 +1,6 @@
 -- What the steps make of the files of a state, and what a step that fails may leave.
-use Rattle.std.specs.Prelude.{◌≡◌, ℕ, ◌⊎◌, List, [], ◌∷◌, take, Option, None, Some}
+use Rattle.std.specs.Prelude.{◌≡◌, ℕ, ◌⊎◌, Bool, true, false, List, [], ◌∷◌, take, Option, None}
+use Rattle.std.specs.Prelude.{Some}
 use Rattle.state_steps.specs.Files.{FileText, HasWholeLine, StateDisk, kept_file, settled_name}
 use Rattle.state_steps.specs.Files.{synced_file, unkept_file, with_first}
 use Rattle.state_steps.specs.declared.file_step.FileStep.{FileStep}
@@ -67,3 +68,16 @@ FailsTo texts step disk left = IsDoneOrNot texts step disk left
 abbrev pub FailsDue : StateTexts → Option FileStep → StateDisk → StateDisk → Type 0
 FailsDue texts None disk left = left ≡ disk
 FailsDue texts (Some step) disk left = FailsTo texts step disk left
+
+-- ---- what is left under the name that nobody reads
+
+-- Where this step failed, a new snapshot may be left that never gets its name.
+abbrev pub leaves_new : FileStep → Bool
+leaves_new WriteSnapshot = true
+leaves_new SyncSnapshot = true
+leaves_new ReplaceSnapshot = true
+leaves_new _ = false
+
+-- The new snapshot is removed.
+abbrev pub without_new : StateDisk → StateDisk
+without_new disk = record disk { new = kept_file [] }

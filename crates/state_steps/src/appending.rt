@@ -13,12 +13,15 @@ pub enum AppendStep {
     WriteLines,
     /// The system puts the journal on the disk.
     SyncLines,
+    /// It is looked whether the names of the lock, the journal and the state lead to the same files
+    /// as before. Else what was written may be in files that nobody reads.
+    SeeNames,
 }
 
 /// How far what was written has come.
 #[derive(Clone, Copy, Debug, PartialEq, Eq)]
 enum AppendStage {
-    /// All that was written to it is on the disk.
+    /// All that was written to it is on the disk, under its name.
     OnDisk,
     /// This step comes next.
     Due(AppendStep),
@@ -61,7 +64,7 @@ impl Appending {
         }
     }
 
-    /// Whether all that was written is on the disk, so that it may be acknowledged.
+    /// Whether all that was written is on the disk, under its name, so that it may be acknowledged.
     ///
     /// - `acknowledged`: each whole line of what was written is kept.
     pub fn is_done(&self) -> bool
@@ -94,7 +97,8 @@ impl Appending {
     /// Says that the step that was due is done.
     ///
     /// - `keeps`: no line is lost, and the journal is as it has to be for the next step.
-    /// - `next`: what is written is put on the disk next, and only after that all is done.
+    /// - `next`: what is written is put on the disk next, then the names are looked at, and only
+    ///   after that all is done.
     pub fn done(&mut self)
         ensures keeps { (written bytes : List ℕ) (disk : StateDisk) (line : List ℕ)
             → AppendKeeps written self.old disk line
@@ -106,6 +110,7 @@ impl Appending {
     }
 
     /// Says that the step that was due failed: what it left is its work, or none or a part of it.
+    /// So it is also where a name leads to another file.
     ///
     /// - `keeps`: no line is lost that was kept before.
     /// - `over`: nothing is acknowledged, and nothing more may be appended.
@@ -126,7 +131,8 @@ fn stage_after(stage: AppendStage) -> AppendStage
 {
     match stage {
         AppendStage::Due(AppendStep::WriteLines) => AppendStage::Due(AppendStep::SyncLines),
-        AppendStage::Due(AppendStep::SyncLines) => AppendStage::OnDisk,
+        AppendStage::Due(AppendStep::SyncLines) => AppendStage::Due(AppendStep::SeeNames),
+        AppendStage::Due(AppendStep::SeeNames) => AppendStage::OnDisk,
         over => over,
     }
 }

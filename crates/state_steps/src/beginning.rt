@@ -2,12 +2,15 @@
 ghost use Rattle.std.specs.Prelude.{◌≡◌, ◌-◌, ◌↔◌, IsTrue, IsNone, IfSome, List, ℕ};
 ghost use Rattle.state_steps.specs.Begins.{BeginKeeps, IsBeginDueOn, HasBegun, IsFoundOn};
 ghost use Rattle.state_steps.specs.Begins.{IsWithoutState, begin_change, begin_step};
-ghost use Rattle.state_steps.specs.Begins.{begin_steps_left, first_stage, following_begin};
+ghost use Rattle.state_steps.specs.Begins.{begin_end, begin_steps_left, first_stage};
+ghost use Rattle.state_steps.specs.Begins.{following_begin};
 ghost use Rattle.state_steps.specs.Files.{KeepsLine, SnapshotsKeep, StateDisk};
 ghost use Rattle.state_steps.specs.Steps.{FailsDue, StateTexts, WritesLine, after_due};
 ghost use Rattle.state_steps.specs.declared.beginning.BeginStage.TheVariants.{Done, Failed};
+ghost use Rattle.state_steps.specs.declared.folding.FoldEnd.TheVariants.{JournalGoesOn};
 
 use crate::file_step::FileStep;
+use crate::folding::FoldEnd;
 
 /// Which files of a state were found.
 #[derive(Clone, Copy, Debug, PartialEq, Eq)]
@@ -131,17 +134,34 @@ impl Beginning {
     }
 
     /// Says that the step that was due failed: what it left is its work, or none or a part of it.
+    /// It returns what is to be done.
     ///
     /// - `keeps`: no line is lost.
+    /// - `goes_on`: where the journal goes on, it is as it was found.
+    /// - `ends`: it goes on where the state was to be written.
     /// - `over`: the beginning is over, and not done.
-    pub fn failed(&mut self)
+    pub fn failed(&mut self) -> FoldEnd
         ensures keeps { (texts : StateTexts) (disk left : StateDisk) (line : List ℕ)
             → BeginKeeps texts self.old disk line
             → FailsDue texts (begin_change self.old.stage) disk left
             → BeginKeeps texts self.new left line }
+        ensures goes_on { (texts : StateTexts) (disk left : StateDisk) → result ≡ JournalGoesOn
+            → FailsDue texts (begin_change self.old.stage) disk left
+            → left.journal ≡ disk.journal }
+        ensures ends { result ≡ begin_end self.old.stage }
         ensures over { self.new.stage ≡ Failed }
     {
+        let end = match self.stage {
+            BeginStage::Change(
+                FileStep::WriteSnapshot
+                | FileStep::SyncSnapshot
+                | FileStep::ReplaceSnapshot
+                | FileStep::SyncFolder,
+            ) => FoldEnd::JournalGoesOn,
+            _ => FoldEnd::ReplicaEnds,
+        };
         self.stage = BeginStage::Failed;
+        end
     }
 }
 

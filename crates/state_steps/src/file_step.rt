@@ -1,4 +1,6 @@
 //! The steps that change the files of a state.
+ghost use Rattle.std.specs.Prelude.{◌≡◌};
+ghost use Rattle.state_steps.specs.Steps.{leaves_new};
 
 /// A step that changes the files of a state: its snapshot, and the journal of what came since.
 #[derive(Clone, Copy, Debug, PartialEq, Eq)]
@@ -18,4 +20,17 @@ pub enum FileStep {
     BeginJournal,
     /// The system puts the new journal, and the folder, on the disk.
     SyncJournal,
+}
+
+impl FileStep {
+    /// Whether a new snapshot may be left where this step failed. Nobody reads it, so it is to be
+    /// removed; [`removals`](crate::laws::removals) says that this loses no line.
+    pub fn leaves_new(self) -> bool
+        ensures { result ≡ leaves_new self }
+    {
+        matches!(
+            self,
+            FileStep::WriteSnapshot | FileStep::SyncSnapshot | FileStep::ReplaceSnapshot
+        )
+    }
 }

@@ -10,12 +10,13 @@ ghost use Rattle.state_steps.specs.declared.folding.FoldEnd.TheVariants.{Journal
 
 use crate::file_step::FileStep;
 
-/// What is to be done where a step of a fold failed.
+/// What is to be done where a step of a fold, or of a beginning, failed.
 #[derive(Clone, Copy, Debug, PartialEq, Eq)]
 pub enum FoldEnd {
     /// The journal is as it was, and lines are appended to it as before.
     JournalGoesOn,
-    /// The journal was being emptied: what the disk has of it is not known, so the replica ends.
+    /// The journal was being removed or emptied: what the disk has of it is not known. Nothing may
+    /// be appended to it before a journal is begun anew.
     ReplicaEnds,
 }
 

@@ -7,10 +7,12 @@ ghost use Rattle.state_steps.specs.Files.{FileText, HasWholeLine, IsFirstFile, K
 ghost use Rattle.state_steps.specs.Files.{StateDisk, text_now};
 ghost use Rattle.state_steps.specs.Folds.{FoldKeeps};
 ghost use Rattle.state_steps.specs.Saves.{SaveKeeps};
-ghost use Rattle.state_steps.specs.Steps.{StateTexts};
+ghost use Rattle.state_steps.specs.Resumes.{ResumeKeeps, ResumeTexts};
+ghost use Rattle.state_steps.specs.Steps.{StateTexts, without_new};
 ghost use Rattle.state_steps.specs.declared.appending.Appending.{Appending};
 ghost use Rattle.state_steps.specs.declared.beginning.Beginning.{Beginning};
 ghost use Rattle.state_steps.specs.declared.folding.Folding.{Folding};
+ghost use Rattle.state_steps.specs.declared.resuming.Resuming.{Resuming};
 ghost use Rattle.state_steps.specs.declared.saving.Saving.{Saving};
 
 /// Wherever a machine stands: whatever a stop leaves then, each line that was kept is a whole line
@@ -24,6 +26,14 @@ pub fn stops()
         → BeginKeeps texts begin disk line → KeepsLine disk line }
     ensures append { (written : List ℕ) (journal : Appending) (disk : StateDisk) (line : List ℕ)
         → AppendKeeps written journal disk line → KeepsLine disk line }
+    ensures resume { (texts : ResumeTexts) (resuming : Resuming) (disk : StateDisk)
+        (line : List ℕ) → ResumeKeeps texts resuming disk line → KeepsLine disk line }
+{}
+
+/// The removal of a new snapshot that never gets its name loses no line, at whatever moment.
+pub fn removals()
+    ensures { (disk : StateDisk) (line : List ℕ) → KeepsLine disk line
+        → KeepsLine (without_new disk) line }
 {}
 
 /// Each line that is kept is a whole line of what is read now of the snapshot or of the journal. So

@@ -1,0 +1,157 @@
+//! The files in which a running replica keeps what it holds: the lock, the state and its journal.
+use crate::connection_table::ConnectionTable;
+use crate::event_log::{LogEvent, log_event};
+use crate::held_state::HeldState;
+use closure_core::Closure;
+use fedbundle::FileFault;
+use state_files::{
+    AppendFault, FoldFault, Journal, LostFile, StateLock, begin_anew, fold_state, save_snapshot,
+};
+use std::alloc::Global;
+use std::fs::{File, Files};
+use std::io::Eprint;
+
+/// The files of a running replica.
+#[derive(Drop)]
+pub(crate) struct KeptFiles {
+    lock: StateLock,
+    journal: Journal,
+    // Whether a fault came while the journal was emptied: the state file has all that is held, and
+    // no line may be appended before a journal is begun anew.
+    is_unsettled: bool,
+}
+
+impl KeptFiles {
+    pub(crate) fn new(lock: StateLock, journal: Journal) -> KeptFiles {
+        KeptFiles {
+            lock,
+            journal,
+            is_unsettled: false,
+        }
+    }
+
+    /// How many bytes the state file has.
+    pub(crate) fn snapshot_bytes(&self) -> u64 {
+        self.journal.snapshot_bytes()
+    }
+
+    /// How many bytes the journal has.
+    pub(crate) fn journal_bytes(&self) -> u64 {
+        self.journal.bytes()
+    }
+
+    /// Puts on the disk what came, and looks whether it is in the files that have the names. Only
+    /// then it may be acknowledged.
+    pub(crate) fn keep<C: Closure, R: Files<File = File> + Eprint>(
+        &mut self,
+        rt: &R,
+        alloc: Global,
+        held: &HeldState<C>,
+        table: &ConnectionTable,
+        path: &str,
+    ) -> Result<(), FileFault> {
+        if self.is_unsettled {
+            if held.fresh.is_empty() && !table.has_changes() {
+                return Ok(());
+            }
+            return self.begin_anew(rt, alloc, &held.closure, path);
+        }
+        match self.append(rt, held.fresh.as_slice(), table, path) {
+            Ok(()) => Ok(()),
+            Err(AppendFault::File(fault)) => Err(fault),
+            Err(AppendFault::Lost(lost)) => self.mend(rt, alloc, &held.closure, path, lost),
+        }
+    }
+
+    fn append<R: Files>(
+        &mut self,
+        files: &R,
+        pulled: &[u8],
+        table: &ConnectionTable,
+        path: &str,
+    ) -> Result<(), AppendFault> {
+        self.journal.append(pulled)?;
+        table.append_to(&mut self.journal)?;
+        self.journal.sync(files, &self.lock, path)
+    }
+
+    // A name leads to another file. Where that is the state's, all that is held is written anew;
+    // where it is the journal's, it is written, and the replica ends; and where it is the lock's,
+    // another command may have the state, so nothing is written.
+    fn mend<C: Closure, R: Files<File = File> + Eprint>(
+        &mut self,
+        rt: &R,
+        alloc: Global,
+        closure: &C,
+        path: &str,
+        lost: LostFile,
+    ) -> Result<(), FileFault> {
+        log_event(rt, alloc, LogEvent::Lost(lost));
+        match lost {
+            LostFile::Lock => Err(lost.fault()),
+            LostFile::Journal => {
+                if let Err(fault) = save_snapshot(rt, alloc, closure, path) {
+                    log_event(rt, alloc, LogEvent::FoldFault(fault.why));
+                }
+                Err(lost.fault())
+            }
+            LostFile::State => self.begin_anew(rt, alloc, closure, path),
+        }
+    }
+
+    fn begin_anew<C: Closure, R: Files<File = File> + Eprint>(
+        &mut self,
+        rt: &R,
+        alloc: Global,
+        closure: &C,
+        path: &str,
+    ) -> Result<(), FileFault> {
+        self.journal = begin_anew(rt, alloc, closure, path)?;
+        self.is_unsettled = false;
+        log_event(rt, alloc, LogEvent::Fold(self.snapshot_bytes()));
+        Ok(())
+    }
+
+    /// Writes the state file anew where the journal is long. Where that fails, the journal goes on,
+    /// or is begun anew before the next change is acknowledged.
+    pub(crate) fn fold<C: Closure, R: Files<File = File> + Eprint>(
+        &mut self,
+        rt: &R,
+        alloc: Global,
+        closure: &C,
+        path: &str,
+    ) -> Result<(), FileFault> {
+        if self.is_unsettled || !self.journal.is_long() {
+            return Ok(());
+        }
+        match self.journal.lost_file(rt, &self.lock, path) {
+            Ok(None) => self.fold_journal(rt, alloc, closure, path),
+            Ok(Some(lost)) => return self.mend(rt, alloc, closure, path, lost),
+            Err(fault) => self.put_off(rt, alloc, fault),
+        }
+        Ok(())
+    }
+
+    fn fold_journal<C: Closure, R: Files<File = File> + Eprint>(
+        &mut self,
+        rt: &R,
+        alloc: Global,
+        closure: &C,
+        path: &str,
+    ) {
+        match fold_state(rt, alloc, closure, path, &mut self.journal) {
+            Ok(true) => log_event(rt, alloc, LogEvent::Fold(self.snapshot_bytes())),
+            Ok(false) => self.journal.put_off(),
+            Err(FoldFault::Kept(fault)) => self.put_off(rt, alloc, fault),
+            Err(FoldFault::Emptying(fault)) => {
+                self.is_unsettled = true;
+                log_event(rt, alloc, LogEvent::FoldFault(fault.why));
+            }
+        }
+    }
+
+    fn put_off<R: Eprint>(&mut self, rt: &R, alloc: Global, fault: FileFault) {
+        self.journal.put_off();
+        log_event(rt, alloc, LogEvent::FoldFault(fault.why));
+    }
+}

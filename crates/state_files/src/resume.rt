@@ -1,0 +1,99 @@
+//! A replica goes on with the journal that it found.
+use crate::access::owner_only;
+use crate::file_names::{journal_path, sync_folder};
+use crate::journal::Journal;
+use crate::named_files::{foreign_file, is_plain_file};
+use crate::state::see_state;
+use fedbundle::FileFault;
+use memchr::memrchr;
+use replica_core::SyncError;
+use state_steps::{ResumeStep, Resuming};
+use std::alloc::Global;
+use std::fs::{File, Files};
+use std::os::unix::fs::FileExt;
+
+/// How many steps there are.
+const STEPS: u32 = 3;
+
+/// How many bytes of the journal are read at once.
+const READ_BYTES: usize = 65_536;
+
+/// The journal beside the state file at the path, to which lines may be appended: it is on the
+/// disk, without the part of a line that a kill may have left at its end.
+///
+/// # Errors
+/// - [`SyncError::Io`]: the system refused a step, or the journal has no whole line,
+/// - [`SyncError::NoMemory`]: memory ran out.
+pub(crate) fn resume_journal<R: Files<File = File>>(
+    files: &R,
+    alloc: Global,
+    path: &str,
+) -> Result<Journal, FileFault> {
+    let file = open_journal(files, alloc, path)?;
+    let whole = whole_bytes(alloc, &file)?;
+    if whole == 0 {
+        return Err(FileFault::from(SyncError::Io));
+    }
+    let mut resuming = Resuming::begin();
+    for _ in 0..STEPS {
+        let Some(step) = resuming.next() else {
+            break;
+        };
+        if let Err(fault) = do_step(files, &file, path, whole, step) {
+            resuming.failed();
+            return Err(fault);
+        }
+        resuming.done();
+    }
+    let mut journal = Journal::of_file(alloc, file, see_state(files, path)?, path)?;
+    journal.put_off();
+    Ok(journal)
+}
+
+fn open_journal<R: Files<File = File>>(
+    files: &R,
+    alloc: Global,
+    path: &str,
+) -> Result<File, FileFault> {
+    let name = journal_path(alloc, path)?;
+    if !is_plain_file(files, name.as_str())? {
+        return Err(foreign_file());
+    }
+    let mut options = owner_only();
+    options.read(true).append(true);
+    Ok(options.open(files, name.as_str())?)
+}
+
+fn do_step<R: Files>(
+    files: &R,
+    file: &File,
+    path: &str,
+    whole: u64,
+    step: ResumeStep,
+) -> Result<(), FileFault> {
+    match step {
+        ResumeStep::SyncFound | ResumeStep::SyncCut => {
+            file.sync_all()?;
+            sync_folder(files, path)
+        }
+        ResumeStep::CutLine => Ok(file.set_len(whole)?),
+    }
+}
+
+// How many bytes the whole lines have.
+fn whole_bytes(alloc: Global, file: &File) -> Result<u64, FileFault> {
+    let mut buffer = Vec::from_elem(alloc, 0, READ_BYTES)?;
+    let mut whole = 0u64;
+    let mut read = 0u64;
+    for _ in 0..u64::MAX {
+        let count = file.read_at(&mut buffer, read)?.min(READ_BYTES);
+        if count == 0 {
+            break;
+        }
+        if let Some(last) = memrchr(b'\n', &buffer[..count.min(buffer.len())]) {
+            whole = read.saturating_add(last as u64).saturating_add(1);
+        }
+        read = read.saturating_add(count as u64);
+    }
+    Ok(whole)
+}
