@@ -13,7 +13,7 @@ use crate::trials::Trials;
 use byte_lines::MemSink;
 use closure_core::Closure;
 use plain_closure::PlainClosure;
-use trust_closure::IndexedClosure;
+use trust_closure::{ExchangeClosure, IndexedClosure};
 
 /// A call that was made, and made again: what each answered, and the snapshots before, between and
 /// after.
@@ -67,10 +67,10 @@ pub(crate) fn refuse_each(
                 call: "take_within_room",
                 ..asked
             };
-            refuse_over_both(rt, within, trials, answer)?;
-            refuse_over_both(rt, asked, trials, answer)
+            refuse_over_each(rt, within, trials, answer)?;
+            refuse_over_each(rt, asked, trials, answer)
         }
-        "distrust" | "merge" | "observe" | "leak" => refuse_over_both(rt, asked, trials, answer),
+        "distrust" | "merge" | "observe" | "leak" => refuse_over_each(rt, asked, trials, answer),
         _ => {
             refuse_in_others(rt, asked, trials, answer)?;
             Ok(None)
@@ -89,15 +89,15 @@ fn refuse_in_others(
             refuse_alone(rt, asked, trials, answer)
         }
         "conflicts" | "explain" | "report" => {
-            refuse_over_both(rt, asked, trials, answer)?;
+            refuse_over_each(rt, asked, trials, answer)?;
             Ok(())
         }
         "have" | "answer" | "absorb" | "reserve" | "take_all_within_room" => {
-            refuse_over_both(rt, asked.over_named(true)?, trials, answer)?;
+            refuse_over_each(rt, asked.over_named(true)?, trials, answer)?;
             Ok(())
         }
         "snapshot" | "world" => {
-            refuse_over_both(rt, asked.over_named(false)?, trials, answer)?;
+            refuse_over_each(rt, asked.over_named(false)?, trials, answer)?;
             Ok(())
         }
         _ => Ok(()),
@@ -115,13 +115,14 @@ fn refuse_alone(
     Ok(())
 }
 
-fn refuse_over_both(
+fn refuse_over_each(
     rt: &HostRuntime,
     asked: Asked<'_>,
     trials: Trials,
     answer: &mut String,
 ) -> Result<Option<Vec<u8>>, Stop> {
     refuse_over::<PlainClosure>(rt, asked, trials, "rounds", answer)?;
+    refuse_over::<ExchangeClosure>(rt, asked, trials, "the exchange", answer)?;
     let lines = refuse_over::<IndexedClosure>(rt, asked, trials, "the index", answer)?;
     Ok(Some(lines))
 }

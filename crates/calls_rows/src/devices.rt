@@ -10,7 +10,7 @@ use crate::trials::Trials;
 use byte_lines::{FromWrite, FuseSink, FuseSource, MemSink, Source};
 use closure_core::Closure;
 use plain_closure::PlainClosure;
-use trust_closure::IndexedClosure;
+use trust_closure::{ExchangeClosure, IndexedClosure};
 
 /// A longer text has too many places.
 const MAX_TEXT: usize = 100_000;
@@ -33,12 +33,12 @@ pub(crate) fn fail_each(asked: Asked<'_>, trials: Trials, answer: &mut String) -
         return Ok(());
     }
     match asked.call {
-        "snapshot" => fail_over_both(asked.over_named(false)?, trials, answer),
+        "snapshot" => fail_over_each(asked.over_named(false)?, trials, answer),
         "serve" | "pull" => {
             let asked = asked.over_named(true)?;
             let call = "write_snapshot";
-            fail_over_both(Asked { call, ..asked }, trials, answer)?;
-            fail_over_both(asked, trials, answer)
+            fail_over_each(Asked { call, ..asked }, trials, answer)?;
+            fail_over_each(asked, trials, answer)
         }
         "run" if asked.words.starts_with("report --config ") => {
             let words = asked.words.strip_prefix("report --config ").unwrap_or("");
@@ -56,8 +56,9 @@ fn fail_reports(asked: Asked<'_>, trials: Trials, answer: &mut String) -> Result
     Ok(())
 }
 
-fn fail_over_both(asked: Asked<'_>, trials: Trials, answer: &mut String) -> Result<(), Stop> {
+fn fail_over_each(asked: Asked<'_>, trials: Trials, answer: &mut String) -> Result<(), Stop> {
     fail_over::<PlainClosure>(asked, trials, "rounds", answer)?;
+    fail_over::<ExchangeClosure>(asked, trials, "the exchange", answer)?;
     fail_over::<IndexedClosure>(asked, trials, "the index", answer)
 }
 

@@ -6,9 +6,9 @@ use crate::{changes, codes, links, polls, reports, views};
 use closure_core::Closure;
 use row_script::{Answers, Row, Rows, Script};
 use std::alloc::{AllocError, Global};
-use trust_closure::IndexedClosure;
+use trust_closure::{ExchangeClosure, IndexedClosure};
 
-impl<I: Closure + Counting, P: Closure> Rows for World<I, P> {
+impl<I: Closure + Counting, E: Closure + Counting, P: Closure> Rows for World<I, E, P> {
     fn answer(
         &mut self,
         script: &Script,
@@ -27,14 +27,14 @@ impl<I: Closure + Counting, P: Closure> Rows for World<I, P> {
 }
 
 /// Answers a row about no closure or about the index, and returns whether it is one.
-fn answer_alone<I: Closure + Counting, P: Closure>(
-    world: &mut World<I, P>,
+fn answer_alone<I: Closure + Counting, E: Closure + Counting, P: Closure>(
+    world: &mut World<I, E, P>,
     script: &Script,
     row: &Row<'_>,
     out: &mut String,
 ) -> Result<bool, RowFault> {
     match row.verb {
-        "index" => index(&world.indexed.here, out)?,
+        "index" => index_of_each(world, out)?,
         "codes" => codes::codes(row.words, out)?,
         "seconds" => polls::seconds(row.text.as_slice(), out)?,
         "interval" => polls::interval_of(row.words, out)?,
@@ -68,7 +68,31 @@ impl Counting for IndexedClosure {
     }
 }
 
-/// `index`: the nodes, the edges and the visits of the index.
+impl Counting for ExchangeClosure {
+    fn sizes(&self) -> (usize, usize, usize) {
+        self.index().counts()
+    }
+
+    fn visit_count(&self) -> usize {
+        self.index().visits()
+    }
+}
+
+/// `index`: the nodes, the edges and the visits of each index.
+fn index_of_each<I: Counting, E: Counting, P>(
+    world: &World<I, E, P>,
+    out: &mut String,
+) -> Result<(), AllocError> {
+    let mut indexed = String::new(world.alloc);
+    index(&world.indexed.here, &mut indexed)?;
+    let mut exchanging = String::new(world.alloc);
+    index(&world.exchanging.here, &mut exchanging)?;
+    let mut answers = Answers::new(world.alloc);
+    answers.add("index", indexed.as_str())?;
+    answers.add("exchange", exchanging.as_str())?;
+    answers.write(out)
+}
+
 fn index<I: Counting>(here: &I, out: &mut String) -> Result<(), AllocError> {
     let (nodes, offers, waits) = here.sizes();
     writeln!(
@@ -78,25 +102,27 @@ fn index<I: Counting>(here: &I, out: &mut String) -> Result<(), AllocError> {
     writeln!(out, "visits {}", here.visit_count())
 }
 
-fn answer_over_each<I: Closure, P: Closure>(
-    world: &mut World<I, P>,
+fn answer_over_each<I: Closure, E: Closure, P: Closure>(
+    world: &mut World<I, E, P>,
     script: &Script,
     row: &Row<'_>,
     out: &mut String,
 ) -> Result<(), AllocError> {
     let mut answers = Answers::new(world.alloc);
-    answer_over_both(world, script, row, &mut answers)?;
+    add_answers(world, script, row, &mut answers)?;
     answers.write(out)
 }
 
-fn answer_over_both<I: Closure, P: Closure>(
-    world: &mut World<I, P>,
+fn add_answers<I: Closure, E: Closure, P: Closure>(
+    world: &mut World<I, E, P>,
     script: &Script,
     row: &Row<'_>,
     answers: &mut Answers,
 ) -> Result<(), AllocError> {
     let alloc = world.alloc;
     answer_over(alloc, script, &mut world.indexed, row, "index", answers)?;
+    let exchanging = &mut world.exchanging;
+    answer_over(alloc, script, exchanging, row, "exchange", answers)?;
     if world.index_only {
         return Ok(());
     }

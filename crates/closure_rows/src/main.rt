@@ -3,12 +3,12 @@
 //! what is observed, and polls.
 //!
 //! The script that comes on standard input has these rows. A row about a replica is given to one
-//! over the index and to one over rounds, and what comes of both is shown once where it is the
-//! same.
+//! over the index, to one that also keeps ids, and to one over rounds. What comes of them is shown
+//! once if it is the same.
 //!
 //! Rows that change the replica:
 //! - `replica both CONFIG`: a new one of the configuration of this name, or with `index` in place
-//!   of `both` over the index alone,
+//!   of `both` one over an index alone, with ids and without,
 //! - `swap`: the replica beside takes the place of the one that rows are given to,
 //! - `take = RECEIPT`, `distrust = RECORD`: what it answers to a line, and how many receipts it
 //!   holds,
@@ -54,14 +54,16 @@ use closure_core::Closure;
 use plain_closure::PlainClosure;
 use replicas::World;
 use std::io;
-use trust_closure::IndexedClosure;
+use trust_closure::{ExchangeClosure, IndexedClosure};
 
 fn main(rt: HostRuntime) -> io::Result<()> {
-    run_over::<IndexedClosure, PlainClosure>(&rt)
+    run_over::<IndexedClosure, ExchangeClosure, PlainClosure>(&rt)
 }
 
-fn run_over<I: Closure + Counting, P: Closure>(rt: &HostRuntime) -> io::Result<()> {
-    match World::<I, P>::new(rt.alloc()) {
+fn run_over<I: Closure + Counting, E: Closure + Counting, P: Closure>(
+    rt: &HostRuntime,
+) -> io::Result<()> {
+    match World::<I, E, P>::new(rt.alloc()) {
         Ok(mut world) => row_script::run(rt, &mut world),
         Err(fault) => println!(rt; "{fault}"),
     }

@@ -18,22 +18,24 @@ pub(crate) struct Pair<C> {
 /// kinds these are is said in one place, since a function over the closures themselves takes the
 /// prover far longer than one over the trait.
 #[derive(Drop)]
-pub(crate) struct World<I, P> {
+pub(crate) struct World<I, E, P> {
     pub(crate) alloc: Global,
     pub(crate) indexed: Pair<I>,
+    pub(crate) exchanging: Pair<E>,
     pub(crate) plain: Pair<P>,
     pub(crate) log: PollLog,
     /// Whether rows act on the index alone.
     pub(crate) index_only: bool,
 }
 
-impl<I: Closure, P: Closure> World<I, P> {
+impl<I: Closure, E: Closure, P: Closure> World<I, E, P> {
     /// Replicas of a configuration without domains.
-    pub(crate) fn new(alloc: Global) -> Result<World<I, P>, RowFault> {
+    pub(crate) fn new(alloc: Global) -> Result<World<I, E, P>, RowFault> {
         let config = Config::read(alloc, br#"{"relationships":[],"seeds":[]}"#)?;
         Ok(World {
             alloc,
             indexed: two_replicas(alloc, &config)?,
+            exchanging: two_replicas(alloc, &config)?,
             plain: two_replicas(alloc, &config)?,
             log: PollLog::new(alloc, &config)?,
             index_only: false,

@@ -1,16 +1,21 @@
 -- Building the command, and what it takes out of words
 use Rattle.std.proofs.Common.{rules, ◌≡◌, ℕ, ◌+◌, ◌<◌, Bool, true, false, ◌&&◌, not, List, [], ◌∷◌, ◌++◌, map, length}
 use Rattle.std.proofs.Common.{get_or, drop, take, drop-cons, add-one, fold, Option, Some, None, is_some, option_map, unwrap_or, refl}
-use Rattle.std.proofs.Common.{sym, ap, ◌∙◌, append_assoc}
+use Rattle.std.proofs.Common.{sym, ap, ◌∙◌, append_assoc, subst, inl, inr}
 use Rattle.std.proofs.lemmas.List.Folds.{list_all_at, list_all_more}
 use Rattle.std.specs.List.{list_all}
-use Rattle.clap.specs.Words.{Row, Text, is_simple}
+use Rattle.clap.specs.Words.{HasKind, IsAmong, Row, Text, fault_of, is_simple, is_simple_and_free, kind_of, subcommand_of}
+use Rattle.clap.specs.declared.error.Error.{Error}
+use Rattle.clap.specs.declared.error.kind.ErrorKind.TheVariants.{OutOfMemory}
 use Rattle.command_line.specs.declared.command_name.CommandName.{CommandName}
 use Rattle.command_line.specs.declared.command_name.CommandName.TheVariants as command
 use Rattle.command_line.specs.declared.command_name.OptionName.{OptionName}
 use Rattle.command_line.specs.declared.command_name.OptionName.TheVariants.{At}
+use Rattle.command_line.specs.declared.words.WordsError.{WordsError}
+use Rattle.command_line.specs.declared.words.WordsError.TheVariants.{Words, Usage, NoMemory}
 use Rattle.command_line.specs.declared.words.WordsPlace.{WordsPlace}
-use Rattle.command_line.specs.Words.{given, is_settled_in, leaf, settled_at, the_command}
+use Rattle.command_line.specs.Words.{IsNoCall, RefusesWords, TellsError, given, is_settled_in, leaf, name_text, named, options_of}
+use Rattle.command_line.specs.Words.{settled_at, the_command}
 
 -- what is left is the next item and what is left after it
 next_at : {X : Type 0} (xs : List X) (k : ℕ) (x : X) → k < length xs → x ≡ get_or xs k x → drop k xs ≡ x ∷ drop (k + 1) xs
@@ -89,3 +94,77 @@ pub joined_parts : {B : Type 0} (name : B → Text) (rows : B → List Row) (o :
     → Some rs ≡ option_map (λ (p : Text × List Row). p.1) (option_map (both name rows) o) → option_map (both name rows) o ≡ Some (w, rs)
 joined_parts name rows None w rs e f = absurd (cc)
 joined_parts name rows (Some b) w rs e f = (let p = sym (ap (λ o. unwrap_or o w) e) in let q = sym (ap (λ o. unwrap_or o rs) f) in (λ i. Some (p i, q i)))
+
+-- nothing that was read of no match is there
+pub no_parts : {B : Type 0} (name : B → Text) (rows : B → List Row) (o : Option B) → None ≡ option_map name o
+    → option_map (both name rows) o ≡ None
+no_parts name rows None e = refl
+no_parts name rows (Some b) e = absurd (cc)
+
+-- no option has a rule on another, and of such a command alone clap's contract says at which words it gives an error
+pub free_command : is_simple_and_free the_command ≡ true
+free_command = refl
+
+-- each word of a subcommand names it
+pub named_text : (name : CommandName) → named (name_text name) ≡ Some name
+named_text command.Canon = refl
+named_text command.Config = refl
+named_text command.Report = refl
+named_text command.List = refl
+named_text command.Diff = refl
+named_text command.Graph = refl
+named_text command.Status = refl
+named_text command.Bundle = refl
+named_text command.Explain = refl
+named_text command.Observe = refl
+named_text command.Merge = refl
+named_text command.Migrate = refl
+named_text command.Reseed = refl
+named_text command.Polls = refl
+named_text command.Distrust = refl
+named_text command.Serve = refl
+named_text command.Pull = refl
+named_text command.Replica = refl
+named_text command.Stop = refl
+
+-- two subcommands have two words
+pub one_name : (m n : CommandName) → name_text m ≡ name_text n → m ≡ n
+one_name m n e = ap (λ o. unwrap_or o m) (sym (named_text m) ∙ ap named e ∙ named_text n)
+
+-- clap's error, with its kind, is what words are refused for, unless memory ran out
+pub refused_words : (place : WordsPlace) (words : List Text) (error : Error) (why : WordsError) → HasKind (fault_of the_command words) error
+    → TellsError error why → (kind_of error ≡ OutOfMemory → why ≡ NoMemory) → RefusesWords place words why
+refused_words place words error (Words told) (inl memory) tells lacks = (let clash = lacks memory in absurd (cc))
+refused_words place words error (Words told) (inr among) tells lacks = subst (λ k. IsAmong k (fault_of the_command words)) (sym tells) among
+refused_words place words error Usage has tells lacks = absurd tells
+refused_words place words error NoMemory has tells lacks = search rules
+
+-- no subcommand is named that has all that it wants, so the words are no call
+pub no_call : (place : WordsPlace) (words : List Text) → fault_of the_command words ≡ []
+    → ((name : CommandName) (rows : List Row) → subcommand_of the_command words ≡ Some (name_text name, rows)
+    → list_all (is_settled_in place rows) (options_of name) ≡ true → ⊥) → IsNoCall place words
+no_call place words taken none = record { taken = taken; none = λ name texts call. none name call.rows call.entered call.settled }
+
+pub no_subcommand : (place : WordsPlace) (words : List Text) → fault_of the_command words ≡ [] → subcommand_of the_command words ≡ None
+    → IsNoCall place words
+no_subcommand place words taken none = no_call place words taken (λ name rows entered settled. let clash = sym none ∙ entered in cc)
+
+-- both are what was read of the same words
+same_word : (o : Option (Text × List Row)) (v w : Text) (r s : List Row) → o ≡ Some (v, r) → o ≡ Some (w, s) → v ≡ w
+same_word o v w r s e f = ap (λ p. let q : Text × List Row = unwrap_or p (v, r) in q.0) (sym e ∙ f)
+
+same_rows : (o : Option (Text × List Row)) (v w : Text) (r s : List Row) → o ≡ Some (v, r) → o ≡ Some (w, s) → r ≡ s
+same_rows o v w r s e f = ap (λ p. let q : Text × List Row = unwrap_or p (v, r) in q.1) (sym e ∙ f)
+
+pub unknown_subcommand : (place : WordsPlace) (words : List Text) (word : Text) (rows : List Row) → fault_of the_command words ≡ []
+    → subcommand_of the_command words ≡ Some (word, rows) → named word ≡ None → IsNoCall place words
+unknown_subcommand place words word rows taken is unnamed = no_call place words taken (λ name others entered settled.
+    let clash = sym unnamed ∙ ap named (same_word _ word (name_text name) rows others is entered) ∙ named_text name in cc)
+
+pub unsettled_call : (place : WordsPlace) (words : List Text) (name : CommandName) (rows : List Row) → fault_of the_command words ≡ []
+    → subcommand_of the_command words ≡ Some (name_text name, rows) → list_all (is_settled_in place rows) (options_of name) ≡ false
+    → IsNoCall place words
+unsettled_call place words name rows taken is fails = no_call place words taken (λ other others entered settled.
+    let same = one_name name other (same_word _ (name_text name) (name_text other) rows others is entered) in
+    let equal = same_rows _ (name_text name) (name_text other) rows others is entered in
+    let clash = sym fails ∙ (λ i. list_all (is_settled_in place (equal i)) (options_of (same i))) ∙ settled in cc)

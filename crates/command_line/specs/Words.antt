@@ -1,15 +1,21 @@
 -- The words of the command line, as clap's definition of a command reads them.
 use Rattle.std.specs.Prelude.{Bool, true, false, ◌&&◌, ◌||◌, not, if◌then◌else◌}
 use Rattle.std.specs.Prelude.{◌≡◌, ℕ, List, [], ◌∷◌, map, fold, codes, Option, Some, is_some}
+use Rattle.std.specs.Prelude.{Result, MatchResult, find, option_map}
 use Rattle.std.specs.List.{list_all}
-use Rattle.clap.specs.Words.{App, Row, Rule, Text, first_of, new_app, new_rule, subcommand_of}
-use Rattle.clap.specs.Words.{with_rule, with_subcommand}
+use Rattle.std.specs.Str.{bytes_eq}
+use Rattle.clap.specs.Words.{App, IsAmong, Row, Rule, Text, fault_of, first_of, kind_of, new_app}
+use Rattle.clap.specs.Words.{new_rule, subcommand_of, with_rule, with_subcommand}
 use Rattle.clap.specs.declared.builder.action.ArgAction.TheVariants.{Set, SetTrue}
+use Rattle.clap.specs.declared.error.Error.{Error}
 use Rattle.command_line.specs.declared.command_name.CommandName.{CommandName}
 use Rattle.command_line.specs.declared.command_name.CommandName.TheVariants as command
 use Rattle.command_line.specs.declared.command_name.OptionName.{OptionName}
 use Rattle.command_line.specs.declared.words.WordsPlace.{WordsPlace}
 use Rattle.command_line.specs.declared.words.WordsPlace.TheVariants.{CommandLine, Request}
+use Rattle.command_line.specs.declared.words.Call.{Call}
+use Rattle.command_line.specs.declared.words.WordsError.{WordsError}
+use Rattle.command_line.specs.declared.words.WordsError.TheVariants.{Words, Usage, NoMemory}
 use Rattle.command_line.specs.declared.command_name.OptionName.TheVariants.{Config, State, Domain}
 use Rattle.command_line.specs.declared.command_name.OptionName.TheVariants.{Endpoint, Key, Now}
 use Rattle.command_line.specs.declared.command_name.OptionName.TheVariants.{Listen}
@@ -139,6 +145,10 @@ all_names = command.Canon ∷ command.Config ∷ command.Report ∷ command.List
     ∷ command.Merge ∷ command.Migrate ∷ command.Reseed ∷ command.Polls ∷ command.Distrust
     ∷ command.Serve ∷ command.Pull ∷ command.Replica ∷ command.Stop ∷ []
 
+-- the subcommand that has this word, if there is one
+abbrev pub named : Text → Option CommandName
+named word = find (λ name. bytes_eq (name_text name) word) all_names
+
 -- ---- the command, as clap knows it
 
 -- an option with one text, which may be left out
@@ -200,11 +210,12 @@ abbrev pub is_settled_in : WordsPlace → List Row → OptionName → Bool
 is_settled_in place rows option =
     settled_at place (is_some (given rows At)) (is_some (given rows option)) option
 
--- The words name the subcommand, give each of its options its text, and leave out none that it
--- wants.
+-- Clap takes the words. They name the subcommand, give each of its options its text, and leave out
+-- none that it wants.
 pub record CallsFrom (place : WordsPlace) (words : List Text) (name : CommandName)
     (texts : List (Option Text)) : Type 0 where
   pub rows : List Row
+  pub taken : fault_of the_command words ≡ []
   pub entered : subcommand_of the_command words ≡ Some (name_text name, rows)
   pub given : map (given rows) (options_of name) ≡ texts
   pub settled : list_all (is_settled_in place rows) (options_of name) ≡ true
@@ -212,3 +223,28 @@ pub record CallsFrom (place : WordsPlace) (words : List Text) (name : CommandNam
 -- the same of the words of a request to a running replica
 abbrev pub CallsInRequest : List Text → CommandName → List (Option Text) → Type 0
 CallsInRequest words name texts = CallsFrom Request words name texts
+
+-- Clap takes the words, and they are no call.
+pub record IsNoCall (place : WordsPlace) (words : List Text) : Type 0 where
+  pub taken : fault_of the_command words ≡ []
+  pub none : (name : CommandName) (texts : List (Option Text)) → CallsFrom place words name texts
+      → ⊥
+
+-- Why words are refused: by clap, and its error has a kind that clap gives at these words; since
+-- they are no call; or memory ran out.
+abbrev pub RefusesWords : WordsPlace → List Text → WordsError → Type 0
+RefusesWords place words (Words error) = IsAmong (kind_of error) (fault_of the_command words)
+RefusesWords place words Usage = IsNoCall place words
+RefusesWords place words NoMemory = Unit {0}
+
+-- What comes of reading words: the call that they are, or why they are none.
+abbrev pub ReadsWords : WordsPlace → List Text → Result Call WordsError → Type 0
+ReadsWords place words result = MatchResult result
+    (λ call. CallsFrom place words call.name (map (option_map (λ t. t.now)) call.texts.items))
+    (RefusesWords place words)
+
+-- The refusal has the kind of clap's error, unless memory ran out.
+abbrev pub TellsError : Error → WordsError → Type 0
+TellsError error (Words told) = kind_of told ≡ kind_of error
+TellsError error Usage = ⊥
+TellsError error NoMemory = Unit {0}

@@ -1,11 +1,14 @@
 //! Reads the words of the command line. `specs/Words` has the command as `clap` knows it.
 ghost use Rattle.std.specs.Prelude.{◌≡◌, ℕ, false, IfOk, IfSome, map, option_map};
 ghost use Rattle.std.specs.List.{list_all};
-ghost use Rattle.clap.specs.Words.{app_of, found_of, rule_of, rows_of};
-ghost use Rattle.command_line.specs.Words.{CallsFrom, CallsInRequest, given, is_settled};
-ghost use Rattle.command_line.specs.Words.{is_settled_in, leaf, name_text, rule_of_option};
+ghost use Rattle.clap.specs.Words.{app_of, found_of, kind_of, rule_of, rows_of};
+ghost use Rattle.clap.specs.declared.error.kind.ErrorKind.TheVariants.{InvalidSubcommand};
+ghost use Rattle.clap.specs.declared.error.kind.ErrorKind.TheVariants.{OutOfMemory};
+ghost use Rattle.command_line.specs.Words.{ReadsWords, TellsError, given, is_settled};
+ghost use Rattle.command_line.specs.Words.{is_settled_in, leaf, name_text, named, rule_of_option};
 ghost use Rattle.command_line.specs.Words.{settled_at, the_command};
-ghost use Rattle.command_line.specs.declared.words.WordsPlace.TheVariants.{CommandLine};
+ghost use Rattle.command_line.specs.declared.words.WordsError.TheVariants.{NoMemory};
+ghost use Rattle.command_line.specs.declared.words.WordsPlace.TheVariants.{CommandLine, Request};
 
 use crate::command_name::{COMMANDS, CommandName, OptionName};
 use crate::help_texts;
@@ -54,8 +57,7 @@ pub(crate) enum WordsPlace {
 ///   is missing, or `--at` stands beside a file,
 /// - [`WordsError::NoMemory`]: memory ran out.
 pub fn read_words<'a>(alloc: Global, words: &'a [&'a str]) -> Result<Call<'a>, WordsError>
-    ensures { IfOk result (λ call. CallsFrom CommandLine (map (λ w. w.now) words.now) call.name
-        (map (option_map (λ t. t.now)) call.texts.items)) }
+    ensures { ReadsWords CommandLine (map (λ w. w.now) words.now) result }
 {
     read_call(alloc, words, WordsPlace::CommandLine)
 }
@@ -66,8 +68,7 @@ pub fn read_words<'a>(alloc: Global, words: &'a [&'a str]) -> Result<Call<'a>, W
 /// # Errors
 /// Those of [`read_words`]; [`WordsError::Usage`] where one of these three is given.
 pub fn read_request<'a>(alloc: Global, words: &'a [&'a str]) -> Result<Call<'a>, WordsError>
-    ensures { IfOk result (λ call. CallsInRequest (map (λ w. w.now) words.now) call.name
-        (map (option_map (λ t. t.now)) call.texts.items)) }
+    ensures { ReadsWords Request (map (λ w. w.now) words.now) result }
 {
     read_call(alloc, words, WordsPlace::Request)
 }
@@ -77,8 +78,7 @@ fn read_call<'a>(
     words: &'a [&'a str],
     place: WordsPlace,
 ) -> Result<Call<'a>, WordsError>
-    ensures { IfOk result (λ call. CallsFrom place (map (λ w. w.now) words.now) call.name
-        (map (option_map (λ t. t.now)) call.texts.items)) }
+    ensures { ReadsWords place (map (λ w. w.now) words.now) result }
 {
     match parse_words(alloc, words, place) {
         Err(WordsError::Words(error)) => Err(with_all_names(alloc, error)),
@@ -91,27 +91,46 @@ fn parse_words<'a>(
     words: &'a [&'a str],
     place: WordsPlace,
 ) -> Result<Call<'a>, WordsError>
-    ensures { IfOk result (λ call. CallsFrom place (map (λ w. w.now) words.now) call.name
-        (map (option_map (λ t. t.now)) call.texts.items)) }
+    ensures { ReadsWords place (map (λ w. w.now) words.now) result }
 {
-    let matches = command(alloc)?.try_get_matches_from(words)?;
+    let Ok(command) = command(alloc) else {
+        return Err(WordsError::NoMemory);
+    };
+    let matches = match command.try_get_matches_from(words) {
+        Ok(matches) => matches,
+        Err(error) => return Err(refusal_of(error)),
+    };
     let Some((word, options)) = matches.subcommand() else {
         return Err(WordsError::Usage);
     };
-    let Some(name) = name_of(word) else {
+    let Some(name) = command_of(word) else {
         return Err(WordsError::Usage);
     };
     let wanted = name.options();
     if !are_settled(options, wanted, place) {
         return Err(WordsError::Usage);
     }
-    let texts = texts_of(alloc, options, wanted)?;
-    Ok(Call { name, texts })
+    match texts_of(alloc, options, wanted) {
+        Ok(texts) => Ok(Call { name, texts }),
+        Err(_) => Err(WordsError::NoMemory),
+    }
+}
+
+fn refusal_of(error: clap::Error) -> WordsError
+    ensures tells { TellsError error result }
+    ensures memory { kind_of error ≡ OutOfMemory → result ≡ NoMemory }
+{
+    match error.kind() {
+        ErrorKind::OutOfMemory => WordsError::NoMemory,
+        _ => WordsError::Words(error),
+    }
 }
 
 // For a word that is no subcommand clap tips the one that is closest to it. That may be `distrust`,
 // which cannot be taken back. So all are named instead.
-fn with_all_names(alloc: Global, error: clap::Error) -> WordsError {
+fn with_all_names(alloc: Global, error: clap::Error) -> WordsError
+    ensures { TellsError error result }
+{
     match error.kind() {
         ErrorKind::InvalidSubcommand => match name_all(alloc, &error) {
             Ok(named) => WordsError::Words(named),
@@ -121,7 +140,9 @@ fn with_all_names(alloc: Global, error: clap::Error) -> WordsError {
     }
 }
 
-fn name_all(alloc: Global, error: &clap::Error) -> Result<clap::Error, AllocError> {
+fn name_all(alloc: Global, error: &clap::Error) -> Result<clap::Error, AllocError>
+    ensures { IfOk result (λ named. kind_of named ≡ InvalidSubcommand) }
+{
     let shown = format!(in alloc; "{error}")?;
     let first = shown.lines().next().unwrap_or("");
     let mut message = String::from_str(alloc, first.strip_prefix("error: ").unwrap_or(first))?;
@@ -131,27 +152,6 @@ fn name_all(alloc: Global, error: &clap::Error) -> Result<clap::Error, AllocErro
         message.push_str(name.text())?;
     }
     command(alloc)?.error(ErrorKind::InvalidSubcommand, message.as_str())
-}
-
-impl From<AllocError> for WordsError {
-    fn from(_error: AllocError) -> WordsError {
-        WordsError::NoMemory
-    }
-}
-
-impl From<clap::Error> for WordsError {
-    fn from(error: clap::Error) -> WordsError {
-        match error.kind() {
-            ErrorKind::OutOfMemory => WordsError::NoMemory,
-            _ => WordsError::Words(error),
-        }
-    }
-}
-
-impl<T: Drop> From<AllocFailed<T>> for WordsError {
-    fn from(_error: AllocFailed<T>) -> WordsError {
-        WordsError::NoMemory
-    }
 }
 
 fn command<'a>(alloc: Global) -> Result<Command<'a>, AllocError>
@@ -205,15 +205,15 @@ fn argument<'a>(alloc: Global, option: OptionName) -> Arg<'a>
 
 /// The subcommand that has this word, if there is one.
 pub fn command_of(word: &str) -> Option<CommandName>
-    ensures { IfSome result (λ name. word.now ≡ name_text name) }
+    ensures is { result ≡ named word.now }
+    ensures text { IfSome result (λ name. word.now ≡ name_text name) }
 {
-    name_of(word)
-}
-
-fn name_of(word: &str) -> Option<CommandName>
-    ensures { IfSome result (λ name. word.now ≡ name_text name) }
-{
-    COMMANDS.iter().find(|name| name.text() == word).copied()
+    'names: for &name in COMMANDS.as_slice() {
+        if name.text() == word {
+            return Some(name);
+        }
+    }
+    None
 }
 
 // Whether each option may stand as it does.
