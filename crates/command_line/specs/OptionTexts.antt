@@ -28,6 +28,9 @@ abbrev pub SaysBundleFormat : Option (List ℕ) → BundleFormat → Type 0
 SaysBundleFormat text Json = (text ≡ None) ⊎ (text ≡ Some (codes "json"))
 SaysBundleFormat text Pem = text ≡ Some (codes "pem")
 
+abbrev pub SaysNoBundleFormat : Option (List ℕ) → Type 0
+SaysNoBundleFormat text = (format : BundleFormat) → SaysBundleFormat text format → ⊥
+
 -- a flag that is given has the text `true`
 abbrev pub SaysFlag : Option (List ℕ) → Bool → Type 0
 SaysFlag text true = text ≡ Some (codes "true")

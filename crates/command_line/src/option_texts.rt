@@ -2,7 +2,7 @@
 ghost use Rattle.std.specs.Prelude.{◌≡◌, ℕ, IfOk, IfErr, Ok, Some, None, map, option_map};
 ghost use Rattle.hex.specs.Hex.{decode_sized};
 ghost use Rattle.command_line.specs.OptionTexts.{SaysBundleFormat, SaysExplanationForm, SaysFlag};
-ghost use Rattle.command_line.specs.OptionTexts.{option_said};
+ghost use Rattle.command_line.specs.OptionTexts.{SaysNoBundleFormat, option_said};
 ghost use Rattle.command_line.specs.OptionTexts.{SaysExplanationIn, SaysNoExplanationIn};
 ghost use Rattle.command_line.specs.OptionTexts.{SaysNoOutputForm, SaysOutputForm, said_beside};
 ghost use Rattle.command_line.specs.declared.option_error.OptionError.TheVariants.{BadKey};
@@ -166,7 +166,8 @@ pub fn read_key(text: &str) -> Result<KeyId, OptionError>
 /// The text is something else.
 pub fn read_bundle_format(text: Option<&str>) -> Result<BundleFormat, OptionError>
     ensures ok { IfOk result (SaysBundleFormat (option_map (λ t. t.now) text.entry)) }
-    ensures refused { IfErr result (λ error. error ≡ Usage) }
+    ensures refused { IfErr result (λ error. (error ≡ Usage)
+        × SaysNoBundleFormat (option_map (λ t. t.now) text.entry)) }
 {
     match text {
         None => Ok(BundleFormat::Json),
@@ -186,8 +187,8 @@ pub fn is_flag_given(text: Option<&str>) -> bool
     }
 }
 
-/// How `explain` writes a chain, by the text of its flag for short lines.
-pub fn explanation_form(short: Option<&str>) -> ExplanationForm
+// How `explain` writes a chain as lines, by the text of its flag for short ones.
+fn explanation_form(short: Option<&str>) -> ExplanationForm
     ensures { SaysExplanationForm (option_map (λ t. t.now) short.entry) result }
 {
     if is_flag_given(short) {

@@ -6,3 +6,4 @@ mod DeviceFacts
 mod CommandFacts
 mod MigrateFacts
 mod DistrustFacts
+mod ShownCallFacts

@@ -20,4 +20,6 @@ pub mod Serve
 pub mod Status
 pub mod Exits
 pub mod Stream
+pub mod SaidValues
+pub mod Shown
 pub mod Inside

@@ -7,7 +7,6 @@ use Rattle.poll_log.specs.declared.error.PollError.{PollError}
 use Rattle.poll_log.specs.declared.error.PollError.TheVariants.{Io as SourceFailed}
 use Rattle.poll_view.specs.PollTexts.{IsPollsText}
 use Rattle.poll_view.specs.declared.polls_writer.PollsForm.{PollsForm}
-use Rattle.poll_view.specs.declared.polls_writer.PollsForm.TheVariants.{Lines}
 use Rattle.fedbundle.specs.CommandRun.{CommandRun, DeviceRun, IsReadOut, PrintsText, WritesNothing}
 use Rattle.fedbundle.specs.CommandRun.{CutsOff, HasFailed}
 use Rattle.fedbundle.specs.declared.error.CommandError.{CommandError}
@@ -63,7 +62,3 @@ RunsPollsIn run m call (Err Io) = CutsPolls call.form run m call.now
 RunsPollsIn run m call (Err NoMemory) = WritesNothing run.sink
 RunsPollsIn run m call (Err (Poll why)) = RefusesLines run m why
 RunsPollsIn run m call (Err _) = ⊥
-
--- the same as lines
-abbrev pub RunsPolls : CommandRun → Meaning → ℤ → Result (Unit {0}) CommandError → Type 0
-RunsPolls run m now result = RunsPollsIn run m (polls_call Lines now) result

@@ -1,6 +1,6 @@
 //! Why a command ends without its result, and the exit status that says so.
 ghost use Rattle.std.specs.Prelude.{◌≡◌};
-ghost use Rattle.fedbundle.specs.Errors.{of_read, of_run};
+ghost use Rattle.fedbundle.specs.Errors.{of_read, of_report, of_run};
 ghost use Rattle.fedbundle.specs.Status.{status_of, status_of_sync};
 ghost use Rattle.fedbundle.specs.declared.error.CommandError.TheVariants.{Name, Document, Config};
 ghost use Rattle.fedbundle.specs.declared.error.CommandError.TheVariants.{Take, Observe, Poll};
@@ -8,7 +8,7 @@ ghost use Rattle.fedbundle.specs.declared.error.CommandError.TheVariants.{Sync, 
 
 use crate::run_error::RunError;
 use bundle_doc::DocError;
-use bundle_view::ObserveError;
+use bundle_view::{ObserveError, ReportError};
 use byte_lines::{DeviceError, Fault};
 use closure_core::TakeError;
 use fed_config::ConfigError;
@@ -166,6 +166,17 @@ impl From<RunError> for CommandError {
             RunError::Full => CommandError::Full,
             RunError::NoMemory => CommandError::NoMemory,
             RunError::Io => CommandError::Io,
+        }
+    }
+}
+
+impl From<ReportError> for CommandError {
+    ghost from_gives = { λ e c. c ≡ of_run (of_report e) };
+
+    fn from(error: ReportError) -> CommandError {
+        match error {
+            ReportError::Io => CommandError::Io,
+            ReportError::NoMemory => CommandError::NoMemory,
         }
     }
 }

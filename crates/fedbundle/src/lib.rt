@@ -1,5 +1,6 @@
 //! The command's functions, each over sources and sinks: the program hands them its standard
-//! streams. Beside them is why a command ends.
+//! streams. Beside them is why a command ends. `shown` calls those that show what is held, by what
+//! the words say.
 #![tactic(auto)]
 
 mod bundle;
@@ -23,14 +24,16 @@ mod polls;
 mod pull;
 mod report;
 mod run_error;
+mod said_values;
 mod serve;
+mod shown;
 mod two_parts;
 
 pub use bundle::{run_bundle, run_bundle_pem};
 pub use canon::{run_canon, run_canon_bytes};
 pub use command_line::{
     BundleFormat, Call, CommandName, ExplanationForm, Manner, OptionError, OptionName, OutputForm,
-    WordsError, command_of, explanation_form, given, is_flag_given, manner_of, read_bundle_format,
+    WordsError, command_of, given, is_flag_given, manner_of, read_bundle_format,
     read_explanation_form, read_key, read_output_form, read_request, read_sessions, read_words,
     wanted,
 };
@@ -45,8 +48,10 @@ pub use merge::{run_merge, take_other};
 pub use migrate::run_migrate;
 pub use observe::{Observed, prepare_observe, run_observe};
 pub use option_values::{read_moment, read_status_format};
-pub use polls::{run_polls, run_polls_in};
+pub use polls::run_polls_in;
 pub use pull::run_pull;
 pub use report::{run_report, run_report_into, run_report_with};
 pub use run_error::RunError;
+pub use said_values::{read_domain, read_record, read_verdict};
 pub use serve::{run_serve, write_served};
+pub use shown::{Shown, run_shown};

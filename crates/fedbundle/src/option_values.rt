@@ -1,7 +1,8 @@
 //! The texts of options that are values of the crates below, read: a moment, and how `status` is
 //! written.
 ghost use Rattle.std.specs.Prelude.{◌≡◌, IfOk, IfErr, option_map};
-ghost use Rattle.fedbundle.specs.OptionValues.{SaysMoment, SaysStatusFormat};
+ghost use Rattle.fedbundle.specs.OptionValues.{SaysBadMoment, SaysMoment};
+ghost use Rattle.fedbundle.specs.OptionValues.{SaysNoStatusFormat, SaysStatusFormat};
 ghost use Rattle.fedbundle.specs.declared.exits.Exit.TheVariants.{BadMoment, Usage};
 
 use crate::exits::Exit;
@@ -15,7 +16,7 @@ use status_view::StatusFormat;
 /// The text is no number, or no moment has it.
 pub fn read_moment(text: &str) -> Result<Timestamp, Exit>
     ensures ok { IfOk result (λ moment. SaysMoment text.now moment.nanosecond) }
-    ensures refused { IfErr result (λ exit. exit ≡ BadMoment) }
+    ensures refused { IfErr result (λ exit. (exit ≡ BadMoment) × SaysBadMoment text.now) }
 {
     let Some(seconds) = read_seconds(text.as_bytes()) else {
         return Err(Exit::BadMoment);
@@ -33,7 +34,8 @@ pub fn read_moment(text: &str) -> Result<Timestamp, Exit>
 /// The text is something else.
 pub fn read_status_format(text: Option<&str>) -> Result<StatusFormat, Exit>
     ensures ok { IfOk result (SaysStatusFormat (option_map (λ t. t.now) text.entry)) }
-    ensures refused { IfErr result (λ exit. exit ≡ Usage) }
+    ensures refused { IfErr result (λ exit. (exit ≡ Usage)
+        × SaysNoStatusFormat (option_map (λ t. t.now) text.entry)) }
 {
     match text {
         None => Ok(StatusFormat::Text),

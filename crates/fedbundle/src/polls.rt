@@ -1,6 +1,6 @@
 //! `polls`: when each domain is polled next.
 ghost use Rattle.fedbundle.specs.CommandRun.{device_run, run_of};
-ghost use Rattle.fedbundle.specs.Polls.{RunsPolls, RunsPollsIn, polls_call};
+ghost use Rattle.fedbundle.specs.Polls.{RunsPollsIn, polls_call};
 
 use crate::error::CommandError;
 use byte_lines::{Sink, Source, write_all};
@@ -15,31 +15,12 @@ use std::alloc::Global;
 /// `past range` where its next poll is later than every moment, and else the moment of its next
 /// poll, in seconds since the Unix epoch, rounded toward zero. The refresh hint is that of the
 /// domain's current document (SPIFFE Trust Domain and Bundle, section 4.1.2). No clock is read, and
-/// nothing is written before the whole text is made.
+/// nothing is written before the whole text is made. [`PollsForm`] says what the text is as JSON.
 ///
 /// # Errors
 /// `Poll` where the first bad line is reported, where the source failed or where memory ran out
 /// while the lines were read, and `NoMemory` where memory ran out for the text: then nothing was
 /// written. `Io` where the sink failed, which then holds a beginning of the text.
-pub fn run_polls<C: Closure, R: Source, W: Sink>(
-    alloc: Global,
-    closure: &C,
-    now: Timestamp,
-    source: &mut R,
-    sink: &mut W,
-) -> Result<(), CommandError>
-    ensures { RunsPolls
-        (run_of (device_run R.remaining R.has_failed source.old source.new)
-        (device_run W.contents W.has_failed sink.old sink.new))
-        (C.state closure.now).meaning now.nanosecond result }
-{
-    run_polls_in(alloc, closure, PollsForm::Lines, now, source, sink)
-}
-
-/// The same as [`run_polls`], in this form.
-///
-/// # Errors
-/// Those of [`run_polls`].
 pub fn run_polls_in<C: Closure, R: Source, W: Sink>(
     alloc: Global,
     closure: &C,

@@ -1,18 +1,15 @@
 // The subcommands, each in a file of its own: the words are read, then the configuration, and then
 // the command is carried out by what it does with a state: it needs none, it shows what is held
 // (`state_readers`), it changes that (`state_writers`), or it talks with another replica.
-mod bundle;
 mod canon;
 mod config;
 mod diff;
 mod distrust;
-mod explain;
 mod graph;
 mod list;
 mod merge;
 mod migrate;
 mod observe;
-mod polls;
 mod pull;
 mod replica;
 mod report;
@@ -20,7 +17,6 @@ mod reseed;
 mod serve;
 mod state_readers;
 mod state_writers;
-mod status;
 
 use crate::exit::print_clap;
 use crate::{at_replica, missing_words, options, process_words, reasons};

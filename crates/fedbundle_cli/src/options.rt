@@ -1,8 +1,7 @@
-// The texts of options that name a file, a socket, a name or a number, read.
+// The texts of options that name a file, a socket or a number, read.
 use byte_lines::{FromRead, read_up_to};
 use fed_config::Config;
 use fedbundle::{CommandError, Exit, OptionName, read_sessions};
-use spiffe_name::{SpiffeId, TrustDomain};
 use std::alloc::Global;
 use std::fs::Files;
 use std::net::SocketAddr;
@@ -22,14 +21,6 @@ pub(crate) fn config<R: Files>(
         Err(error) if error.kind() == io::ErrorKind::OutOfMemory => Err(CommandError::NoMemory),
         Err(_) => Err(CommandError::Io),
     }
-}
-
-pub(crate) fn domain(alloc: Global, text: &str) -> Result<TrustDomain, CommandError> {
-    Ok(TrustDomain::read(alloc, text)?)
-}
-
-pub(crate) fn endpoint(alloc: Global, text: &str) -> Result<SpiffeId, CommandError> {
-    Ok(SpiffeId::read(alloc, text)?)
 }
 
 /// The address of an IP address and a port. At port 0 the system would choose a port that nobody

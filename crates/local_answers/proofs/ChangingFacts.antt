@@ -1,5 +1,5 @@
 -- What the commands that change what is held answer, and what is replied to their calls.
-use Rattle.std.proofs.Common.{◌≡◌, ◌||◌, ℕ, ◌+◌, ◌<◌, Bool, true, false, List, [], ◌∷◌, ◌++◌, length, map, get_or, drop, drop-cons, add-one, append_assoc}
+use Rattle.std.proofs.Common.{◌≡◌, ◌||◌, ◌⊎◌, ℕ, ◌+◌, ◌<◌, Bool, true, false, List, [], ◌∷◌, ◌++◌, length, map, get_or, drop, drop-cons, add-one, append_assoc}
 use Rattle.std.proofs.Common.{inl, inr, Option, Some, Result, Ok, Err, IfErr, IfOk, OnErr, refl, sym, ap, ◌∙◌, subst}
 use Rattle.std.proofs.lemmas.Result.{IfErr-weaker}
 use Rattle.std.specs.declared.alloc.AllocError.{AllocError}
@@ -25,9 +25,11 @@ use Rattle.request_lines.specs.RequestLines.{SaysWords}
 use Rattle.request_lines.specs.declared.request_error.RequestError.TheVariants as line_error
 use Rattle.local_answers.specs.Journalling.{JournalsChange}
 use Rattle.local_answers.specs.Replies.{RefusesWordsLine}
-use Rattle.local_answers.specs.RequestRun.{Answers, AnswersObserve, CallRun, ChangeRun, Ends, EndsDistrust, EndsMerge, EndsObserve}
+use Rattle.fedbundle.specs.SaidValues.{SaysRecord, SaysVerdict}
+use Rattle.local_answers.specs.RequestRun.{Answers, AnswersObserve, AnswersShown, CallRun, ChangeRun, Ends, EndsAnyhow, EndsDistrust, EndsMerge}
+use Rattle.local_answers.specs.RequestRun.{EndsObserve, EndsShown}
 use Rattle.local_answers.specs.RequestRun.{HasStreams, IsEnded, IsWith, RepliesTo, RepliesToCall, SaysOfWords, ShowsText}
-use Rattle.local_answers.specs.RequestRun.{SaysDistrusted, SaysFetched, SaysRecord, SaysVerdict, change_run, memory_exit, said}
+use Rattle.local_answers.specs.RequestRun.{SaysDistrusted, SaysFetched, change_run, memory_exit, said}
 use Rattle.local_answers.specs.declared.reply.Reply.{Reply}
 use Rattle.local_answers.specs.declared.request_fault.RequestFault.{RequestFault}
 use Rattle.local_answers.specs.declared.request_fault.RequestFault.TheVariants as request_fault
@@ -153,16 +155,27 @@ pub merge_call_ends : (run : CallRun) (result : Result Reply Exit) → IfErr res
 merge_call_ends run (Ok reply) ends = tt
 merge_call_ends run (Err exit) ends = inr (inr ends)
 
+-- what a dry run answers, as the answer of its call
+pub dry_run_called : (run : CallRun) (result : Result Reply Exit) → SaysFlag (said run DryRun) true → IfOk result (AnswersShown run)
+    → IfOk result (Answers command.Distrust run)
+dry_run_called run (Ok reply) dry answers = record { dry = true; is_dry = dry; answers = answers }
+dry_run_called run (Err exit) dry answers = tt
+
+-- the same of how it ends
+pub dry_run_ends : (run : CallRun) (result : Result Reply Exit) → SaysFlag (said run DryRun) true
+    → IfErr result (λ exit. EndsAnyhow exit ⊎ EndsShown run exit) → IfErr result (Ends command.Distrust run)
+dry_run_ends run (Ok reply) dry ends = tt
+dry_run_ends run (Err exit) dry (inl anyhow) = inl anyhow
+dry_run_ends run (Err exit) dry (inr ends) = inr (record { dry = true; is_dry = dry; ends = ends })
+
 -- what `distrust` answers, as the answer of its call
 pub distrust_called : (run : CallRun) (x : Distrust) (verbose : Bool) (result : Result Reply Exit) → SaysRecord run.name run.texts x
     → SaysFlag (said run DryRun) false → SaysFlag (said run Verbose) verbose
     → IfOk result (λ reply. SaysDistrusted run.change.state x verbose reply) → IfOk result (Answers command.Distrust run)
 distrust_called run x verbose (Ok reply) says lasting flag held = record {
-  x = x;
-  says = says;
   dry = false;
   is_dry = lasting;
-  answers = record { verbose = verbose; is_verbose = flag; held = held };
+  answers = record { x = x; says = says; verbose = verbose; is_verbose = flag; held = held };
 }
 distrust_called run x verbose (Err exit) says lasting flag held = tt
 
@@ -171,7 +184,7 @@ pub distrust_call_ends : (run : CallRun) (x : Distrust) (result : Result Reply E
     → SaysFlag (said run DryRun) false → IfErr result (EndsDistrust run.change.state x) → IfErr result (Ends command.Distrust run)
 distrust_call_ends run x (Ok reply) says lasting ends = tt
 distrust_call_ends run x (Err exit) says lasting ends =
-    inr (inr (record { x = x; says = says; dry = false; is_dry = lasting; ends = ends }))
+    inr (record { dry = false; is_dry = lasting; ends = inr (record { x = x; says = says; ends = ends }) })
 
 -- where nothing is journalled and nothing has changed
 pub none_journalled : (state : HeldAndRoom) (result : Result Reply Exit) → IfOk result (λ reply. reply.journal.items ≡ [])

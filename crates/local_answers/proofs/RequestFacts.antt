@@ -1,5 +1,5 @@
 -- What a command's function answers over memory, as what is replied.
-use Rattle.std.proofs.Common.{◌≡◌, ℕ, ℤ, inl, inr, List, [], ◌∷◌, refl, sym, ap, ◌∙◌, arith, false, Some, Ok, Err}
+use Rattle.std.proofs.Common.{◌≡◌, ℕ, inl, inr, List, [], ◌∷◌, refl, sym, ap, ◌∙◌, arith, false, Some, Ok, Err}
 use Rattle.std.specs.List.{Contains}
 use Rattle.std.specs.Io.KnownBytes.{IsAtEnd}
 use Rattle.receipt_core.specs.Acceptance.{Meaning, IsMeaning}
@@ -17,84 +17,15 @@ use Rattle.replica_core.specs.declared.error.SyncError.{SyncError}
 use Rattle.replica_core.specs.declared.error.SyncError.TheVariants.{Io as StreamFailed}
 use Rattle.replica_texts.specs.Snapshots.{IsSnapshot, RefusesSnapshot}
 use Rattle.fedbundle.specs.CommandRun.{CommandRun, DeviceRun, HasFailed, run_of, state_run}
-use Rattle.fedbundle.specs.CurrentBundle.{RunsBundle, RunsBundlePem}
-use Rattle.fedbundle.specs.Distrust.{HoldsRecord, ShowsDistrust}
-use Rattle.fedbundle.specs.Explain.{RunsExplain, receipt_line}
+use Rattle.fedbundle.specs.Distrust.{HoldsRecord}
+use Rattle.fedbundle.specs.Explain.{receipt_line}
 use Rattle.fedbundle.specs.Merge.{count_text}
 use Rattle.fedbundle.specs.Observe.{Fetched, MakesReceipt, RefusesToMake, fetched_bundle}
-use Rattle.fedbundle.specs.Polls.{RunsPolls}
 use Rattle.fedbundle.specs.declared.error.CommandError.{CommandError}
-use Rattle.fedbundle.specs.declared.error.CommandError.TheVariants.{Document, Io, NoMemory, Observe, Poll, Sync, Take}
+use Rattle.fedbundle.specs.declared.error.CommandError.TheVariants.{Io, NoMemory, Observe, Sync, Take}
 use Rattle.fedbundle.specs.declared.exits.Exit.TheVariants.{Refused}
 use Rattle.local_answers.specs.Journalling.{AreLinesOfOther, IsLineIfNew, JournalsChange}
-use Rattle.local_answers.specs.RequestRun.{AnswersMerge, AnswersObserve, EndsBundle, EndsBundlePem, EndsDryRun, EndsExplain, EndsMerge, EndsObserve, EndsPolls}
-use Rattle.local_answers.specs.RequestRun.{ExplainAsked, Gives, GivesInto, change_run, memory_exit}
-
--- ---- commands that show what is held
-
--- a failed `bundle` lacked memory
-pub bundle_ends : (m : Meaning) (domain : List ℕ) (sink : DeviceRun) (e : CommandError) → RunsBundle sink m domain (Err e) → EndsBundle m domain (memory_exit e)
-bundle_ends m domain sink Io runs = tt
-bundle_ends m domain sink e runs = absurd runs
-
--- where there is no current document nothing was written
-pub bundle_none : (m : Meaning) (domain : List ℕ) (sink : DeviceRun) → sink.before ≡ Some [] → RunsBundle sink m domain (Ok false)
-    → GivesInto (λ s. RunsBundle s m domain (Ok false)) []
-bundle_none m domain sink empty runs = record { sink = sink; empty = empty; filled = runs.1 ∙ empty; runs = runs }
-
--- a failed `bundle --format pem` lacked memory
-pub bundle_pem_ends : (m : Meaning) (domain : List ℕ) (sink : DeviceRun) (e : CommandError) → RunsBundlePem sink m domain (Err e)
-    → EndsBundlePem m domain (memory_exit e)
-bundle_pem_ends m domain sink Io runs = tt
-bundle_pem_ends m domain sink NoMemory runs = tt
-bundle_pem_ends m domain sink e runs = absurd runs
-
--- the same where there is no current document
-pub bundle_pem_none : (m : Meaning) (domain : List ℕ) (sink : DeviceRun) → sink.before ≡ Some [] → RunsBundlePem sink m domain (Ok false)
-    → GivesInto (λ s. RunsBundlePem s m domain (Ok false)) []
-bundle_pem_none m domain sink empty runs = record { sink = sink; empty = empty; filled = runs.1 ∙ empty; runs = runs }
-
--- a failed `explain` lacked memory, or refused the document
-pub explain_ends : (m : Meaning) (asked : ExplainAsked) (devices : CommandRun) (e : CommandError) → devices.source.before ≡ Some asked.input
-    → devices.sink.before ≡ Some [] → RunsExplain devices m asked.call (Err e) → EndsExplain m asked (memory_exit e)
-explain_ends m asked devices Io source empty runs = tt
-explain_ends m asked devices NoMemory source empty runs = tt
-explain_ends m asked devices (Document why) source empty runs = record {
-  devices = devices;
-  over = record { source = source; empty = empty; filled = runs.unwritten ∙ empty };
-  runs = runs;
-}
-explain_ends m asked devices e source empty runs = absurd runs
-
--- where the document is not accepted nothing was written
-pub explain_none : (m : Meaning) (asked : ExplainAsked) (devices : CommandRun) → devices.source.before ≡ Some asked.input
-    → devices.sink.before ≡ Some [] → RunsExplain devices m asked.call (Ok false)
-    → Gives (λ d. RunsExplain d m asked.call (Ok false)) asked.input []
-explain_none m asked devices source empty runs = record {
-  devices = devices;
-  over = record { source = source; empty = empty; filled = runs.prints.1 ∙ empty };
-  runs = runs;
-}
-
--- a failed `polls` lacked memory, or refused a line
-pub polls_ends : (m : Meaning) (now : ℤ) (input : List ℕ) (devices : CommandRun) (e : CommandError) → devices.source.before ≡ Some input
-    → devices.sink.before ≡ Some [] → RunsPolls devices m now (Err e) → EndsPolls m now input (memory_exit e)
-polls_ends m now input devices Io source empty runs = tt
-polls_ends m now input devices NoMemory source empty runs = tt
-polls_ends m now input devices (Poll why) source empty runs = record {
-  devices = devices;
-  over = record { source = source; empty = empty; filled = runs.unwritten ∙ empty };
-  runs = runs;
-}
-polls_ends m now input devices e source empty runs = absurd runs
-
--- a failed dry run lacked memory, or refused the record
-pub dry_run_ends : (m : Meaning) (x : Distrust) (sink : DeviceRun) (e : CommandError) → sink.before ≡ Some []
-    → ShowsDistrust m x sink (Err e) → EndsDryRun m x (memory_exit e)
-dry_run_ends m x sink Io empty runs = tt
-dry_run_ends m x sink NoMemory empty runs = tt
-dry_run_ends m x sink (Take why) empty runs = record { sink = sink; empty = empty; filled = runs.unwritten ∙ empty; runs = runs }
-dry_run_ends m x sink e empty runs = absurd runs
+use Rattle.local_answers.specs.RequestRun.{AnswersMerge, AnswersObserve, EndsMerge, EndsObserve, change_run, memory_exit}
 
 -- ---- what is journalled
 

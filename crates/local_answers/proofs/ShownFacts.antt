@@ -1,30 +1,28 @@
 -- What the commands that show what is held answer over memory, and what is replied to their calls.
-use Rattle.std.proofs.Common.{◌≡◌, inl, inr, ℕ, ℤ, Bool, if◌then◌else◌, List, [], ◌++◌, Some, Ok, Err, Result, IfErr, IfOk}
+use Rattle.std.proofs.Common.{◌≡◌, ◌⊎◌, inl, inr, ℕ, ℤ, Bool, List, [], ◌++◌, Option, Some, Ok, Err, Result, IfErr, IfOk}
 use Rattle.std.proofs.Common.{true, false, refl, sym, ap, ◌∙◌, subst}
-use Rattle.std.specs.Int.{from_bool}
-use Rattle.spiffe_name.specs.TrustDomain.{IsDomainText, RefusesDomain}
-use Rattle.spiffe_name.specs.declared.error.NameError.{NameError}
 use Rattle.receipt_core.specs.Acceptance.{Meaning}
 use Rattle.receipt_core.specs.declared.distrust.Distrust.{Distrust}
-use Rattle.bundle_view.specs.Report.{IsReport, WritesReport}
-use Rattle.fedbundle.specs.CommandRun.{CommandRun, DeviceRun}
+use Rattle.fedbundle.specs.CommandRun.{CommandRun, DeviceRun, WritesNothing}
 use Rattle.fedbundle.specs.CurrentBundle.{RunsBundle, RunsBundlePem}
 use Rattle.fedbundle.specs.Distrust.{ShowsDistrust}
 use Rattle.fedbundle.specs.Exits.{AppendsExit, exit_status_of}
-use Rattle.fedbundle.specs.Explain.{RunsExplain, explanation_call}
-use Rattle.fedbundle.specs.Polls.{RunsPolls}
-use Rattle.command_line.specs.declared.option_texts.ExplanationForm.{ExplanationForm}
+use Rattle.fedbundle.specs.Explain.{ExplanationCall, RunsExplain, explanation_call}
+use Rattle.fedbundle.specs.Polls.{RunsPollsIn, polls_call}
+use Rattle.fedbundle.specs.Shown.{IsReportIn, IsStatusShown, RunsShown, RunsWriter, ShownCall, ShowsBundle, ShowsBy, ShowsEffect, ShowsExplanation}
+use Rattle.fedbundle.specs.Shown.{ShowsPolls, ShowsReport, ShowsStatus, exit_if_done, exit_if_warned, exit_if_written, polls_form}
 use Rattle.command_line.specs.declared.command_name.CommandName.{CommandName}
 use Rattle.command_line.specs.declared.command_name.CommandName.TheVariants as command
 use Rattle.fedbundle.specs.declared.error.CommandError.{CommandError}
-use Rattle.fedbundle.specs.declared.error.CommandError.TheVariants.{Io, Name}
+use Rattle.fedbundle.specs.declared.error.CommandError.TheVariants.{Document, Io, NoMemory, Poll, Take}
 use Rattle.fedbundle.specs.declared.exits.Exit.{Exit}
-use Rattle.fedbundle.specs.declared.exits.Exit.TheVariants.{NoBundle, NotAccepted, Refused, Usage}
-use Rattle.local_answers.specs.RequestRun.{Answers, AnswersBundle, AnswersBundlePem, AnswersDryRun, AnswersExplain, AnswersPolls}
-use Rattle.local_answers.specs.RequestRun.{CallRun, Ends, EndsAnyhow, EndsBundle, EndsBundlePem, EndsDryRun, EndsExplain, EndsPolls}
-use Rattle.local_answers.specs.RequestRun.{HasStreams, IsEnded, IsReplied, IsWith, explain_asked, memory_exit}
+use Rattle.fedbundle.specs.declared.exits.Exit.TheVariants.{NoBundle, NotAccepted, Refused}
+use Rattle.command_line.specs.declared.option_texts.BundleFormat.{BundleFormat}
+use Rattle.command_line.specs.declared.option_texts.BundleFormat.TheVariants.{Json, Pem}
+use Rattle.command_line.specs.declared.option_texts.OutputForm.{OutputForm}
+use Rattle.local_answers.specs.RequestRun.{Answers, AnswersShown, CallRun, Ends, EndsAnyhow, EndsShown, IsEnded, IsWith}
+use Rattle.local_answers.specs.RequestRun.{exit_over_memory, memory_exit, shown_in}
 use Rattle.local_answers.specs.declared.reply.Reply.{Reply}
-use Rattle.local_answers.proofs.RequestFacts.{bundle_ends, bundle_none, bundle_pem_ends, bundle_pem_none, dry_run_ends, explain_ends, explain_none, polls_ends}
 
 -- ---- memory
 
@@ -32,160 +30,161 @@ use Rattle.local_answers.proofs.RequestFacts.{bundle_ends, bundle_none, bundle_p
 all_held : (empty text filled : List ℕ) → empty ≡ [] → filled ≡ empty ++ text → text ≡ filled
 all_held empty text filled none written = sym (written ∙ ap (λ l. l ++ text) none)
 
--- a sink in memory, before and after
-abbrev memory_run : List ℕ → List ℕ → DeviceRun
-memory_run empty filled = record { before = Some empty; after = Some filled; had_failed = false; has_failed = false }
-
 -- any fault but one of a device is reported as it is
 pub exit_of_other : (e : CommandError) → (e ≡ Io → ⊥) → Refused e ≡ memory_exit e
 exit_of_other Io other = absurd (other refl)
 exit_of_other e other = refl
 
--- ---- `report`
+-- the same of an exit that is no refusal
+pub exit_of_none : (exit : Exit) → ((e : CommandError) → exit ≡ Refused e → ⊥) → exit ≡ exit_over_memory exit
+exit_of_none (Refused e) other = absurd (other e refl)
+exit_of_none exit other = refl
 
-pub report_shown : (m : Meaning) (empty filled output : List ℕ) → empty ≡ [] → output ≡ filled → WritesReport m (Some empty) (Some filled)
-    → IsReport m output
-report_shown m empty filled output none is w =
-    subst (IsReport m) (all_held empty w.text filled none w.written ∙ sym is) w.report
+-- ---- where a command ended, and not by a device, nothing was written
 
--- ---- `status`
+-- by the answer of a writer
+writer_unwritten : (Is : List ℕ → Type 0) (sink : DeviceRun) (answer : Result (Unit {0}) CommandError) (exit : Exit) → RunsWriter Is sink answer
+    → Err exit ≡ exit_if_done answer → (exit ≡ Refused Io → ⊥) → WritesNothing sink
+writer_unwritten Is sink (Ok v) exit runs is sound = let no : ⊥ = cc in absurd no
+writer_unwritten Is sink (Err Io) exit runs is sound = let same : exit ≡ Refused Io = cc in absurd (sound same)
+writer_unwritten Is sink (Err NoMemory) exit runs is sound = runs
+writer_unwritten Is sink (Err e) exit runs is sound = absurd runs
 
--- such a text was written
-pub some_shown : (Is : List ℕ → Type 0) (empty text filled output : List ℕ) → empty ≡ [] → output ≡ filled → Is text → filled ≡ empty ++ text
-    → Is output
-some_shown Is empty text filled output none is holds written = subst Is (all_held empty text filled none written ∙ sym is) holds
+-- of one that says whether there is a warning
+warned_unwritten : (Is : List ℕ → Type 0) (sink : DeviceRun) (answer : Result Bool CommandError) (exit : Exit) → RunsWriter Is sink answer
+    → Err exit ≡ exit_if_warned answer → (exit ≡ Refused Io → ⊥) → WritesNothing sink
+warned_unwritten Is sink (Ok v) exit runs is sound = let no : ⊥ = cc in absurd no
+warned_unwritten Is sink (Err Io) exit runs is sound = let same : exit ≡ Refused Io = cc in absurd (sound same)
+warned_unwritten Is sink (Err NoMemory) exit runs is sound = runs
+warned_unwritten Is sink (Err e) exit runs is sound = absurd runs
 
--- ---- `bundle`
+-- of `bundle`
+json_unwritten : (m : Meaning) (domain : List ℕ) (sink : DeviceRun) (answer : Result Bool CommandError) (exit : Exit)
+    → RunsBundle sink m domain answer → Err exit ≡ exit_if_written NoBundle answer → (exit ≡ Refused Io → ⊥) → WritesNothing sink
+json_unwritten m domain sink (Ok true) exit runs is sound = let no : ⊥ = cc in absurd no
+json_unwritten m domain sink (Ok false) exit runs is sound = runs.1
+json_unwritten m domain sink (Err Io) exit runs is sound = let same : exit ≡ Refused Io = cc in absurd (sound same)
+json_unwritten m domain sink (Err e) exit runs is sound = absurd runs
 
--- its current document was written
-pub bundle_shown : (m : Meaning) (domain text empty filled output : List ℕ) → (domain ≡ text) × IsDomainText text → empty ≡ []
-    → output ≡ filled → RunsBundle (memory_run empty filled) m domain (Ok true) → AnswersBundle m text output
-bundle_shown m domain text empty filled output read none is runs = (
-  read.1,
-  record {
-    sink = memory_run empty filled;
-    empty = ap Some none;
-    filled = ap Some (sym is);
-    runs = subst (λ d. RunsBundle (memory_run empty filled) m d (Ok true)) read.0 runs;
-  },
-)
+pem_unwritten : (m : Meaning) (domain : List ℕ) (sink : DeviceRun) (answer : Result Bool CommandError) (exit : Exit)
+    → RunsBundlePem sink m domain answer → Err exit ≡ exit_if_written NoBundle answer → (exit ≡ Refused Io → ⊥) → WritesNothing sink
+pem_unwritten m domain sink (Ok true) exit runs is sound = let no : ⊥ = cc in absurd no
+pem_unwritten m domain sink (Ok false) exit runs is sound = runs.1
+pem_unwritten m domain sink (Err Io) exit runs is sound = let same : exit ≡ Refused Io = cc in absurd (sound same)
+pem_unwritten m domain sink (Err NoMemory) exit runs is sound = runs
+pem_unwritten m domain sink (Err e) exit runs is sound = absurd runs
 
--- it has none
-pub bundle_lacking : (m : Meaning) (domain text empty filled : List ℕ) → domain ≡ text → empty ≡ []
-    → RunsBundle (memory_run empty filled) m domain (Ok false) → EndsBundle m text NoBundle
-bundle_lacking m domain text empty filled same none runs =
-    subst (λ d. EndsBundle m d NoBundle) same (bundle_none m domain (memory_run empty filled) (ap Some none) runs)
+-- in either format
+bundle_unwritten : (format : BundleFormat) (m : Meaning) (domain : List ℕ) (sink : DeviceRun) (answer : Result Bool CommandError) (exit : Exit)
+    → (format ≡ Json → RunsBundle sink m domain answer) → (format ≡ Pem → RunsBundlePem sink m domain answer)
+    → Err exit ≡ exit_if_written NoBundle answer → (exit ≡ Refused Io → ⊥) → WritesNothing sink
+bundle_unwritten Json m domain sink answer exit json pem is sound = json_unwritten m domain sink answer exit (json refl) is sound
+bundle_unwritten Pem m domain sink answer exit json pem is sound = pem_unwritten m domain sink answer exit (pem refl) is sound
 
--- memory was lacking
-pub bundle_failed : (m : Meaning) (domain text : List ℕ) (sink : DeviceRun) (e : CommandError) (exit : Exit) → domain ≡ text
-    → exit ≡ memory_exit e → RunsBundle sink m domain (Err e) → EndsBundle m text exit
-bundle_failed m domain text sink e exit same is runs =
-    subst (EndsBundle m text) (sym is) (subst (λ d. EndsBundle m d (memory_exit e)) same (bundle_ends m domain sink e runs))
+-- of `explain`
+explain_unwritten : (m : Meaning) (call : ExplanationCall) (run : CommandRun) (answer : Result Bool CommandError) (exit : Exit)
+    → RunsExplain run m call answer → Err exit ≡ exit_if_written NotAccepted answer → (exit ≡ Refused Io → ⊥) → WritesNothing run.sink
+explain_unwritten m call run (Ok true) exit runs is sound = let no : ⊥ = cc in absurd no
+explain_unwritten m call run (Ok false) exit runs is sound = runs.prints.1
+explain_unwritten m call run (Err Io) exit runs is sound = let same : exit ≡ Refused Io = cc in absurd (sound same)
+explain_unwritten m call run (Err NoMemory) exit runs is sound = runs
+explain_unwritten m call run (Err (Document why)) exit runs is sound = runs.unwritten
+explain_unwritten m call run (Err e) exit runs is sound = absurd runs
 
--- its name is none
-pub bundle_misnamed : (m : Meaning) (text : List ℕ) (exit : Exit) → ((e : NameError) × (exit ≡ Refused (Name e)) × RefusesDomain text e)
-    → EndsBundle m text exit
-bundle_misnamed m text exit why = subst (EndsBundle m text) (sym why.1) why.2
+-- of the moments of polls
+moments_unwritten : (form : OutputForm) (m : Meaning) (now : ℤ) (run : CommandRun) (answer : Result (Unit {0}) CommandError) (exit : Exit)
+    → RunsPollsIn run m (polls_call (polls_form form) now) answer → Err exit ≡ exit_if_done answer → (exit ≡ Refused Io → ⊥) → WritesNothing run.sink
+moments_unwritten form m now run (Ok v) exit runs is sound = let no : ⊥ = cc in absurd no
+moments_unwritten form m now run (Err Io) exit runs is sound = let same : exit ≡ Refused Io = cc in absurd (sound same)
+moments_unwritten form m now run (Err NoMemory) exit runs is sound = runs
+moments_unwritten form m now run (Err (Poll why)) exit runs is sound = runs.unwritten
+moments_unwritten form m now run (Err e) exit runs is sound = absurd runs
 
--- ---- `bundle --format pem`
+-- of what a record would change
+effect_unwritten : (m : Meaning) (x : Distrust) (sink : DeviceRun) (answer : Result (Unit {0}) CommandError) (exit : Exit)
+    → ShowsDistrust m x sink answer → Err exit ≡ exit_if_done answer → (exit ≡ Refused Io → ⊥) → WritesNothing sink
+effect_unwritten m x sink (Ok v) exit runs is sound = let no : ⊥ = cc in absurd no
+effect_unwritten m x sink (Err Io) exit runs is sound = let same : exit ≡ Refused Io = cc in absurd (sound same)
+effect_unwritten m x sink (Err NoMemory) exit runs is sound = runs
+effect_unwritten m x sink (Err (Take why)) exit runs is sound = runs.unwritten
+effect_unwritten m x sink (Err e) exit runs is sound = absurd runs
 
--- the certificates of its current document were written
-pub pem_shown : (m : Meaning) (domain text empty filled output : List ℕ) → (domain ≡ text) × IsDomainText text → empty ≡ []
-    → output ≡ filled → RunsBundlePem (memory_run empty filled) m domain (Ok true) → AnswersBundlePem m text output
-pem_shown m domain text empty filled output read none is runs = (
-  read.1,
-  record {
-    sink = memory_run empty filled;
-    empty = ap Some none;
-    filled = ap Some (sym is);
-    runs = subst (λ d. RunsBundlePem (memory_run empty filled) m d (Ok true)) read.0 runs;
-  },
-)
+-- of a command, whether its words are refused or its function ends
+report_unwritten : (call : ShownCall) (sink : DeviceRun) (exit : Exit) → ShowsReport call sink (Err exit) → (exit ≡ Refused Io → ⊥) → WritesNothing sink
+report_unwritten call sink exit (inl refused) sound = refused.unwritten.0
+report_unwritten call sink exit (inr shows) sound =
+    writer_unwritten (IsReportIn shows.form call.meaning) sink shows.answer exit shows.runs shows.is sound
 
--- it has none
-pub pem_lacking : (m : Meaning) (domain text empty filled : List ℕ) → domain ≡ text → empty ≡ []
-    → RunsBundlePem (memory_run empty filled) m domain (Ok false) → EndsBundlePem m text NoBundle
-pem_lacking m domain text empty filled same none runs =
-    subst (λ d. EndsBundlePem m d NoBundle) same (bundle_pem_none m domain (memory_run empty filled) (ap Some none) runs)
+status_unwritten : (call : ShownCall) (sink : DeviceRun) (exit : Exit) → ShowsStatus call sink (Err exit) → (exit ≡ Refused Io → ⊥) → WritesNothing sink
+status_unwritten call sink exit (inl refused) sound = refused.unwritten.0
+status_unwritten call sink exit (inr shows) sound =
+    warned_unwritten (IsStatusShown call.running call.meaning shows.format) sink shows.answer exit shows.runs shows.is sound
 
--- memory was lacking
-pub pem_failed : (m : Meaning) (domain text : List ℕ) (sink : DeviceRun) (e : CommandError) (exit : Exit) → domain ≡ text
-    → exit ≡ memory_exit e → RunsBundlePem sink m domain (Err e) → EndsBundlePem m text exit
-pem_failed m domain text sink e exit same is runs =
-    subst (EndsBundlePem m text) (sym is) (subst (λ d. EndsBundlePem m d (memory_exit e)) same (bundle_pem_ends m domain sink e runs))
+bundle_call_unwritten : (call : ShownCall) (sink : DeviceRun) (exit : Exit) → ShowsBundle call sink (Err exit) → (exit ≡ Refused Io → ⊥)
+    → WritesNothing sink
+bundle_call_unwritten call sink exit (inl refused) sound = refused.unwritten.0
+bundle_call_unwritten call sink exit (inr shows) sound =
+    bundle_unwritten shows.format call.meaning shows.domain sink shows.answer exit shows.json shows.pem shows.is sound
 
--- its name is none
-pub pem_misnamed : (m : Meaning) (text : List ℕ) (exit : Exit) → ((e : NameError) × (exit ≡ Refused (Name e)) × RefusesDomain text e)
-    → EndsBundlePem m text exit
-pem_misnamed m text exit why = subst (EndsBundlePem m text) (sym why.1) why.2
+explain_call_unwritten : (call : ShownCall) (run : CommandRun) (exit : Exit) → ShowsExplanation call run (Err exit) → (exit ≡ Refused Io → ⊥)
+    → WritesNothing run.sink
+explain_call_unwritten call run exit (inl refused) sound = refused.0.unwritten.0
+explain_call_unwritten call run exit (inr shows) sound =
+    explain_unwritten call.meaning (explanation_call shows.domain shows.form) run shows.answer exit shows.runs shows.is sound
 
--- ---- `explain`
+effect_call_unwritten : (call : ShownCall) (sink : DeviceRun) (exit : Exit) → ShowsEffect call sink (Err exit) → (exit ≡ Refused Io → ⊥)
+    → WritesNothing sink
+effect_call_unwritten call sink exit (inl refused) sound = refused.unwritten.0
+effect_call_unwritten call sink exit (inr shows) sound =
+    effect_unwritten call.meaning shows.x sink shows.answer exit shows.runs shows.is sound
 
--- a chain was written
-pub explain_shown : (m : Meaning) (domain text : List ℕ) (form : ExplanationForm) (input output : List ℕ) (devices : CommandRun)
-    → (domain ≡ text) × IsDomainText text → devices.source.before ≡ Some input → devices.sink.before ≡ Some []
-    → devices.sink.after ≡ Some output → RunsExplain devices m (explanation_call domain form) (Ok true)
-    → AnswersExplain m (explain_asked (explanation_call text form) input) output
-explain_shown m domain text form input output devices read source empty filled runs = (
-  read.1,
-  record {
-    devices = devices;
-    over = record { source = source; empty = empty; filled = filled };
-    runs = subst (λ d. RunsExplain devices m (explanation_call d form) (Ok true)) read.0 runs;
-  },
-)
+-- of `polls`
+polls_unwritten : (call : ShownCall) (run : CommandRun) (exit : Exit) → ShowsPolls call run (Err exit) → (exit ≡ Refused Io → ⊥)
+    → WritesNothing run.sink
+polls_unwritten call run exit (inl refused) sound = refused.0.unwritten.0
+polls_unwritten call run exit (inr shows) sound =
+    moments_unwritten shows.form call.meaning shows.now run shows.answer exit shows.runs shows.is sound
 
--- the document is not accepted
-pub explain_lacking : (m : Meaning) (domain text : List ℕ) (form : ExplanationForm) (input : List ℕ) (devices : CommandRun)
-    → domain ≡ text → devices.source.before ≡ Some input → devices.sink.before ≡ Some []
-    → RunsExplain devices m (explanation_call domain form) (Ok false)
-    → EndsExplain m (explain_asked (explanation_call text form) input) NotAccepted
-explain_lacking m domain text form input devices same source empty runs =
-    subst (λ d. EndsExplain m (explain_asked (explanation_call d form) input) NotAccepted) same
-    (explain_none m (explain_asked (explanation_call domain form) input) devices source empty runs)
+-- of any command
+shown_unwritten : (name : CommandName) (call : ShownCall) (run : CommandRun) (exit : Exit) → ShowsBy name call run (Err exit)
+    → (exit ≡ Refused Io → ⊥) → WritesNothing run.sink
+shown_unwritten command.Report call run exit shows sound = report_unwritten call run.sink exit shows.0 sound
+shown_unwritten command.Bundle call run exit shows sound = bundle_call_unwritten call run.sink exit shows.0 sound
+shown_unwritten command.Explain call run exit shows sound = explain_call_unwritten call run exit shows sound
+shown_unwritten command.Polls call run exit shows sound = polls_unwritten call run exit shows sound
+shown_unwritten command.Status call run exit shows sound = status_unwritten call run.sink exit shows.0 sound
+shown_unwritten command.Distrust call run exit shows sound = effect_call_unwritten call run.sink exit shows.0 sound
+shown_unwritten name call run exit shows sound = shows.0.unwritten.0
 
--- memory was lacking, or the input is no document
-pub explain_failed : (m : Meaning) (domain text : List ℕ) (form : ExplanationForm) (input : List ℕ) (devices : CommandRun) (e : CommandError)
-    (exit : Exit) → domain ≡ text → exit ≡ memory_exit e → devices.source.before ≡ Some input → devices.sink.before ≡ Some []
-    → RunsExplain devices m (explanation_call domain form) (Err e)
-    → EndsExplain m (explain_asked (explanation_call text form) input) exit
-explain_failed m domain text form input devices e exit same is source empty runs =
-    subst (EndsExplain m (explain_asked (explanation_call text form) input)) (sym is)
-    (subst (λ d. EndsExplain m (explain_asked (explanation_call d form) input) (memory_exit e)) same
-    (explain_ends m (explain_asked (explanation_call domain form) input) devices e source empty runs))
+-- ---- what is shown, over memory
 
--- the domain's name is none
-pub explain_misnamed : (m : Meaning) (text : List ℕ) (form : ExplanationForm) (input : List ℕ) (exit : Exit)
-    → ((e : NameError) × (exit ≡ Refused (Name e)) × RefusesDomain text e)
-    → EndsExplain m (explain_asked (explanation_call text form) input) exit
-explain_misnamed m text form input exit why =
-    subst (EndsExplain m (explain_asked (explanation_call text form) input)) (sym why.1) why.2
+-- the command ended: its device failed only where memory ran out
+ended_over : (run : CallRun) (devices : CommandRun) (exit : Exit) → devices.source.before ≡ Some run.change.input → devices.sink.before ≡ Some []
+    → RunsShown (shown_in run) devices (Err exit) → EndsAnyhow (exit_over_memory exit) ⊎ EndsShown run (exit_over_memory exit)
+ended_over run devices (Refused Io) source empty runs = inl tt
+ended_over run devices exit source empty runs = inr (record {
+  devices = devices;
+  over = record { source = source; empty = empty; filled = shown_unwritten run.name (shown_in run) devices exit runs (λ io. cc) ∙ empty };
+  runs = runs;
+})
 
--- ---- `polls`
+-- the same of how it is told
+pub shown_ended : (run : CallRun) (devices : CommandRun) (exit why : Exit) → why ≡ exit_over_memory exit
+    → devices.source.before ≡ Some run.change.input → devices.sink.before ≡ Some [] → RunsShown (shown_in run) devices (Err exit)
+    → EndsAnyhow why ⊎ EndsShown run why
+shown_ended run devices exit why is source empty runs =
+    subst (λ w. EndsAnyhow w ⊎ EndsShown run w) (sym is) (ended_over run devices exit source empty runs)
 
--- the moments were written
-pub polls_shown : (m : Meaning) (now : ℤ) (input output : List ℕ) (devices : CommandRun) → devices.source.before ≡ Some input
-    → devices.sink.before ≡ Some [] → devices.sink.after ≡ Some output → RunsPolls devices m now (Ok tt) → AnswersPolls m now input output
-polls_shown m now input output devices source empty filled runs =
-    record { devices = devices; over = record { source = source; empty = empty; filled = filled }; runs = runs }
-
--- memory was lacking, or a line is refused
-pub polls_failed : (m : Meaning) (now : ℤ) (input : List ℕ) (devices : CommandRun) (e : CommandError) (exit : Exit) → exit ≡ memory_exit e
-    → devices.source.before ≡ Some input → devices.sink.before ≡ Some [] → RunsPolls devices m now (Err e) → EndsPolls m now input exit
-polls_failed m now input devices e exit is source empty runs =
-    subst (EndsPolls m now input) (sym is) (polls_ends m now input devices e source empty runs)
-
--- ---- `distrust --dry-run`
-
--- what the record would change was written
-pub dry_run_shown : (m : Meaning) (x : Distrust) (output : List ℕ) (sink : DeviceRun) → sink.before ≡ Some [] → sink.after ≡ Some output
-    → ShowsDistrust m x sink (Ok tt) → AnswersDryRun m x output
-dry_run_shown m x output sink empty filled runs = record { sink = sink; empty = empty; filled = filled; runs = runs }
-
--- memory was lacking, or the record is refused
-pub dry_run_failed : (m : Meaning) (x : Distrust) (sink : DeviceRun) (e : CommandError) (exit : Exit) → exit ≡ memory_exit e
-    → sink.before ≡ Some [] → ShowsDistrust m x sink (Err e) → EndsDryRun m x exit
-dry_run_failed m x sink e exit is empty runs = subst (EndsDryRun m x) (sym is) (dry_run_ends m x sink e empty runs)
+-- the command is done, and its output is replied
+pub shown_done : (run : CallRun) (devices : CommandRun) (output errors : List ℕ) (status : ℕ) (reply : Reply)
+    → devices.source.before ≡ Some run.change.input → devices.sink.before ≡ Some [] → devices.sink.after ≡ Some output
+    → RunsShown (shown_in run) devices (Ok status) → errors ≡ [] → IsWith reply output errors status → AnswersShown run reply
+shown_done run devices output errors status reply source empty filled runs nothing with = record {
+  output = output;
+  status = status;
+  shows = record { devices = devices; over = record { source = source; empty = empty; filled = filled }; runs = runs };
+  replied = subst (λ l. IsWith reply output l status) nothing with;
+}
 
 -- ---- the reply
 
@@ -199,29 +198,6 @@ ended_with exit reply empty line errors output status written none is nothing ri
       (subst (λ l. IsWith reply [] l status) (is ∙ sym (all_held empty written.0 line none written.2))
       (subst (λ l. IsWith reply l errors status) nothing with)),
 )
-
--- an output of which this is so is replied
-pub replied : (Is : List ℕ → Type 0) (reply : Reply) (output : List ℕ) → Is output → IsReplied reply output [] → HasStreams Is reply
-replied Is reply output is with = record {
-  output = output;
-  answers = is;
-  head = with.head;
-  is_output = with.output;
-  errors = with.errors;
-  status = with.status;
-  goes_on = with.goes_on;
-}
-
--- the byte of whether there is a warning
-pub warning_byte : (warned : Bool) → from_bool warned ≡ (if warned then 1 else 0)
-warning_byte true = refl
-warning_byte false = refl
-
--- the status of a replica is replied, and a warning is its exit status
-pub warned_status : (reply : Reply) (text errors : List ℕ) (status : ℕ) (warned : Bool) → errors ≡ [] → status ≡ (if warned then 1 else 0)
-    → IsWith reply text errors status → IsWith reply text [] (if warned then 1 else 0)
-warned_status reply text errors status warned nothing is with =
-    subst (λ s. IsWith reply text [] s) is (subst (λ l. IsWith reply text l status) nothing with)
 
 -- ---- calls
 
@@ -239,15 +215,21 @@ pub ends_as : (name other : CommandName) (run : CallRun) (result : Result Reply 
     → IfErr result (Ends name run)
 ends_as name other run result is ends = subst (λ n. IfErr result (Ends n run)) (sym is) ends
 
--- a name that is none of these is none that a request may have
-pub none_asked : (name : CommandName) (run : CallRun) → (name ≡ command.Report → ⊥) → (name ≡ command.Explain → ⊥) → (name ≡ command.Polls → ⊥)
-    → (name ≡ command.Observe → ⊥) → (name ≡ command.Merge → ⊥) → (name ≡ command.Distrust → ⊥) → (name ≡ command.Stop → ⊥) → Ends name run Usage
-none_asked command.Report run report explain polls observe merge distrust stop = absurd (report refl)
-none_asked command.Explain run report explain polls observe merge distrust stop = absurd (explain refl)
-none_asked command.Polls run report explain polls observe merge distrust stop = absurd (polls refl)
-none_asked command.Observe run report explain polls observe merge distrust stop = absurd (observe refl)
-none_asked command.Merge run report explain polls observe merge distrust stop = absurd (merge refl)
-none_asked command.Distrust run report explain polls observe merge distrust stop = absurd (distrust refl)
-none_asked command.Stop run report explain polls observe merge distrust stop = absurd (stop refl)
-none_asked command.Bundle run report explain polls observe merge distrust stop = inr (inl refl)
-none_asked name run report explain polls observe merge distrust stop = inr refl
+-- a name of none of these commands is that of one that shows what is held
+pub answers_shown : (name : CommandName) (run : CallRun) (result : Result Reply Exit) → (name ≡ command.Observe → ⊥) → (name ≡ command.Merge → ⊥)
+    → (name ≡ command.Distrust → ⊥) → (name ≡ command.Stop → ⊥) → IfOk result (AnswersShown run) → IfOk result (Answers name run)
+answers_shown command.Observe run result observe merge distrust stop answers = absurd (observe refl)
+answers_shown command.Merge run result observe merge distrust stop answers = absurd (merge refl)
+answers_shown command.Distrust run result observe merge distrust stop answers = absurd (distrust refl)
+answers_shown command.Stop run result observe merge distrust stop answers = absurd (stop refl)
+answers_shown name run result observe merge distrust stop answers = answers
+
+-- the same of how it ends
+pub ends_shown : (name : CommandName) (run : CallRun) (result : Result Reply Exit) → (name ≡ command.Observe → ⊥) → (name ≡ command.Merge → ⊥)
+    → (name ≡ command.Distrust → ⊥) → (name ≡ command.Stop → ⊥) → IfErr result (λ exit. EndsAnyhow exit ⊎ EndsShown run exit)
+    → IfErr result (Ends name run)
+ends_shown command.Observe run result observe merge distrust stop ends = absurd (observe refl)
+ends_shown command.Merge run result observe merge distrust stop ends = absurd (merge refl)
+ends_shown command.Distrust run result observe merge distrust stop ends = absurd (distrust refl)
+ends_shown command.Stop run result observe merge distrust stop ends = absurd (stop refl)
+ends_shown name run result observe merge distrust stop ends = ends

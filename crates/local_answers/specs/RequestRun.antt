@@ -1,48 +1,32 @@
 -- What comes of a request, in the words of the command's function over files: its source has the
 -- input, and its sink, which held nothing, holds the output.
-use Rattle.std.specs.Prelude.{◌≡◌, ◌⊎◌, ℕ, ℤ, List, [], Bool, true, false, Option, Some, None}
-use Rattle.std.specs.Prelude.{Result, Ok, Err, if◌then◌else◌, map, option_map}
-use Rattle.hex.specs.Hex.{decode_sized}
-use Rattle.spiffe_name.specs.SpiffeId.{IsId, RefusesId}
-use Rattle.spiffe_name.specs.TrustDomain.{IsDomainText, RefusesDomain}
-use Rattle.spiffe_name.specs.declared.error.NameError.{NameError}
+use Rattle.std.specs.Prelude.{◌≡◌, ◌⊎◌, ℕ, List, [], Bool, true, false, Option, Some}
+use Rattle.std.specs.Prelude.{Result, Ok, Err}
+use Rattle.spiffe_name.specs.TrustDomain.{IsDomainText}
 use Rattle.receipt_core.specs.Acceptance.{Meaning}
 use Rattle.receipt_core.specs.declared.distrust.Distrust.{Distrust}
-use Rattle.bundle_view.specs.Report.{IsReport}
-use Rattle.bundle_view.specs.declared.observation.Verdict.{Verdict}
 use Rattle.fedbundle.specs.CommandRun.{CommandRun, DeviceRun, StateRun}
-use Rattle.fedbundle.specs.CurrentBundle.{RunsBundle, RunsBundlePem}
 use Rattle.fedbundle.specs.Distrust.{HoldsRecord, RunsDistrust, ShowsDistrust}
-use Rattle.fedbundle.specs.Explain.{ExplanationCall, RunsExplain, explanation_call}
 use Rattle.fedbundle.specs.Merge.{RunsMerge}
 use Rattle.fedbundle.specs.Observe.{Fetched, IsAsHeld, RunsObserve}
-use Rattle.fedbundle.specs.Polls.{RunsPolls}
-use Rattle.command_line.specs.OptionTexts.{SaysBundleFormat, SaysExplanationForm}
 use Rattle.command_line.specs.OptionTexts.{SaysFlag, option_said}
-use Rattle.fedbundle.specs.OptionValues.{SaysMoment, SaysStatusFormat}
-use Rattle.command_line.specs.declared.option_texts.ExplanationForm.{ExplanationForm}
-use Rattle.command_line.specs.declared.option_texts.BundleFormat.{BundleFormat}
-use Rattle.command_line.specs.declared.option_texts.BundleFormat.TheVariants.{Json, Pem}
-use Rattle.status_view.specs.StatusRuns.{IsRunningStatusIn, IsWarned}
-use Rattle.status_view.specs.declared.running.RunningStatus.{RunningStatus}
-use Rattle.status_view.specs.declared.status_writer.StatusFormat.{StatusFormat}
+use Rattle.fedbundle.specs.SaidValues.{EndsAtDomain, SaysNoRecord, SaysNoVerdict, SaysRecord}
+use Rattle.fedbundle.specs.SaidValues.{SaysVerdict}
+use Rattle.fedbundle.specs.Shown.{RunsShown, ShownCall}
+use Rattle.fedbundle.specs.Exits.{IsExitLine, exit_status_of}
+use Rattle.command_line.specs.Words.{CallsInRequest}
 use Rattle.command_line.specs.declared.command_name.CommandName.{CommandName}
 use Rattle.command_line.specs.declared.command_name.CommandName.TheVariants as command
 use Rattle.command_line.specs.declared.command_name.OptionName.{OptionName}
-use Rattle.command_line.specs.declared.command_name.OptionName.TheVariants.{Domain, Endpoint, Key}
-use Rattle.command_line.specs.declared.command_name.OptionName.TheVariants.{Format, Short, Now}
-use Rattle.command_line.specs.declared.command_name.OptionName.TheVariants.{DryRun, Verbose}
+use Rattle.command_line.specs.declared.command_name.OptionName.TheVariants.{Domain, DryRun, Verbose}
 use Rattle.fedbundle.specs.declared.error.CommandError.{CommandError}
-use Rattle.fedbundle.specs.Exits.{IsExitLine, exit_status_of}
-use Rattle.fedbundle.specs.declared.error.CommandError.TheVariants.{Document, Io, Name, NoMemory}
-use Rattle.fedbundle.specs.declared.error.CommandError.TheVariants.{Observe, Poll, Sync, Take}
+use Rattle.fedbundle.specs.declared.error.CommandError.TheVariants.{Io, NoMemory, Observe, Sync}
+use Rattle.fedbundle.specs.declared.error.CommandError.TheVariants.{Take}
 use Rattle.fedbundle.specs.declared.exits.Exit.{Exit}
-use Rattle.fedbundle.specs.declared.exits.Exit.TheVariants.{NoBundle, NotAccepted, Refused}
-use Rattle.fedbundle.specs.declared.exits.Exit.TheVariants.{Usage, BadNumber, BadKey, BadMoment}
-use Rattle.fedbundle.specs.declared.exits.Exit.TheVariants.{TooManyBytes}
-use Rattle.command_line.specs.Words.{CallsInRequest}
-use Rattle.command_line.specs.declared.words.Call.{Call}
+use Rattle.fedbundle.specs.declared.exits.Exit.TheVariants.{BadNumber, Refused, TooManyBytes}
+use Rattle.fedbundle.specs.declared.exits.Exit.TheVariants.{Usage}
 use Rattle.request_lines.specs.RequestLines.{SaysWords}
+use Rattle.status_view.specs.declared.running.RunningStatus.{RunningStatus}
 use Rattle.local_answers.specs.Replies.{first_line}
 use Rattle.local_answers.specs.declared.reply.Reply.{Reply}
 
@@ -72,77 +56,9 @@ abbrev pub memory_exit : CommandError → Exit
 memory_exit Io = Refused NoMemory
 memory_exit e = Refused e
 
--- ---- commands that show what is held
-
--- the domain's current document
-abbrev pub AnswersBundle : Meaning → List ℕ → List ℕ → Type 0
-AnswersBundle m domain output = IsDomainText domain
-    × GivesInto (λ sink. RunsBundle sink m domain (Ok true)) output
-
--- The domain has none; or its name is none.
-abbrev pub EndsBundle : Meaning → List ℕ → Exit → Type 0
-EndsBundle m domain NoBundle = GivesInto (λ sink. RunsBundle sink m domain (Ok false)) []
-EndsBundle m domain (Refused (Name e)) = RefusesDomain domain e
-EndsBundle m domain (Refused NoMemory) = Unit {0}
-EndsBundle m domain exit = ⊥
-
--- the same with its certificates as PEM
-abbrev pub AnswersBundlePem : Meaning → List ℕ → List ℕ → Type 0
-AnswersBundlePem m domain output = IsDomainText domain
-    × GivesInto (λ sink. RunsBundlePem sink m domain (Ok true)) output
-
-abbrev pub EndsBundlePem : Meaning → List ℕ → Exit → Type 0
-EndsBundlePem m domain NoBundle = GivesInto (λ sink. RunsBundlePem sink m domain (Ok false)) []
-EndsBundlePem m domain (Refused (Name e)) = RefusesDomain domain e
-EndsBundlePem m domain (Refused NoMemory) = Unit {0}
-EndsBundlePem m domain exit = ⊥
-
-abbrev pub AnswersBundleIn : BundleFormat → Meaning → List ℕ → List ℕ → Type 0
-AnswersBundleIn Json m domain output = AnswersBundle m domain output
-AnswersBundleIn Pem m domain output = AnswersBundlePem m domain output
-
--- of which domain a document is to be explained and how, and the bytes of it
-pub record ExplainAsked : Type 0 where
-  pub call : ExplanationCall
-  pub input : List ℕ
-
-abbrev pub explain_asked : ExplanationCall → List ℕ → ExplainAsked
-explain_asked call input = record { call = call; input = input }
-
-abbrev pub AnswersExplain : Meaning → ExplainAsked → List ℕ → Type 0
-AnswersExplain m asked output = IsDomainText asked.call.domain
-    × Gives (λ devices. RunsExplain devices m asked.call (Ok true)) asked.input output
-
--- It is not accepted; the name or the document is refused.
-abbrev pub EndsExplain : Meaning → ExplainAsked → Exit → Type 0
-EndsExplain m asked NotAccepted =
-    Gives (λ devices. RunsExplain devices m asked.call (Ok false)) asked.input []
-EndsExplain m asked (Refused (Name e)) = RefusesDomain asked.call.domain e
-EndsExplain m asked (Refused (Document e)) =
-    Gives (λ devices. RunsExplain devices m asked.call (Err (Document e))) asked.input []
-EndsExplain m asked (Refused NoMemory) = Unit {0}
-EndsExplain m asked exit = ⊥
-
--- the lines of the polls so far, and the moment
-abbrev pub AnswersPolls : Meaning → ℤ → List ℕ → List ℕ → Type 0
-AnswersPolls m now input output = Gives (λ devices. RunsPolls devices m now (Ok tt)) input output
-
--- A line is refused.
-abbrev pub EndsPolls : Meaning → ℤ → List ℕ → Exit → Type 0
-EndsPolls m now input (Refused (Poll e)) =
-    Gives (λ devices. RunsPolls devices m now (Err (Poll e))) input []
-EndsPolls m now input (Refused NoMemory) = Unit {0}
-EndsPolls m now input exit = ⊥
-
--- what a record of distrust would change
-abbrev pub AnswersDryRun : Meaning → Distrust → List ℕ → Type 0
-AnswersDryRun m x output = GivesInto (λ sink. ShowsDistrust m x sink (Ok tt)) output
-
--- The record is refused.
-abbrev pub EndsDryRun : Meaning → Distrust → Exit → Type 0
-EndsDryRun m x (Refused (Take e)) = GivesInto (λ sink. ShowsDistrust m x sink (Err (Take e))) []
-EndsDryRun m x (Refused NoMemory) = Unit {0}
-EndsDryRun m x exit = ⊥
+abbrev pub exit_over_memory : Exit → Exit
+exit_over_memory (Refused e) = memory_exit e
+exit_over_memory exit = exit
 
 -- ---- commands that change what is held
 
@@ -251,29 +167,7 @@ said run option = option_said run.name run.texts option
 abbrev pub IsGiven : CallRun → OptionName → List ℕ → Type 0
 IsGiven run option text = said run option ≡ Some text
 
--- what is held, of a command that only shows it
-abbrev pub held_in : CallRun → Meaning
-held_in run = run.change.state.old.meaning
-
--- The words say this record of distrust.
-pub record SaysRecord (name : CommandName) (texts : List (Option (List ℕ)))
-    (x : Distrust) : Type 0 where
-  pub domain : option_said name texts Domain ≡ Some x.domain
-  pub form : IsDomainText x.domain
-  pub digits : List ℕ
-  pub key : option_said name texts Key ≡ Some digits
-  pub is_key : decode_sized digits 32 ≡ Ok x.key.0
-
--- They say what TLS said.
-pub record SaysVerdict (name : CommandName) (texts : List (Option (List ℕ)))
-    (verdict : Verdict) : Type 0 where
-  pub endpoint : option_said name texts Endpoint ≡ Some verdict.endpoint.text
-  pub form : IsId verdict.endpoint
-  pub digits : List ℕ
-  pub key : option_said name texts Key ≡ Some digits
-  pub is_key : decode_sized digits 32 ≡ Ok verdict.key.0
-
--- They say whose bundle was fetched, and what TLS said.
+-- The words say whose bundle was fetched, and what TLS said.
 pub record SaysFetched (run : CallRun) (fetched : Fetched) : Type 0 where
   pub domain : IsGiven run Domain fetched.domain
   pub form : IsDomainText fetched.domain
@@ -283,51 +177,24 @@ abbrev pub call_run : CommandName → List (Option (List ℕ)) → RunningStatus
 call_run name texts running change =
     record { name = name; texts = texts; running = running; change = change }
 
--- the texts of a call's options
-abbrev pub texts_of_call : Call → List (Option (List ℕ))
-texts_of_call call = map (option_map (λ t. t.now)) call.texts.items
-
 -- ---- what a call answers, of what the words say
 
--- `report`
-abbrev pub AnswersReportCall : CallRun → Reply → Type 0
-AnswersReportCall run reply = HasStreams (IsReport (held_in run)) reply
+-- the words and what is held, of a command that only shows it, with what the replica says of itself
+abbrev pub shown_in : CallRun → ShownCall
+shown_in run = record {
+  name = run.name;
+  texts = run.texts;
+  meaning = run.change.state.old.meaning;
+  running = Some run.running;
+}
 
--- `bundle`, in the format that the words say
-pub record AnswersBundleCall (run : CallRun) (reply : Reply) : Type 0 where
-  pub domain : List ℕ
-  pub is_domain : IsGiven run Domain domain
-  pub format : BundleFormat
-  pub is_format : SaysBundleFormat (said run Format) format
-  pub answers : HasStreams (AnswersBundleIn format (held_in run) domain) reply
-
--- `explain`, in the form that the words say
-pub record AnswersExplainCall (run : CallRun) (reply : Reply) : Type 0 where
-  pub domain : List ℕ
-  pub is_domain : IsGiven run Domain domain
-  pub form : ExplanationForm
-  pub is_form : SaysExplanationForm (said run Short) form
-  pub answers : HasStreams (AnswersExplain (held_in run)
-      (explain_asked (explanation_call domain form) run.change.input)) reply
-
--- `polls`, at the moment that the words say
-pub record AnswersPollsCall (run : CallRun) (reply : Reply) : Type 0 where
-  pub seconds : List ℕ
-  pub is_given : IsGiven run Now seconds
-  pub now : ℤ
-  pub is_now : SaysMoment seconds now
-  pub answers : HasStreams (AnswersPolls (held_in run) now run.change.input) reply
-
--- `status`, in the format that the words say, with what the replica says of itself: a warning makes
--- the exit status 1
-pub record AnswersStatus (run : CallRun) (reply : Reply) : Type 0 where
-  pub format : StatusFormat
-  pub is_format : SaysStatusFormat (said run Format) format
-  pub text : List ℕ
-  pub is_text : IsRunningStatusIn (held_in run) run.running format text
-  pub warned : Bool
-  pub is_warned : IsWarned (held_in run) warned
-  pub replied : IsWith reply text [] (if warned then 1 else 0)
+-- A command that shows what is held, over memory: its output, and its exit status.
+pub record AnswersShown (run : CallRun) (reply : Reply) : Type 0 where
+  pub output : List ℕ
+  pub status : ℕ
+  pub shows : Gives (λ devices. RunsShown (shown_in run) devices (Ok status)) run.change.input
+      output
+  pub replied : IsWith reply output [] status
 
 -- `observe`
 pub record AnswersObserveCall (run : CallRun) (reply : Reply) : Type 0 where
@@ -335,24 +202,25 @@ pub record AnswersObserveCall (run : CallRun) (reply : Reply) : Type 0 where
   pub says : SaysFetched run fetched
   pub answers : HasStreams (AnswersObserve run.change fetched) reply
 
--- The record is held, and beside it stands what it changes where the words have `--verbose`.
-pub record HoldsAsSaid (run : CallRun) (x : Distrust) (reply : Reply) : Type 0 where
+-- The record that the words say is held, and beside it stands what it changes where they have
+-- `--verbose`.
+pub record HoldsAsSaid (run : CallRun) (reply : Reply) : Type 0 where
+  pub x : Distrust
+  pub says : SaysRecord run.name run.texts x
   pub verbose : Bool
   pub is_verbose : SaysFlag (said run Verbose) verbose
   pub held : SaysDistrusted run.change.state x verbose reply
 
 -- What a record would change where the words have `--dry-run`; and else it is held.
-abbrev pub AnswersRecord : (is_dry : Bool) → CallRun → Distrust → Reply → Type 0
-AnswersRecord true run x reply = HasStreams (AnswersDryRun (held_in run) x) reply
-AnswersRecord false run x reply = HoldsAsSaid run x reply
+abbrev pub AnswersRecord : (is_dry : Bool) → CallRun → Reply → Type 0
+AnswersRecord true run reply = AnswersShown run reply
+AnswersRecord false run reply = HoldsAsSaid run reply
 
 -- `distrust`
 pub record AnswersDistrust (run : CallRun) (reply : Reply) : Type 0 where
-  pub x : Distrust
-  pub says : SaysRecord run.name run.texts x
   pub dry : Bool
   pub is_dry : SaysFlag (said run DryRun) dry
-  pub answers : AnswersRecord dry run x reply
+  pub answers : AnswersRecord dry run reply
 
 -- `stop`: nothing is said, and the replica ends
 pub record AnswersStop (reply : Reply) : Type 0 where
@@ -363,18 +231,13 @@ pub record AnswersStop (reply : Reply) : Type 0 where
   pub unjournalled : reply.journal.items ≡ []
   pub ends : reply.ends ≡ true
 
--- What is replied, by the command.
+-- What is replied, by the command: the others show what is held.
 abbrev pub Answers : CommandName → CallRun → Reply → Type 0
-Answers command.Report run reply = AnswersReportCall run reply
-Answers command.Bundle run reply = AnswersBundleCall run reply
-Answers command.Explain run reply = AnswersExplainCall run reply
-Answers command.Polls run reply = AnswersPollsCall run reply
-Answers command.Status run reply = AnswersStatus run reply
 Answers command.Observe run reply = AnswersObserveCall run reply
 Answers command.Merge run reply = HasStreams (AnswersMerge run.change) reply
 Answers command.Distrust run reply = AnswersDistrust run reply
 Answers command.Stop run reply = AnswersStop reply
-Answers name run reply = ⊥
+Answers name run reply = AnswersShown run reply
 
 -- ---- how a call ends
 
@@ -384,78 +247,11 @@ EndsAnyhow (BadNumber option) = Unit {0}
 EndsAnyhow (Refused NoMemory) = Unit {0}
 EndsAnyhow exit = ⊥
 
--- The words leave out this option, which the command wants.
-pub record EndsWithout (option : OptionName) (name : CommandName)
-    (texts : List (Option (List ℕ))) (exit : Exit) : Type 0 where
-  pub lacks : option_said name texts option ≡ None
-  pub is : exit ≡ Usage
-
--- The name that the words give this option is refused, for a cause.
-pub record EndsAtName (Refuses : List ℕ → NameError → Type 0) (option : OptionName)
-    (name : CommandName) (texts : List (Option (List ℕ))) (exit : Exit) : Type 0 where
-  pub text : List ℕ
-  pub is_said : option_said name texts option ≡ Some text
-  pub why : NameError
-  pub refused : Refuses text why
-  pub is : exit ≡ Refused (Name why)
-
--- The words give a key that is not read.
-pub record EndsAtDigits (name : CommandName) (texts : List (Option (List ℕ)))
-    (exit : Exit) : Type 0 where
-  pub digits : List ℕ
-  pub is_said : option_said name texts Key ≡ Some digits
-  pub is : exit ≡ BadKey
-
--- They say no domain,
-abbrev pub EndsAtDomain : CommandName → List (Option (List ℕ)) → Exit → Type 0
-EndsAtDomain name texts exit = EndsWithout Domain name texts exit
-    ⊎ EndsAtName RefusesDomain Domain name texts exit
-
--- no endpoint,
-abbrev pub EndsAtEndpoint : CommandName → List (Option (List ℕ)) → Exit → Type 0
-EndsAtEndpoint name texts exit = EndsWithout Endpoint name texts exit
-    ⊎ EndsAtName RefusesId Endpoint name texts exit
-
--- or no key.
-abbrev pub EndsAtKey : CommandName → List (Option (List ℕ)) → Exit → Type 0
-EndsAtKey name texts exit = EndsWithout Key name texts exit ⊎ EndsAtDigits name texts exit
-
--- They say no record of distrust.
-abbrev pub SaysNoRecord : CommandName → List (Option (List ℕ)) → Exit → Type 0
-SaysNoRecord name texts exit = EndsAtDomain name texts exit ⊎ EndsAtKey name texts exit
-
--- They do not say what TLS said.
-abbrev pub SaysNoVerdict : CommandName → List (Option (List ℕ)) → Exit → Type 0
-SaysNoVerdict name texts exit = EndsAtEndpoint name texts exit ⊎ EndsAtKey name texts exit
-
-abbrev pub EndsBundleIn : BundleFormat → Meaning → List ℕ → Exit → Type 0
-EndsBundleIn Json m domain exit = EndsBundle m domain exit
-EndsBundleIn Pem m domain exit = EndsBundlePem m domain exit
-
--- `bundle` ends for what is held
-pub record EndsBundleCall (run : CallRun) (exit : Exit) : Type 0 where
-  pub domain : List ℕ
-  pub is_domain : IsGiven run Domain domain
-  pub format : BundleFormat
-  pub is_format : SaysBundleFormat (said run Format) format
-  pub ends : EndsBundleIn format (held_in run) domain exit
-
--- `explain` ends for what is held or what is read
-pub record EndsExplainCall (run : CallRun) (exit : Exit) : Type 0 where
-  pub domain : List ℕ
-  pub is_domain : IsGiven run Domain domain
-  pub form : ExplanationForm
-  pub is_form : SaysExplanationForm (said run Short) form
-  pub ends : EndsExplain (held_in run)
-      (explain_asked (explanation_call domain form) run.change.input) exit
-
--- `polls` ends for what is read
-pub record EndsPollsCall (run : CallRun) (exit : Exit) : Type 0 where
-  pub seconds : List ℕ
-  pub is_given : IsGiven run Now seconds
-  pub now : ℤ
-  pub is_now : SaysMoment seconds now
-  pub ends : EndsPolls (held_in run) now run.change.input exit
+-- A command that shows what is held ends over memory, with no output. No device failed.
+abbrev pub EndsShown : CallRun → Exit → Type 0
+EndsShown run (Refused Io) = ⊥
+EndsShown run exit =
+    Gives (λ devices. RunsShown (shown_in run) devices (Err exit)) run.change.input []
 
 -- `observe` ends, and nothing is observed
 pub record EndsObserveCall (run : CallRun) (exit : Exit) : Type 0 where
@@ -463,35 +259,32 @@ pub record EndsObserveCall (run : CallRun) (exit : Exit) : Type 0 where
   pub says : SaysFetched run fetched
   pub ends : EndsObserve run.change fetched exit
 
-abbrev pub EndsRecord : (is_dry : Bool) → StateRun → Distrust → Exit → Type 0
-EndsRecord true state x exit = EndsDryRun state.old.meaning x exit
-EndsRecord false state x exit = EndsDistrust state x exit
+-- The record that the words say is refused.
+pub record EndsLasting (run : CallRun) (exit : Exit) : Type 0 where
+  pub x : Distrust
+  pub says : SaysRecord run.name run.texts x
+  pub ends : EndsDistrust run.change.state x exit
+
+-- They say none, or it is refused; nothing has changed.
+abbrev pub EndsRecord : (is_dry : Bool) → CallRun → Exit → Type 0
+EndsRecord true run exit = EndsShown run exit
+EndsRecord false run exit = SaysNoRecord run.name run.texts exit ⊎ EndsLasting run exit
 
 -- `distrust` ends, and nothing has changed
 pub record EndsDistrustCall (run : CallRun) (exit : Exit) : Type 0 where
-  pub x : Distrust
-  pub says : SaysRecord run.name run.texts x
   pub dry : Bool
   pub is_dry : SaysFlag (said run DryRun) dry
-  pub ends : EndsRecord dry run.change.state x exit
+  pub ends : EndsRecord dry run exit
 
 -- How a command ends for what the words say, for what is held or for what is read, by the command.
--- `report` and `stop` never do; of the last row are those that are none of a request.
+-- `stop` never does.
 abbrev pub EndsFor : CommandName → CallRun → Exit → Type 0
-EndsFor command.Report run exit = ⊥
 EndsFor command.Stop run exit = ⊥
-EndsFor command.Status run exit = exit ≡ Usage
-EndsFor command.Bundle run exit = (exit ≡ Usage) ⊎ EndsBundleCall run exit
-EndsFor command.Explain run exit = EndsWithout Domain run.name run.texts exit
-    ⊎ EndsExplainCall run exit
-EndsFor command.Polls run exit = EndsWithout Now run.name run.texts exit
-    ⊎ ((exit ≡ BadMoment) ⊎ EndsPollsCall run exit)
 EndsFor command.Observe run exit = EndsAtDomain run.name run.texts exit
     ⊎ (SaysNoVerdict run.name run.texts exit ⊎ EndsObserveCall run exit)
 EndsFor command.Merge run exit = (exit ≡ TooManyBytes) ⊎ EndsMerge run.change exit
-EndsFor command.Distrust run exit = SaysNoRecord run.name run.texts exit
-    ⊎ EndsDistrustCall run exit
-EndsFor name run exit = exit ≡ Usage
+EndsFor command.Distrust run exit = EndsDistrustCall run exit
+EndsFor name run exit = EndsShown run exit
 
 -- How a command ends that is not done.
 abbrev pub Ends : CommandName → CallRun → Exit → Type 0

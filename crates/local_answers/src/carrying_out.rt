@@ -12,7 +12,7 @@ use crate::asked::Asked;
 use crate::changing_calls::{distrust, merge, observe};
 use crate::reply::Reply;
 use crate::request_fault::RequestFault;
-use crate::shown_calls::{bundle, explain, polls, report, status, stop};
+use crate::shown_calls::{shown, stop};
 use closure_core::Closure;
 use fedbundle::{CommandName, Exit, WordsError, manner_of, read_request};
 use request_lines::read_request_words;
@@ -128,11 +128,6 @@ fn carry_out<C: Closure>(
 {
     let most_bytes = manner_of(asked.call)?.most_bytes;
     match asked.call.name {
-        CommandName::Report => report(alloc, closure, asked),
-        CommandName::Bundle => bundle(alloc, closure, asked),
-        CommandName::Explain => explain(alloc, closure, asked),
-        CommandName::Polls => polls(alloc, closure, asked),
-        CommandName::Status => status(alloc, closure, asked),
         CommandName::Observe => observe(alloc, closure, asked),
         CommandName::Merge => {
             let room = most_bytes.saturating_sub(asked.running.state_bytes());
@@ -140,6 +135,6 @@ fn carry_out<C: Closure>(
         }
         CommandName::Distrust => distrust(alloc, closure, asked),
         CommandName::Stop => stop(alloc, closure, asked),
-        _ => Err(Exit::Usage),
+        _ => shown(alloc, closure, asked),
     }
 }

@@ -10,7 +10,7 @@ ghost use Rattle.local_answers.specs.RequestRun.{SaysDistrusted, SaysEffect, cha
 
 use crate::new_lines::{line_of_receipt, line_of_record, lines_of_other};
 use crate::reply::Reply;
-use crate::shown_replies::in_memory;
+use crate::shown_calls::in_memory;
 use bundle_view::{Verdict, take_observed};
 use byte_lines::{FromRead, FromWrite};
 use closure_core::Closure;

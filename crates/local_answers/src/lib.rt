@@ -2,11 +2,11 @@
 //! clock: the bytes of a connection go in, as the pieces in which they come, and a reply comes out.
 //!
 //! `request_parts` joins the pieces, and `request_fault` has what is replied where they are no
-//! request. `asked` has what a request asks for, and `carrying_out` does it: `shown_calls` and
-//! `shown_replies` have the commands that show what is held, and `changing_calls` and
-//! `changing_replies` those that change it, the first of each what the words say, and the second
-//! what is replied. A change is journalled by `new_lines`. `reply` is what is sent back, and
-//! `reply_sending` says when. `call_words` is for clients.
+//! request. `asked` has what a request asks for, and `carrying_out` does it: `shown_calls` has the
+//! commands that show what is held, which are those of [`fedbundle::run_shown`], and
+//! `changing_calls` and `changing_replies` those that change it, the first what the words say, and
+//! the second what is replied. A change is journalled by `new_lines`. `reply` is what is sent back,
+//! and `reply_sending` says when. `call_words` is for clients.
 #![tactic(auto)]
 
 mod asked;
@@ -21,7 +21,6 @@ mod reply_sending;
 mod request_fault;
 mod request_parts;
 mod shown_calls;
-mod shown_replies;
 
 pub use call_words::request_words;
 pub use carrying_out::answer_request;

@@ -1,102 +1,62 @@
-//! The commands that show what is held, by what the words say.
-ghost use Rattle.std.specs.Prelude.{◌≡◌, [], IfErr, IfOk};
+//! The commands that show what is held, over memory: their source has the input, and their sink is
+//! a text, whose growth is all that can fail. Beside them `stop`, which does nothing but end.
+ghost use Rattle.std.specs.Prelude.{◌≡◌, ◌⊎◌, [], IfErr, IfOk};
 ghost use Rattle.fedbundle.specs.CommandRun.{state_run};
 ghost use Rattle.command_line.specs.declared.command_name.CommandName.TheVariants as command;
 ghost use Rattle.local_answers.specs.Inside.AskedRun.{run_of_asked};
-ghost use Rattle.local_answers.specs.RequestRun.{Answers, Ends};
+ghost use Rattle.local_answers.specs.RequestRun.{Answers, AnswersShown, Ends, EndsAnyhow};
+ghost use Rattle.local_answers.specs.RequestRun.{EndsShown, exit_over_memory, memory_exit};
 
 use crate::asked::Asked;
 use crate::reply::Reply;
-use crate::shown_replies;
+use byte_lines::{FromRead, FromWrite};
 use closure_core::Closure;
-use fedbundle::{
-    Exit, OptionName, explanation_form, given, read_bundle_format, read_moment, read_status_format,
-    wanted,
-};
+use fedbundle::{CommandError, Exit, Shown, run_shown};
 use std::alloc::Global;
 
-pub(crate) fn report<C: Closure>(
+pub(crate) fn shown<C: Closure>(
     alloc: Global,
     closure: &C,
     asked: Asked<'_, '_, '_>,
 ) -> Result<Reply, Exit>
-    ensures answers { IfOk result (Answers command.Report
+    ensures answers { IfOk result (AnswersShown
         (run_of_asked asked.entry (state_run (C.state closure.now) (C.state closure.now)))) }
-    ensures ends { IfErr result (Ends command.Report
-        (run_of_asked asked.entry (state_run (C.state closure.now) (C.state closure.now)))) }
+    ensures ends { IfErr result (λ exit. EndsAnyhow exit ⊎ EndsShown
+        (run_of_asked asked.entry (state_run (C.state closure.now) (C.state closure.now))) exit) }
     ensures unjournalled { IfOk result (λ reply. reply.journal.items ≡ []) }
 {
-    let _name = asked.call.name;
-    let text = shown_replies::report(alloc, closure)?;
-    Ok(Reply::done(alloc, text)?)
+    let shown = Shown {
+        call: asked.call,
+        running: Some(asked.running),
+    };
+    let mut source = FromRead::new(asked.input);
+    let mut output = FromWrite::new(Vec::new(alloc));
+    match run_shown(alloc, closure, shown, &mut source, &mut output) {
+        Ok(status) => {
+            let text = output.into_inner();
+            Ok(Reply::of_streams(alloc, status, text, Vec::new(alloc))?)
+        }
+        Err(exit) => Err(over_memory(exit)),
+    }
 }
 
-pub(crate) fn bundle<C: Closure>(
-    alloc: Global,
-    closure: &C,
-    asked: Asked<'_, '_, '_>,
-) -> Result<Reply, Exit>
-    ensures answers { IfOk result (Answers command.Bundle
-        (run_of_asked asked.entry (state_run (C.state closure.now) (C.state closure.now)))) }
-    ensures ends { IfErr result (Ends command.Bundle
-        (run_of_asked asked.entry (state_run (C.state closure.now) (C.state closure.now)))) }
-    ensures unjournalled { IfOk result (λ reply. reply.journal.items ≡ []) }
+fn over_memory(exit: Exit) -> Exit
+    ensures { result ≡ exit_over_memory exit }
 {
-    let domain = wanted(asked.call, OptionName::Domain)?;
-    let format = read_bundle_format(given(asked.call, OptionName::Format))?;
-    let text = shown_replies::bundle_in(alloc, closure, domain, format)?;
-    Ok(Reply::done(alloc, text)?)
+    match exit {
+        Exit::Refused(error) => in_memory(error),
+        exit => exit,
+    }
 }
 
-pub(crate) fn explain<C: Closure>(
-    alloc: Global,
-    closure: &C,
-    asked: Asked<'_, '_, '_>,
-) -> Result<Reply, Exit>
-    ensures answers { IfOk result (Answers command.Explain
-        (run_of_asked asked.entry (state_run (C.state closure.now) (C.state closure.now)))) }
-    ensures ends { IfErr result (Ends command.Explain
-        (run_of_asked asked.entry (state_run (C.state closure.now) (C.state closure.now)))) }
-    ensures unjournalled { IfOk result (λ reply. reply.journal.items ≡ []) }
+// A device over memory fails only where memory runs out.
+pub(crate) fn in_memory(error: CommandError) -> Exit
+    ensures { result ≡ memory_exit error }
 {
-    let domain = wanted(asked.call, OptionName::Domain)?;
-    let form = explanation_form(given(asked.call, OptionName::Short));
-    let text = shown_replies::explanation(alloc, closure, domain, form, asked.input)?;
-    Ok(Reply::done(alloc, text)?)
-}
-
-pub(crate) fn polls<C: Closure>(
-    alloc: Global,
-    closure: &C,
-    asked: Asked<'_, '_, '_>,
-) -> Result<Reply, Exit>
-    ensures answers { IfOk result (Answers command.Polls
-        (run_of_asked asked.entry (state_run (C.state closure.now) (C.state closure.now)))) }
-    ensures ends { IfErr result (Ends command.Polls
-        (run_of_asked asked.entry (state_run (C.state closure.now) (C.state closure.now)))) }
-    ensures unjournalled { IfOk result (λ reply. reply.journal.items ≡ []) }
-{
-    let now = read_moment(wanted(asked.call, OptionName::Now)?)?;
-    let text = shown_replies::polls(alloc, closure, now, asked.input)?;
-    Ok(Reply::done(alloc, text)?)
-}
-
-// A warning makes the exit status 1.
-pub(crate) fn status<C: Closure>(
-    alloc: Global,
-    closure: &C,
-    asked: Asked<'_, '_, '_>,
-) -> Result<Reply, Exit>
-    ensures answers { IfOk result (Answers command.Status
-        (run_of_asked asked.entry (state_run (C.state closure.now) (C.state closure.now)))) }
-    ensures ends { IfErr result (Ends command.Status
-        (run_of_asked asked.entry (state_run (C.state closure.now) (C.state closure.now)))) }
-    ensures unjournalled { IfOk result (λ reply. reply.journal.items ≡ []) }
-{
-    let format = read_status_format(given(asked.call, OptionName::Format))?;
-    let shown = shown_replies::status(alloc, closure, asked.running, format)?;
-    let ended = u8::from(shown.is_warned);
-    Ok(Reply::of_streams(alloc, ended, shown.text, Vec::new(alloc))?)
+    match error {
+        CommandError::Io => Exit::Refused(CommandError::NoMemory),
+        error => Exit::Refused(error),
+    }
 }
 
 // Nothing is to be done but to end.

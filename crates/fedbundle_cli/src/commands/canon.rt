@@ -1,16 +1,17 @@
 // `canon`: a bundle in its canonical form.
 use crate::commands::observe::read_bundle;
+use crate::reasons;
 use crate::streams::output;
-use crate::{options, reasons};
 use fedbundle::{
-    Call, Exit, OptionName, OutputForm, given, read_output_form, run_canon_bytes, wanted,
+    Call, Exit, OptionName, OutputForm, given, read_domain, read_output_form, run_canon_bytes,
+    wanted,
 };
 use spiffe_name::TrustDomain;
 
 /// Prints the bundle that standard input has in its canonical form.
 pub(crate) fn run(rt: &HostRuntime, call: &Call<'_>) -> Result<u8, Exit> {
     let form = read_output_form(given(call, OptionName::FileFormat))?;
-    let domain = options::domain(rt.alloc(), wanted(call, OptionName::Domain)?)?;
+    let domain = read_domain(rt.alloc(), wanted(call, OptionName::Domain)?)?;
     let bytes = read_bundle(rt)?;
     let done = canon_of(rt, &domain, form, bytes.as_slice());
     Ok(reasons::status_of_bundle(rt, call, done, bytes.as_slice()))

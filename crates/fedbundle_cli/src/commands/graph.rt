@@ -1,7 +1,6 @@
 // `graph`: which document vouches for which, printed.
-use crate::options;
 use crate::streams::output;
-use fedbundle::{Call, CommandError, Exit, OptionName, given};
+use fedbundle::{Call, CommandError, Exit, OptionName, given, read_domain};
 use replica_view::write_graph;
 use spiffe_name::TrustDomain;
 use trust_closure::IndexedClosure;
@@ -15,7 +14,7 @@ pub(crate) fn run(rt: &HostRuntime, closure: &IndexedClosure, call: &Call<'_>) -
 }
 
 fn graph_of(rt: &HostRuntime, closure: &IndexedClosure, domain: &str) -> Result<u8, Exit> {
-    let domain = options::domain(rt.alloc(), domain)?;
+    let domain = read_domain(rt.alloc(), domain)?;
     graph_on(rt, closure, Some(&domain))
 }
 

@@ -1,7 +1,8 @@
 // `list`: what a state file holds, printed.
-use crate::options;
 use crate::streams::output;
-use fedbundle::{Call, CommandError, Exit, OptionName, OutputForm, given, read_output_form};
+use fedbundle::{
+    Call, CommandError, Exit, OptionName, OutputForm, given, read_domain, read_output_form,
+};
 use replica_view::{write_held, write_held_json};
 use spiffe_name::TrustDomain;
 use trust_closure::IndexedClosure;
@@ -21,7 +22,7 @@ fn list_of(
     form: OutputForm,
     domain: &str,
 ) -> Result<u8, Exit> {
-    let domain = options::domain(rt.alloc(), domain)?;
+    let domain = read_domain(rt.alloc(), domain)?;
     list_on(rt, closure, form, Some(&domain))
 }
 

@@ -1,12 +1,13 @@
 // `observe`: a bundle as it was fetched, taken.
 use crate::commands::state_writers::{Coming, change};
+use crate::reasons;
 use crate::streams::{input, output};
-use crate::{options, reasons};
 use bundle_doc::MAX_DOCUMENT_BYTES;
-use bundle_view::Verdict;
 use byte_lines::{FromRead, read_up_to};
 use fed_config::Config;
-use fedbundle::{Call, CommandError, Exit, OptionName, read_key, run_observe, wanted};
+use fedbundle::{
+    Call, CommandError, Exit, OptionName, read_domain, read_verdict, run_observe, wanted,
+};
 use trust_closure::IndexedClosure;
 
 /// Takes the bundle that standard input has.
@@ -31,8 +32,8 @@ pub(crate) fn take_bundle(
     call: &Call<'_>,
     bytes: &Result<Vec<u8>, CommandError>,
 ) -> Result<(), Exit> {
-    let domain = options::domain(rt.alloc(), wanted(call, OptionName::Domain)?)?;
-    let verdict = read_verdict(rt, call)?;
+    let domain = read_domain(rt.alloc(), wanted(call, OptionName::Domain)?)?;
+    let verdict = read_verdict(rt.alloc(), call)?;
     let bytes = match bytes {
         Ok(bytes) => bytes.as_slice(),
         Err(error) => return Err(Exit::Refused(*error)),
@@ -46,10 +47,4 @@ pub(crate) fn take_bundle(
         &mut output(rt),
     )?;
     Ok(())
-}
-
-fn read_verdict(rt: &HostRuntime, call: &Call<'_>) -> Result<Verdict, Exit> {
-    let endpoint = options::endpoint(rt.alloc(), wanted(call, OptionName::Endpoint)?)?;
-    let key = read_key(wanted(call, OptionName::Key)?)?;
-    Ok(Verdict { endpoint, key })
 }

@@ -1,8 +1,7 @@
 // `reseed`: a configuration for a start anew, printed.
-use crate::options;
 use crate::streams::{complaints, output};
 use byte_lines::{Sink, write_all};
-use fedbundle::{Call, CommandError, Exit, OptionName, given};
+use fedbundle::{Call, CommandError, Exit, OptionName, given, read_domain};
 use reseeding::Reseeded;
 use spiffe_name::TrustDomain;
 use trust_closure::IndexedClosure;
@@ -16,7 +15,7 @@ pub(crate) fn run(rt: &HostRuntime, closure: &IndexedClosure, call: &Call<'_>) -
 }
 
 fn reseed_but(rt: &HostRuntime, closure: &IndexedClosure, text: &str) -> Result<u8, Exit> {
-    let allowed = options::domain(rt.alloc(), text)?;
+    let allowed = read_domain(rt.alloc(), text)?;
     reseed_on(rt, closure, Some(&allowed))
 }
 

@@ -1,11 +1,10 @@
 // The subcommands that show what a state file holds, and write no file: they take no lock. The
 // replica is made and given back in one place, and each command only borrows it.
-use crate::commands::{
-    bundle, diff, distrust, explain, graph, list, migrate, polls, report, reseed, status,
-};
+use crate::commands::{diff, graph, list, migrate, reseed};
 use crate::state_access::{leave, look, state_access_of};
+use crate::streams::{input, output};
 use fed_config::Config;
-use fedbundle::{Call, CommandName, Exit};
+use fedbundle::{Call, CommandName, Exit, Shown, run_shown};
 use trust_closure::IndexedClosure;
 
 /// Shows what the command asks for, of what the state file holds.
@@ -23,17 +22,24 @@ fn show_of(
     call: &Call<'_>,
 ) -> Result<u8, Exit> {
     match call.name {
-        CommandName::Report => report::report_state(rt, closure, call),
         CommandName::List => list::run(rt, closure, call),
         CommandName::Diff => diff::run(rt, config, closure, call),
         CommandName::Graph => graph::run(rt, closure, call),
-        CommandName::Status => status::run(rt, closure, call),
-        CommandName::Bundle => bundle::run(rt, closure, call),
-        CommandName::Explain => explain::run(rt, closure, call),
         CommandName::Migrate => migrate::run(rt, closure, call),
         CommandName::Reseed => reseed::run(rt, closure, call),
-        CommandName::Polls => polls::run(rt, closure, call),
-        CommandName::Distrust => distrust::show(rt, closure, call),
-        _ => Err(Exit::Usage),
+        _ => show_as_replica(rt, closure, call),
     }
+}
+
+// The commands that a running replica has, too.
+fn show_as_replica(
+    rt: &HostRuntime,
+    closure: &IndexedClosure,
+    call: &Call<'_>,
+) -> Result<u8, Exit> {
+    let shown = Shown {
+        call,
+        running: None,
+    };
+    run_shown(rt.alloc(), closure, shown, &mut input(rt), &mut output(rt))
 }

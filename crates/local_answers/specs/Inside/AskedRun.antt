@@ -1,6 +1,7 @@
 -- What a request asks for, as the run of a call
 use Rattle.fedbundle.specs.CommandRun.{StateRun}
-use Rattle.local_answers.specs.RequestRun.{CallRun, call_run, change_run, texts_of_call}
+use Rattle.fedbundle.specs.SaidValues.{texts_of_call}
+use Rattle.local_answers.specs.RequestRun.{CallRun, call_run, change_run}
 use Rattle.local_answers.specs.declared.asked.Asked.{Asked}
 
 abbrev pub run_of_asked : Asked → StateRun → CallRun

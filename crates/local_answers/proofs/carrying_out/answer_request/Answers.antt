@@ -3,7 +3,8 @@ use Rattle.std.proofs.lemmas.Result.{err_from_is_err_and}
 use Rattle.std.specs.Prelude.{string_bytes}
 use Rattle.fedbundle.specs.CommandRun.{state_run}
 use Rattle.command_line.specs.Words.{CallsInRequest}
-use Rattle.local_answers.specs.RequestRun.{CallRun, call_run, change_run, texts_of_call}
+use Rattle.fedbundle.specs.SaidValues.{texts_of_call}
+use Rattle.local_answers.specs.RequestRun.{CallRun, call_run, change_run}
 use Rattle.local_answers.proofs.ChangingFacts.{lacks_memory, line_called, result_lacks_memory, words_unjournalled}
 use Rattle.local_answers.proofs.RequestFacts.{same_journalled}
 use Rattle.local_answers.proofs.carrying_out.answer_request.Goals as goal

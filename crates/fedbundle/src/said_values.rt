@@ -1,0 +1,73 @@
+//! The values that the texts of options say, read.
+ghost use Rattle.std.specs.Prelude.{◌≡◌, IfErr, IfOk};
+ghost use Rattle.spiffe_name.specs.SpiffeId.{IsId, RefusesId};
+ghost use Rattle.spiffe_name.specs.TrustDomain.{IsDomainText, RefusesDomain};
+ghost use Rattle.spiffe_name.specs.declared.error.NameError.{NameError};
+ghost use Rattle.fedbundle.specs.SaidValues.{SaysNoRecord, SaysNoVerdict, SaysRecord, SaysVerdict};
+ghost use Rattle.fedbundle.specs.SaidValues.{texts_of_call};
+ghost use Rattle.fedbundle.specs.declared.error.CommandError.TheVariants.{Name};
+ghost use Rattle.fedbundle.specs.declared.exits.Exit.TheVariants.{Refused};
+
+use crate::error::CommandError;
+use crate::exits::Exit;
+use bundle_view::Verdict;
+use command_line::{Call, OptionName, read_key, wanted};
+use receipt_core::Distrust;
+use spiffe_name::{SpiffeId, TrustDomain};
+use std::alloc::Global;
+
+/// The trust domain of this name.
+///
+/// # Errors
+/// `Name` where it is no name of a trust domain, or where memory ran out.
+pub fn read_domain(alloc: Global, text: &str) -> Result<TrustDomain, Exit>
+    ensures ok { IfOk result (λ domain. (domain ≡ text.now) × IsDomainText text.now) }
+    ensures refused { IfErr result
+        (λ exit. ((e : NameError) × (exit ≡ Refused (Name e)) × RefusesDomain text.now e)) }
+{
+    match TrustDomain::read(alloc, text) {
+        Ok(domain) => Ok(domain),
+        Err(error) => Err(Exit::Refused(CommandError::Name(error))),
+    }
+}
+
+fn read_endpoint(alloc: Global, text: &str) -> Result<SpiffeId, Exit>
+    ensures ok { IfOk result (λ endpoint. (endpoint.text ≡ text.now) × IsId endpoint) }
+    ensures refused { IfErr result
+        (λ exit. ((e : NameError) × (exit ≡ Refused (Name e)) × RefusesId text.now e)) }
+{
+    match SpiffeId::read(alloc, text) {
+        Ok(endpoint) => Ok(endpoint),
+        Err(why) => Err(Exit::Refused(CommandError::Name(why))),
+    }
+}
+
+/// What TLS said, by `--endpoint` and `--key`, which are read in this order.
+///
+/// # Errors
+/// - [`Exit::Usage`]: one of them is missing,
+/// - [`Exit::Refused`] with `Name`: the endpoint is no SPIFFE ID, or memory ran out,
+/// - [`Exit::BadKey`]: the key is none.
+pub fn read_verdict(alloc: Global, call: &Call<'_>) -> Result<Verdict, Exit>
+    ensures says { IfOk result (SaysVerdict call.now.name (texts_of_call call.now)) }
+    ensures ends { IfErr result (SaysNoVerdict call.now.name (texts_of_call call.now)) }
+{
+    let endpoint = read_endpoint(alloc, wanted(call, OptionName::Endpoint)?)?;
+    let key = read_key(wanted(call, OptionName::Key)?)?;
+    Ok(Verdict { endpoint, key })
+}
+
+/// The record of distrust, by `--domain` and `--key`, which are read in this order.
+///
+/// # Errors
+/// - [`Exit::Usage`]: one of them is missing,
+/// - [`Exit::Refused`] with `Name`: the domain is no name of one, or memory ran out,
+/// - [`Exit::BadKey`]: the key is none.
+pub fn read_record(alloc: Global, call: &Call<'_>) -> Result<Distrust, Exit>
+    ensures says { IfOk result (SaysRecord call.now.name (texts_of_call call.now)) }
+    ensures ends { IfErr result (SaysNoRecord call.now.name (texts_of_call call.now)) }
+{
+    let domain = read_domain(alloc, wanted(call, OptionName::Domain)?)?;
+    let key = read_key(wanted(call, OptionName::Key)?)?;
+    Ok(Distrust { domain, key })
+}

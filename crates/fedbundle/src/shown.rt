@@ -1,0 +1,294 @@
+//! The commands that show what is held, by what their words say: `report`, `bundle`, `explain`,
+//! `polls`, `status`, and `distrust` where it only shows what a record would change.
+ghost use Rattle.std.specs.Prelude.{◌≡◌, IfOk, Ok, option_map};
+ghost use Rattle.json_reports.specs.ReportJson.{IsReportJson};
+ghost use Rattle.bundle_view.specs.Report.{IsReport};
+ghost use Rattle.status_view.specs.StatusRuns.{IsRunningStatusIn, IsStatusIn, IsWarned};
+ghost use Rattle.fedbundle.specs.CommandRun.{device_run, run_of};
+ghost use Rattle.fedbundle.specs.CurrentBundle.{RunsBundle, RunsBundlePem};
+ghost use Rattle.fedbundle.specs.Shown.{IsReportIn, IsStatusShown, RunsShown, RunsWriter};
+ghost use Rattle.fedbundle.specs.Shown.{ShowsBundle, ShowsEffect, ShowsExplanation, ShowsPolls};
+ghost use Rattle.fedbundle.specs.Shown.{ShowsReport, ShowsStatus, exit_if_written, polls_form};
+ghost use Rattle.fedbundle.specs.Shown.{shown_call};
+ghost use Rattle.command_line.specs.declared.option_texts.BundleFormat.TheVariants.{Json, Pem};
+
+use crate::bundle::{run_bundle, run_bundle_pem};
+use crate::distrust::show_distrust;
+use crate::error::CommandError;
+use crate::exits::Exit;
+use crate::explain::run_explain;
+use crate::option_values::{read_moment, read_status_format};
+use crate::polls::run_polls_in;
+use crate::said_values::{read_domain, read_record};
+use bundle_view::write_report;
+use byte_lines::{Sink, Source};
+use closure_core::Closure;
+use command_line::{
+    BundleFormat, Call, CommandName, OptionName, OutputForm, given, read_bundle_format,
+    read_explanation_form, read_output_form, wanted,
+};
+use json_reports::write_report_json;
+use poll_view::PollsForm;
+use spiffe_name::TrustDomain;
+use status_view::{RunningStatus, StatusFormat, write_running_status, write_status};
+use std::alloc::Global;
+
+/// What is to be shown.
+#[derive(Clone, Copy, Debug)]
+pub struct Shown<'call, 'words, 'a> {
+    /// The words, whose texts are lent.
+    pub call: &'call Call<'words>,
+    /// What a running replica says of itself, which `status` then shows, too; `None` if what is
+    /// held was read from a state file.
+    pub running: Option<&'a RunningStatus<'a>>,
+}
+
+/// Writes what the words ask for, of what is held, and returns the exit status: 1 for a `status`
+/// with a warning, and else 0. `explain` and `polls` read the source, to its end or as far as
+/// [`run_explain`] and [`run_polls_in`] say; the others leave it. `distrust` only shows what the
+/// record would change, whether or not the words have `--dry-run`.
+///
+/// # Errors
+/// Where the words are refused, neither the source nor the sink was touched.
+/// - [`Exit::Usage`]: an option is missing or has no form that the command has, or the command is
+///   another one,
+/// - [`Exit::BadKey`], [`Exit::BadMoment`]: `--key` or `--now` is none,
+/// - [`Exit::NoBundle`]: `bundle`, of a domain that has no current document. Nothing was written.
+/// - [`Exit::NotAccepted`]: `explain`, of a document that is not accepted. Nothing was written.
+/// - [`Exit::Refused`]: the name of the domain is none, or the error of the command's function.
+pub fn run_shown<C: Closure, R: Source, W: Sink>(
+    alloc: Global,
+    closure: &C,
+    shown: Shown<'_, '_, '_>,
+    source: &mut R,
+    sink: &mut W,
+) -> Result<u8, Exit>
+    ensures { RunsShown (shown_call shown.entry (C.state closure.now).meaning)
+        (run_of (device_run R.remaining R.has_failed source.old source.new)
+        (device_run W.contents W.has_failed sink.old sink.new)) result }
+{
+    match shown.call.name {
+        CommandName::Report => report(alloc, closure, shown, sink),
+        CommandName::Bundle => bundle(alloc, closure, shown, sink),
+        CommandName::Explain => explain(alloc, closure, shown, source, sink),
+        CommandName::Polls => polls(alloc, closure, shown, source, sink),
+        CommandName::Status => status(alloc, closure, shown, sink),
+        CommandName::Distrust => distrust_effect(alloc, closure, shown, sink),
+        _ => Err(Exit::Usage),
+    }
+}
+
+fn report<C: Closure, W: Sink>(
+    alloc: Global,
+    closure: &C,
+    shown: Shown<'_, '_, '_>,
+    sink: &mut W,
+) -> Result<u8, Exit>
+    ensures { ShowsReport (shown_call shown.entry (C.state closure.now).meaning)
+        (device_run W.contents W.has_failed sink.old sink.new) result }
+{
+    let form = read_output_form(given(shown.call, OptionName::FileFormat))?;
+    report_in(alloc, closure, form, sink)?;
+    Ok(0)
+}
+
+fn report_in<C: Closure, W: Sink>(
+    alloc: Global,
+    closure: &C,
+    form: OutputForm,
+    sink: &mut W,
+) -> Result<(), CommandError>
+    ensures { RunsWriter (IsReportIn form (C.state closure.now).meaning)
+        (device_run W.contents W.has_failed sink.old sink.new) result }
+{
+    match form {
+        OutputForm::Text => report_text(alloc, closure, sink),
+        OutputForm::Json => report_json(alloc, closure, sink),
+    }
+}
+
+fn report_text<C: Closure, W: Sink>(
+    alloc: Global,
+    closure: &C,
+    sink: &mut W,
+) -> Result<(), CommandError>
+    ensures { RunsWriter (IsReport (C.state closure.now).meaning)
+        (device_run W.contents W.has_failed sink.old sink.new) result }
+{
+    write_report(alloc, closure, sink)?;
+    Ok(())
+}
+
+fn report_json<C: Closure, W: Sink>(
+    alloc: Global,
+    closure: &C,
+    sink: &mut W,
+) -> Result<(), CommandError>
+    ensures { RunsWriter (IsReportJson (C.state closure.now).meaning)
+        (device_run W.contents W.has_failed sink.old sink.new) result }
+{
+    write_report_json(alloc, closure, sink)?;
+    Ok(())
+}
+
+fn bundle<C: Closure, W: Sink>(
+    alloc: Global,
+    closure: &C,
+    shown: Shown<'_, '_, '_>,
+    sink: &mut W,
+) -> Result<u8, Exit>
+    ensures { ShowsBundle (shown_call shown.entry (C.state closure.now).meaning)
+        (device_run W.contents W.has_failed sink.old sink.new) result }
+{
+    let domain = read_domain(alloc, wanted(shown.call, OptionName::Domain)?)?;
+    let format = read_bundle_format(given(shown.call, OptionName::Format))?;
+    let is_written = bundle_in(alloc, closure, &domain, format, sink)?;
+    written_or(Exit::NoBundle, is_written)
+}
+
+// The exit of a command, by whether there was something to write.
+fn written_or(nothing: Exit, is_written: bool) -> Result<u8, Exit>
+    ensures { result ≡ exit_if_written nothing (Ok is_written) }
+{
+    if is_written { Ok(0) } else { Err(nothing) }
+}
+
+fn bundle_in<C: Closure, W: Sink>(
+    alloc: Global,
+    closure: &C,
+    domain: &TrustDomain,
+    format: BundleFormat,
+    sink: &mut W,
+) -> Result<bool, CommandError>
+    ensures json { format ≡ Json → RunsBundle
+        (device_run W.contents W.has_failed sink.old sink.new)
+        (C.state closure.now).meaning domain.now result }
+    ensures pem { format ≡ Pem → RunsBundlePem
+        (device_run W.contents W.has_failed sink.old sink.new)
+        (C.state closure.now).meaning domain.now result }
+{
+    match format {
+        BundleFormat::Json => run_bundle(closure, domain, sink),
+        BundleFormat::Pem => run_bundle_pem(alloc, closure, domain, sink),
+    }
+}
+
+fn explain<C: Closure, R: Source, W: Sink>(
+    alloc: Global,
+    closure: &C,
+    shown: Shown<'_, '_, '_>,
+    source: &mut R,
+    sink: &mut W,
+) -> Result<u8, Exit>
+    ensures { ShowsExplanation (shown_call shown.entry (C.state closure.now).meaning)
+        (run_of (device_run R.remaining R.has_failed source.old source.new)
+        (device_run W.contents W.has_failed sink.old sink.new)) result }
+{
+    let domain = read_domain(alloc, wanted(shown.call, OptionName::Domain)?)?;
+    let form = read_explanation_form(
+        given(shown.call, OptionName::Short),
+        given(shown.call, OptionName::FileFormat),
+    )?;
+    let is_written = run_explain(alloc, closure, &domain, form, source, sink)?;
+    written_or(Exit::NotAccepted, is_written)
+}
+
+fn polls<C: Closure, R: Source, W: Sink>(
+    alloc: Global,
+    closure: &C,
+    shown: Shown<'_, '_, '_>,
+    source: &mut R,
+    sink: &mut W,
+) -> Result<u8, Exit>
+    ensures { ShowsPolls (shown_call shown.entry (C.state closure.now).meaning)
+        (run_of (device_run R.remaining R.has_failed source.old source.new)
+        (device_run W.contents W.has_failed sink.old sink.new)) result }
+{
+    let form = read_output_form(given(shown.call, OptionName::FileFormat))?;
+    let now = read_moment(wanted(shown.call, OptionName::Now)?)?;
+    run_polls_in(alloc, closure, polls_form(form), now, source, sink)?;
+    Ok(0)
+}
+
+fn polls_form(form: OutputForm) -> PollsForm
+    ensures { result ≡ polls_form form }
+{
+    match form {
+        OutputForm::Text => PollsForm::Lines,
+        OutputForm::Json => PollsForm::Json,
+    }
+}
+
+// A warning makes the exit status 1.
+fn status<C: Closure, W: Sink>(
+    alloc: Global,
+    closure: &C,
+    shown: Shown<'_, '_, '_>,
+    sink: &mut W,
+) -> Result<u8, Exit>
+    ensures { ShowsStatus (shown_call shown.entry (C.state closure.now).meaning)
+        (device_run W.contents W.has_failed sink.old sink.new) result }
+{
+    let format = read_status_format(given(shown.call, OptionName::Format))?;
+    let is_warned = status_in(alloc, closure, shown.running, format, sink)?;
+    Ok(u8::from(is_warned))
+}
+
+fn status_in<C: Closure, W: Sink>(
+    alloc: Global,
+    closure: &C,
+    running: Option<&RunningStatus<'_>>,
+    format: StatusFormat,
+    sink: &mut W,
+) -> Result<bool, CommandError>
+    ensures runs { RunsWriter
+        (IsStatusShown (option_map (λ r. r.now) running.entry) (C.state closure.now).meaning format)
+        (device_run W.contents W.has_failed sink.old sink.new) result }
+    ensures warned { IfOk result (IsWarned (C.state closure.now).meaning) }
+{
+    match running {
+        Some(running) => status_of_replica(alloc, closure, running, format, sink),
+        None => status_of_file(alloc, closure, format, sink),
+    }
+}
+
+fn status_of_replica<C: Closure, W: Sink>(
+    alloc: Global,
+    closure: &C,
+    running: &RunningStatus<'_>,
+    format: StatusFormat,
+    sink: &mut W,
+) -> Result<bool, CommandError>
+    ensures runs { RunsWriter (IsRunningStatusIn (C.state closure.now).meaning running.now format)
+        (device_run W.contents W.has_failed sink.old sink.new) result }
+    ensures warned { IfOk result (IsWarned (C.state closure.now).meaning) }
+{
+    Ok(write_running_status(alloc, closure, running, format, sink)?)
+}
+
+fn status_of_file<C: Closure, W: Sink>(
+    alloc: Global,
+    closure: &C,
+    format: StatusFormat,
+    sink: &mut W,
+) -> Result<bool, CommandError>
+    ensures runs { RunsWriter (IsStatusIn (C.state closure.now).meaning format)
+        (device_run W.contents W.has_failed sink.old sink.new) result }
+    ensures warned { IfOk result (IsWarned (C.state closure.now).meaning) }
+{
+    Ok(write_status(alloc, closure, format, sink)?)
+}
+
+fn distrust_effect<C: Closure, W: Sink>(
+    alloc: Global,
+    closure: &C,
+    shown: Shown<'_, '_, '_>,
+    sink: &mut W,
+) -> Result<u8, Exit>
+    ensures { ShowsEffect (shown_call shown.entry (C.state closure.now).meaning)
+        (device_run W.contents W.has_failed sink.old sink.new) result }
+{
+    let record = read_record(alloc, shown.call)?;
+    show_distrust(alloc, closure, &record, sink)?;
+    Ok(0)
+}

@@ -1,0 +1,27 @@
+use Rattle.std.proofs.Common.{◌≡◌, [], Some, ap, inl, sym}
+use Rattle.std.proofs.lemmas.Result.{err_from_is_err_and}
+use Rattle.fedbundle.specs.CommandRun.{state_run}
+use Rattle.local_answers.specs.Inside.AskedRun.{run_of_asked}
+use Rattle.local_answers.specs.RequestRun.{CallRun}
+use Rattle.local_answers.proofs.ShownFacts.{shown_done, shown_ended}
+use Rattle.local_answers.proofs.shown_calls.shown.Goals as goal
+
+pub returns-in_err-of_streams-in-Ok-clause-ends : goal.returns-in_err-of_streams-in-Ok-clause-ends
+returns-in_err-of_streams-in-Ok-clause-ends g c =
+    let exit = err_from_is_err_and c.from_residual.result c.from_residual.ensures.1 in
+    rw (exit.1, exit.2) (inl tt)
+
+pub returns-in_ok-of_streams-in-Ok-clause-answers : goal.returns-in_ok-of_streams-in-Ok-clause-answers
+returns-in_ok-of_streams-in-Ok-clause-answers g c =
+    let empty : c.new-output.result.writer.items ≡ [] = cc in
+    let source : c.new-source.result.reader.now ≡ c.args.asked.input.now = cc in
+    let is : c.into_inner-text.result.items ≡ c.run_shown.new.sink.writer.items = cc in
+    shown_done _ _ _ _ _ _ (ap Some source) (ap Some empty) (ap Some (sym is)) c.in-Ok.ensures c.new-in-Ok.ensures.items
+    c.in_ok-of_streams-in-Ok.ensures
+
+pub returns-in-Err-clause-ends : goal.returns-in-Err-clause-ends
+returns-in-Err-clause-ends g c =
+    let empty : c.new-output.result.writer.items ≡ [] = cc in
+    let source : c.new-source.result.reader.now ≡ c.args.asked.input.now = cc in
+    let run : CallRun = run_of_asked c.args.asked (state_run (g.C.Closure.state c.args.closure.now) (g.C.Closure.state c.args.closure.now)) in
+    shown_ended run _ _ _ c.over_memory.ensures (ap Some source) (ap Some empty) c.in-Err.ensures
