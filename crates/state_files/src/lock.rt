@@ -1,7 +1,7 @@
 //! The lock of a state file.
 use crate::access::owner_only;
 use crate::file_names::lock_path;
-use crate::named_files::{foreign_file, found, is_named, is_plain_file};
+use crate::named_files::{foreign_file, found, is_named, is_plain_file, may_be_left_of};
 use fedbundle::FileFault;
 use replica_core::SyncError;
 use std::alloc::Global;
@@ -45,7 +45,7 @@ impl StateLock {
         match self.file.write_all(MARK) {
             Ok(()) => Ok(()),
             Err(error) => {
-                // A part of the line would be taken for another program's.
+                // So that no part of it says that a replica runs.
                 let _ = self.file.set_len(0);
                 Err(FileFault::from(error))
             }
@@ -126,14 +126,15 @@ fn clear_mark(file: &File) -> Result<(), FileFault> {
     if bytes == 0 {
         return Ok(());
     }
-    if bytes != MARK.len() as u64 || !has_mark(file)? {
+    if bytes > MARK.len() as u64 || !has_mark(file, bytes as usize)? {
         return Err(foreign_file());
     }
     Ok(file.set_len(0)?)
 }
 
-fn has_mark(file: &File) -> Result<bool, FileFault> {
+fn has_mark(file: &File, count: usize) -> Result<bool, FileFault> {
     let mut bytes = [0; MARK_BYTES];
-    file.read_exact_at(&mut bytes, 0)?;
-    Ok(bytes.as_slice() == MARK)
+    let bytes = &mut bytes[..count.min(MARK_BYTES)];
+    file.read_exact_at(bytes, 0)?;
+    Ok(may_be_left_of(bytes, MARK))
 }

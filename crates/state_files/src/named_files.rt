@@ -11,6 +11,9 @@ const BEGINNING: &[u8] = b"{\"config\":\"";
 
 const BEGINNING_BYTES: usize = 11;
 
+/// What a file may have after a cut of power, where its blocks were not written.
+const ZEROS: &[u8] = &[0; 32];
+
 /// The system's number for a file that is there already (`EEXIST`).
 const FILE_EXISTS: i32 = 17;
 
@@ -41,7 +44,8 @@ pub(crate) fn is_plain_file<R: Files>(files: &R, name: &str) -> Result<bool, Fil
 }
 
 /// Removes the file that has the name, if there is one. What does not begin as a snapshot or a
-/// journal is refused, and stays as it is; a file without a byte is one that was just begun.
+/// journal is refused, and stays as it is. A file without a byte is one that was just begun, and a
+/// cut of power leaves one of zeros.
 pub(crate) fn remove_own<R: Files>(files: &R, name: &str) -> Result<(), FileFault> {
     if is_plain_file(files, name)? {
         if !begins_as_own(files, name)? {
@@ -58,7 +62,13 @@ fn begins_as_own<R: Files>(files: &R, name: &str) -> Result<bool, FileFault> {
     };
     let mut bytes = [0; BEGINNING_BYTES];
     let count = file.read(&mut bytes)?.min(BEGINNING_BYTES);
-    Ok(BEGINNING.starts_with(&bytes[..count]))
+    Ok(may_be_left_of(&bytes[..count], BEGINNING))
+}
+
+/// Whether a file with these first bytes may be one that this program wrote the text to: it has a
+/// beginning of the text, or zeros, which a cut of power leaves.
+pub(crate) fn may_be_left_of(bytes: &[u8], text: &[u8]) -> bool {
+    text.starts_with(bytes) || ZEROS.starts_with(bytes)
 }
 
 /// Whether the open file is the one that has the name now.
