@@ -24,8 +24,8 @@ use Rattle.wait_index.proofs.NetLawFacts.{contains-cons}
 pub label-total : IsTotalOrder label_cmp
 label-total =
     then_total (on_total (λ (l : Label). l.domain) nat_cmp_total)
-    (then_total (on_total (λ (l : Label). l.document.0) nat_list_cmp_total)
-    (on_total (λ (l : Label). l.key.0) nat_list_cmp_total))
+    (then_total (on_total (λ (l : Label). l.key.0) nat_list_cmp_total)
+    (on_total (λ (l : Label). l.document.0) nat_list_cmp_total))
 
 -- What ties by two comparisons ties by each.
 pub then-first : (a b : Ordering) → ordering_then a b ≡ Equal → (a ≡ Equal) × (b ≡ Equal)
@@ -38,11 +38,11 @@ pub label-exact : (a b : Label) → label_cmp a b ≡ Equal → a ≡ b
 label-exact a b e =
     let keys : Ordering = slice_cmp nat_cmp a.key.0 b.key.0 in
     let documents : Ordering = slice_cmp nat_cmp a.document.0 b.document.0 in
-    let first = then-first (nat_cmp a.domain b.domain) (ordering_then documents keys) e in
-    let second = then-first documents keys first.1 in
+    let first = then-first (nat_cmp a.domain b.domain) (ordering_then keys documents) e in
+    let second = then-first keys documents first.1 in
     let domain : a.domain ≡ b.domain = exact_unsigned a.domain b.domain first.0 in
-    let document : a.document.0 ≡ b.document.0 = exact_bytes a.document.0 b.document.0 second.0 in
-    let key : a.key.0 ≡ b.key.0 = exact_bytes a.key.0 b.key.0 second.1 in
+    let key : a.key.0 ≡ b.key.0 = exact_bytes a.key.0 b.key.0 second.0 in
+    let document : a.document.0 ≡ b.document.0 = exact_bytes a.document.0 b.document.0 second.1 in
     ap (λ (n : ℕ). let l : Label = record { domain = n; document = a.document; key = a.key } in l) domain
     ∙ ap (λ (bytes : List ℕ). let l : Label = record { domain = b.domain; document = record { 0 = bytes }; key = a.key } in l) document
     ∙ ap (λ (bytes : List ℕ). let l : Label = record { domain = b.domain; document = b.document; key = record { 0 = bytes } } in l) key

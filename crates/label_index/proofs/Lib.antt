@@ -1,3 +1,3 @@
 mod LabelOrderFacts
 mod ClosedLabelFacts
-mod ChainFacts
+mod KeyRunFacts

@@ -1,38 +1,33 @@
 -- Labels in order, and what a caller sees of a net of them
 use Rattle.std.specs.Prelude.{◌≡◌, ◌↔◌, ◌⊎◌, ℕ, ◌+◌, ◌-◌, ◌<◌, ◌≤◌, List, [], ◌∷◌, ◌++◌, Bool}
 use Rattle.std.specs.Prelude.{true, false, length, min, take, All, AllPairs, Contains, slice_get}
-use Rattle.std.specs.Prelude.{slice_index_or, Some, vec_capacity}
+use Rattle.std.specs.Prelude.{slice_index_or, Some}
 use Rattle.std.specs.declared.cmp.Ordering.{Ordering}
 use Rattle.std.specs.declared.cmp.Ordering.TheVariants.{Less}
 use Rattle.std.specs.Ordering.{nat_cmp, ordering_then}
 use Rattle.std.specs.Cmp.Lexicographic.{slice_cmp}
 use Rattle.jwk_set.specs.declared.authority.KeyId.{KeyId}
-use Rattle.sorted_order.specs.ArenaView.{ArenaView, in_order}
+use Rattle.sorted_order.specs.ArenaView.{ArenaView}
 use Rattle.wait_index.specs.Index.{Index, Last}
 use Rattle.wait_index.specs.Net.{Net, is_closed, ListsReached, with_node, with_label, with_offer}
 use Rattle.wait_index.specs.Net.{with_wait, with_root, has_wait, visits_of, ClosesIn, TellsFallen}
 use Rattle.label_index.specs.declared.label.Label.{Label}
-use Rattle.label_index.specs.declared.key_chains.KeyChains.{KeyChains}
-use Rattle.label_index.specs.Chains.{AreChained}
 
--- labels are ordered by domain number, document id and key id, so those of a document stand
--- together
+-- labels are ordered by domain number, key id and document id, so those of a key stand together
 abbrev pub label_cmp : Label → Label → Ordering
 label_cmp a b =
     ordering_then (nat_cmp a.domain b.domain)
-    (ordering_then (slice_cmp nat_cmp a.document.0 b.document.0)
-    (slice_cmp nat_cmp a.key.0 b.key.0))
+    (ordering_then (slice_cmp nat_cmp a.key.0 b.key.0)
+    (slice_cmp nat_cmp a.document.0 b.document.0))
+
+-- how a label stands to those of a key in a domain
+abbrev pub cmp_to_key : ℕ → KeyId → Label → Ordering
+cmp_to_key domain key label =
+    ordering_then (nat_cmp label.domain domain) (slice_cmp nat_cmp label.key.0 key.0)
 
 -- each stands before those after it
 abbrev pub IsInOrder : List Label → Type 0
 IsInOrder labels = AllPairs (λ a b. label_cmp a b ≡ Less) labels
-
--- Labels are found in their order, and those of a key by its chain. Where there is room for a
--- label, there are buckets.
-pub record IsLabelTable (stock : ArenaView Label) (chains : KeyChains) : Type 0 where
-  pub rising : IsInOrder (in_order stock)
-  pub chained : AreChained stock.items chains.newest.items chains.earlier.items
-  pub begun : 0 < vec_capacity chains.earlier → 0 < length chains.newest.items
 
 -- what each label stands for, the net, the marked nodes, what the last close did, and for how many
 -- nodes, and for how many edges with new labels, there is room

@@ -130,7 +130,7 @@ impl LabelIndex {
         ensures closes { Closes self.old (IsOfKey domain key) self.new result }
         ensures reached { ListsReached self.new.net self.new.marked }
     {
-        self.labels.list_key(&mut self.closing, domain, &key);
+        self.labels.list_key(&mut self.closing, domain, key);
         self.reach.close_labels(&self.closing)
     }
 
@@ -169,8 +169,8 @@ impl LabelIndex {
     }
 }
 
-/// The same as [`number_of`]. In a chain of bundles what is awaited is the newest label of its key,
-/// so it looks at that first.
+/// The same as [`number_of`]. In a chain of bundles what is awaited is mostly the newest label, so it
+/// looks at that first.
 fn newest_or_number_of(
     labels: &mut LabelTable,
     reach: &mut Reach,

@@ -2,7 +2,7 @@
 ghost use Rattle.std.specs.Prelude.{◌≡◌, ◌↔◌, IsTrue};
 ghost use Rattle.std.specs.Ordering.{nat_cmp, ordering_then};
 ghost use Rattle.std.specs.Cmp.Lexicographic.{slice_cmp};
-ghost use Rattle.label_index.specs.Labels.{label_cmp};
+ghost use Rattle.label_index.specs.Labels.{label_cmp, cmp_to_key};
 
 use bundle_doc::DocId;
 use jwk_set::KeyId;
@@ -57,7 +57,7 @@ impl ItemGuess<Label> for SoughtLabel {
     // 1,024 domains.
     fn hint(&self) -> u64 {
         let domain = u64::from(self.label.domain).min(1023);
-        (domain << 54) | (front_of(&self.label.document.0) << 27) | front_of(&self.label.key.0)
+        (domain << 54) | (front_of(&self.label.key.0) << 27) | front_of(&self.label.document.0)
     }
 
     fn guess(&self, item: &Label, _agreed: Agreed) -> (bool, usize) {
@@ -70,13 +70,34 @@ fn front_of(digest: &[u8; 32]) -> u64 {
     u64::from(u32::from_be_bytes([digest[0], digest[1], digest[2], digest[3]]) >> 5)
 }
 
-// Labels of one domain are ordered by the document, so that those of one bundle are neighbours.
+// Labels of one domain are ordered by the key, and by the document where that is the same: those of
+// a key stand together.
 fn compare_ids(a: &Label, b: &Label) -> Ordering
-    ensures { result ≡ ordering_then (slice_cmp nat_cmp a.now.document.0 b.now.document.0)
-        (slice_cmp nat_cmp a.now.key.0 b.now.key.0) }
+    ensures { result ≡ ordering_then (slice_cmp nat_cmp a.now.key.0 b.now.key.0)
+        (slice_cmp nat_cmp a.now.document.0 b.now.document.0) }
 {
-    match a.document.cmp(&b.document) {
-        Ordering::Equal => a.key.cmp(&b.key),
+    match a.key.cmp(&b.key) {
+        Ordering::Equal => a.document.cmp(&b.document),
         unequal => unequal,
+    }
+}
+
+/// Seeks the labels of a key in a domain, of whatever document.
+#[derive(Drop)]
+pub(crate) struct SoughtKey {
+    pub(crate) domain: u32,
+    pub(crate) key: KeyId,
+}
+
+impl ItemProbe<Label> for SoughtKey {
+    ghost use Rattle.label_index.specs.Labels.{cmp_to_key};
+
+    ghost compared = { λ sought item. cmp_to_key sought.domain sought.key item };
+
+    fn compare(&self, item: &Label) -> Ordering {
+        match item.domain.cmp(&self.domain) {
+            Ordering::Equal => item.key.cmp(&self.key),
+            unequal => unequal,
+        }
     }
 }

@@ -1,41 +1,36 @@
 //! Labels that are found by what they stand for, and listed by their keys.
 ghost use Rattle.std.specs.Prelude.{◌≡◌, ℕ, ◌+◌, ◌^◌, ◌<◌, ◌≤◌, ◌∷◌, ◌++◌, [], length, IfSome};
-ghost use Rattle.std.specs.Prelude.{◌↔◌, IsTrue, OnOk, Some, slice_get, vec_capacity};
-ghost use Rattle.sorted_order.specs.Sought.{IsMissing};
-ghost use Rattle.sorted_order.specs.ArenaView.{in_order, Arranges, FindsNumber};
-ghost use Rattle.label_index.specs.Labels.{label_cmp, AreNumbersOf, IsOfKey};
+ghost use Rattle.std.specs.Prelude.{IsTrue, OnOk, Some, slice_get, vec_capacity};
+ghost use Rattle.std.specs.List.{filter};
+ghost use Rattle.sorted_order.specs.Sought.{IsMissing, is_equal};
+ghost use Rattle.sorted_order.specs.ArenaView.{in_order, Arranges, FindsNumber, compared_at};
+ghost use Rattle.label_index.specs.Labels.{label_cmp, cmp_to_key, AreNumbersOf, IsOfKey};
 
-use crate::key_chains::KeyChains;
-use crate::label::{Label, SoughtLabel};
+use crate::label::{Label, SoughtKey, SoughtLabel};
 use jwk_set::KeyId;
-use sorted_order::{Arena, ItemGuess, ItemProbe};
+use sorted_order::{Arena, ItemGuess, ItemProbe, Numbers};
 use std::alloc::{AllocError, Global};
-use std::cmp::Ordering;
 use std::marker::Model;
 use wait_index::LabelNo;
 
-/// Different labels, numbered as they came, beside their order and the chains of their keys.
+/// Different labels, numbered as they came, beside their order. In it the labels of a key in a
+/// domain are one run, so that no choice of keys makes a search pass over others: it looks at so
+/// many labels as halving takes.
 #[derive(Drop)]
 pub(crate) struct LabelTable {
     labels: Arena<Label>,
-    chains: KeyChains,
 }
 
 impl Model for LabelTable {
-    ghost use Rattle.std.specs.Prelude.{min, vec_capacity};
-    ghost use Rattle.sorted_order.specs.ArenaView.{ArenaView};
+    ghost use Rattle.sorted_order.specs.ArenaView.{ArenaView, in_order};
     ghost use Rattle.label_index.specs.declared.label.Label.{Label};
-    ghost use Rattle.label_index.specs.Labels.{IsLabelTable};
+    ghost use Rattle.label_index.specs.Labels.{IsInOrder};
 
     ghost Value = { ArenaView Label };
 
-    ghost view = { λ t. record {
-      items = t.labels.items;
-      order = t.labels.order;
-      capacity = min t.labels.capacity (vec_capacity t.chains.earlier);
-    } };
+    ghost view = { λ t. t.labels };
 
-    ghost invariant = { λ t. IsLabelTable t.labels t.chains };
+    ghost invariant = { λ t. IsInOrder (in_order t.labels) };
 }
 
 impl LabelTable {
@@ -45,7 +40,6 @@ impl LabelTable {
     {
         LabelTable {
             labels: Arena::new(alloc),
-            chains: KeyChains::new(alloc),
         }
     }
 
@@ -61,8 +55,7 @@ impl LabelTable {
     pub(crate) fn room(&self) -> usize
         ensures { length self.now.items + result ≡ self.now.capacity }
     {
-        let labels = self.labels.room();
-        labels.min(self.chains.earlier.capacity() - self.labels.len())
+        self.labels.room()
     }
 
     /// Makes room for this many more labels.
@@ -70,14 +63,12 @@ impl LabelTable {
     /// # Errors
     /// Memory ran out. Only the room may have grown.
     pub(crate) fn try_reserve(&mut self, labels: usize) -> Result<(), AllocError>
-        requires few { length self.old.items < 2 ^ 32 }
         ensures items { self.new.items ≡ self.old.items }
         ensures order { self.new.order ≡ self.old.order }
         ensures capacity { self.old.capacity ≤ self.new.capacity }
         ensures ok { OnOk result (length self.new.items + labels ≤ self.new.capacity) }
     {
-        self.labels.try_reserve(labels)?;
-        self.chains.try_reserve(self.labels.items(), labels)
+        self.labels.try_reserve(labels)
     }
 
     /// The labels in the order in which they came.
@@ -98,23 +89,22 @@ impl LabelTable {
     pub(crate) fn insert(&mut self, at: usize, label: Label)
         requires missing { IsMissing (λ item. label_cmp item label) (in_order self.old) at }
         requires room { length self.old.items < self.old.capacity }
-        requires few { length self.old.items + 1 < 2 ^ 32 }
         ensures items { self.new.items ≡ self.old.items ++ label ∷ [] }
         ensures capacity { self.new.capacity ≡ self.old.capacity }
     {
         let _count = self.labels.len();
         let hint = SoughtLabel { label }.hint();
         self.labels.insert_with_hint(at, label, hint);
-        self.chains.add(&label.key);
     }
 
-    /// The number of the label, where it is the newest one in its key's bucket.
+    /// The number of the label, where it is the newest of all.
     pub(crate) fn find_newest(&self, label: Label) -> Option<u32>
         ensures { IfSome result (λ number. slice_get self.now.items number ≡ Some label) }
     {
-        let number = self.chains.newest_of(&label.key).checked_sub(1)?;
-        if is_there(self.labels.items(), number, &SoughtLabel { label }) {
-            Some(number)
+        let labels = self.labels.items();
+        let newest = u32::try_from(labels.len().checked_sub(1)?).ok()?;
+        if is_there(labels, newest, &SoughtLabel { label }) {
+            Some(newest)
         } else {
             None
         }
@@ -122,21 +112,27 @@ impl LabelTable {
 
     /// Lists the numbers of the labels of a key in a domain, in place of what the list had. There
     /// is room for each label.
-    pub(crate) fn list_key(&self, list: &mut Vec<LabelNo>, domain: u32, key: &KeyId)
+    pub(crate) fn list_key(&self, list: &mut Vec<LabelNo>, domain: u32, key: KeyId)
         requires { length self.now.items ≤ vec_capacity list.old }
-        ensures numbers { AreNumbersOf self.now.items (IsOfKey domain key.now) list.new.items }
+        ensures numbers { AreNumbersOf self.now.items (IsOfKey domain key) list.new.items }
         ensures room { vec_capacity list.new ≡ vec_capacity list.old }
     {
-        list.clear();
-        let labels = self.labels.items();
-        let mut link = self.chains.newest_of(key);
-        'labels: while link > 0 {
-            let number = link - 1;
-            if is_of_key(&labels[number as usize], domain, key) {
-                list.push_reserved(LabelNo::new(number));
-            }
-            link = self.chains.earlier[number as usize];
-        }
+        let numbers = self.labels.numbers_matching(&SoughtKey { domain, key });
+        list_numbers(list, numbers);
+        // In the order in which they came their edges lie side by side in memory.
+        list.sort_unstable();
+    }
+}
+
+/// Lists the numbers, in place of what the list had. There is room for each of them.
+fn list_numbers(list: &mut Vec<LabelNo>, numbers: Numbers<'_>)
+    requires { length numbers ≤ vec_capacity list.old }
+    ensures numbers { list.new.items ≡ numbers.entry }
+    ensures room { vec_capacity list.new ≡ vec_capacity list.old }
+{
+    list.clear();
+    for number in numbers {
+        list.push_reserved(LabelNo::new(number));
     }
 }
 
@@ -148,10 +144,4 @@ fn is_there(labels: &[Label], number: u32, sought: &SoughtLabel) -> bool
         Some(label) => sought.compare(label).is_eq(),
         None => false,
     }
-}
-
-fn is_of_key(label: &Label, domain: u32, key: &KeyId) -> bool
-    ensures { IsTrue result ↔ IsOfKey domain key.now label.now }
-{
-    label.domain == domain && label.key == *key
 }

@@ -1,4 +1,4 @@
--- A label that is the newest of its bucket is there.
+-- A label that is the newest of all is there.
 use Rattle.std.proofs.Common.{inl, refl, ap, ◌∙◌}
 use Rattle.std.specs.Prelude.{slice_get}
 use Rattle.label_index.proofs.index.newest_or_number_of.Goals as goal
