@@ -17,23 +17,23 @@ _fedbundle() {
     case ${COMP_WORDS[1]} in
         canon) words='--domain --format --help' ;;
         config) words='--config --with --format --help' ;;
-        report) words='--config --state --format --at --help' ;;
+        report) words='--config --state --format --wait --at --help' ;;
         list) words='--config --state --domain --format --verbose --help' ;;
         diff) words='--config --state --with --verbose --help' ;;
         graph) words='--config --state --domain --verbose --help' ;;
-        status) words='--config --state --format --verbose --at --help' ;;
-        bundle) words='--config --state --domain --format --verbose --at --help' ;;
-        explain) words='--config --state --domain --short --format --verbose --at --help' ;;
+        status) words='--config --state --format --wait --verbose --at --help' ;;
+        bundle) words='--config --state --domain --format --wait --verbose --at --help' ;;
+        explain) words='--config --state --domain --short --format --wait --verbose --at --help' ;;
         observe) words='--config --state --domain --endpoint --key --wait --verbose --at --help' ;;
         merge) words='--config --state --wait --most-bytes --verbose --at --help' ;;
         migrate) words='--config --state --to --records-only --help' ;;
         reseed) words='--config --state --allow --verbose --help' ;;
-        polls) words='--config --state --now --format --verbose --at --help' ;;
+        polls) words='--config --state --now --format --wait --verbose --at --help' ;;
         distrust) words='--config --state --domain --key --dry-run --wait --verbose --at --help' ;;
         serve) words='--config --state --listen --sessions --verbose --help' ;;
         pull) words='--config --state --peer --wait --most-bytes --verbose --help' ;;
         replica) words='--config --state --socket --listen --peers --every --most-bytes --new --verbose --help' ;;
-        stop) words='--at --help' ;;
+        stop) words='--wait --at --help' ;;
         help) words='canon config report list diff graph status bundle explain observe merge migrate reseed polls distrust serve pull replica stop help' ;;
         *) return ;;
     esac

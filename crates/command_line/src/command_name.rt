@@ -198,10 +198,11 @@ static CANON: [OptionName; 2] = [OptionName::Domain, OptionName::FileFormat];
 
 static CONFIG: [OptionName; 3] = [OptionName::Config, OptionName::With, OptionName::FileFormat];
 
-static REPORT: [OptionName; 4] = [
+static REPORT: [OptionName; 5] = [
     OptionName::Config,
     OptionName::OptionalState,
     OptionName::FileFormat,
+    OptionName::Wait,
     OptionName::At,
 ];
 
@@ -227,29 +228,32 @@ static DIFF: [OptionName; 4] = [
     OptionName::Verbose,
 ];
 
-static STATUS: [OptionName; 5] = [
+static STATUS: [OptionName; 6] = [
     OptionName::Config,
     OptionName::State,
     OptionName::Format,
+    OptionName::Wait,
     OptionName::Verbose,
     OptionName::At,
 ];
 
-static BUNDLE: [OptionName; 6] = [
+static BUNDLE: [OptionName; 7] = [
     OptionName::Config,
     OptionName::State,
     OptionName::Domain,
     OptionName::Format,
+    OptionName::Wait,
     OptionName::Verbose,
     OptionName::At,
 ];
 
-static EXPLAIN: [OptionName; 7] = [
+static EXPLAIN: [OptionName; 8] = [
     OptionName::Config,
     OptionName::State,
     OptionName::Domain,
     OptionName::Short,
     OptionName::FileFormat,
+    OptionName::Wait,
     OptionName::Verbose,
     OptionName::At,
 ];
@@ -288,11 +292,12 @@ static RESEED: [OptionName; 4] = [
     OptionName::Verbose,
 ];
 
-static POLLS: [OptionName; 6] = [
+static POLLS: [OptionName; 7] = [
     OptionName::Config,
     OptionName::State,
     OptionName::Now,
     OptionName::FileFormat,
+    OptionName::Wait,
     OptionName::Verbose,
     OptionName::At,
 ];
@@ -337,7 +342,7 @@ static REPLICA: [OptionName; 9] = [
     OptionName::Verbose,
 ];
 
-static STOP: [OptionName; 1] = [OptionName::At];
+static STOP: [OptionName; 2] = [OptionName::Wait, OptionName::At];
 
 impl CommandName {
     /// The subcommand's word.

@@ -310,7 +310,7 @@ standard input. What the replica acknowledged before is on the disk.
 
 It prints nothing, and writes no file.
 
-Ends with 0; with 3 where no replica answers there.";
+Ends with 0; with 3 where no replica answers there, or not in time.";
 
 impl OptionName {
     /// What help calls the option's text.
@@ -370,7 +370,8 @@ impl OptionName {
             OptionName::With => "What to compare with: a file of the same kind",
             OptionName::At => "The socket of a running replica, in place of the two files",
             OptionName::Wait =>
-                "How long to wait for the state's lock, from 0 to 86400 seconds [60]",
+                "How long to wait for the state's lock, or for a running replica's reply, from 0 to \
+                86400 seconds [60]",
             OptionName::MostBytes =>
                 "How many bytes to take at most, with those of the state file [4294967296]",
             OptionName::Allow => "A domain whose current bundle may be a seed in any case",
@@ -441,7 +442,7 @@ impl CommandName {
             }
             CommandName::Report => {
                 "fedbundle report --config <FILE> [--state <FILE>] [--format <FORMAT>]\n       \
-                fedbundle report --at <PATH>"
+                fedbundle report --at <PATH> [--wait <SECONDS>]"
             }
             CommandName::List => {
                 "fedbundle list --config <FILE> --state <FILE> [--domain <DOMAIN>] \
@@ -456,28 +457,30 @@ impl CommandName {
             CommandName::Status => {
                 "fedbundle status --config <FILE> --state <FILE> [--format <FORMAT>] \
                 [--verbose]\n       \
-                fedbundle status --at <PATH> [--format <FORMAT>] [--verbose]"
+                fedbundle status --at <PATH> [--format <FORMAT>] [--wait <SECONDS>] [--verbose]"
             }
             CommandName::Bundle => {
                 "fedbundle bundle --config <FILE> --state <FILE> --domain <DOMAIN> \
                 [--format <FORMAT>] [--verbose]\n       \
-                fedbundle bundle --at <PATH> --domain <DOMAIN> [--format <FORMAT>] [--verbose]"
+                fedbundle bundle --at <PATH> --domain <DOMAIN> [--format <FORMAT>] \
+                [--wait <SECONDS>] [--verbose]"
             }
             CommandName::Explain => {
                 "fedbundle explain --config <FILE> --state <FILE> --domain <DOMAIN> [--short] \
                 [--format <FORMAT>] [--verbose]\n       \
-                fedbundle explain --at <PATH> --domain <DOMAIN> [--short] [--verbose]"
+                fedbundle explain --at <PATH> --domain <DOMAIN> [--short] [--wait <SECONDS>] \
+                [--verbose]"
             }
             CommandName::Observe => {
                 "fedbundle observe --config <FILE> --state <FILE> --domain <DOMAIN> \
                 --endpoint <SPIFFE_ID> --key <KEY_ID> [--wait <SECONDS>] [--verbose]\n       \
                 fedbundle observe --at <PATH> --domain <DOMAIN> --endpoint <SPIFFE_ID> \
-                --key <KEY_ID> [--verbose]"
+                --key <KEY_ID> [--wait <SECONDS>] [--verbose]"
             }
             CommandName::Merge => {
                 "fedbundle merge --config <FILE> --state <FILE> [--wait <SECONDS>] \
                 [--most-bytes <BYTES>] [--verbose]\n       \
-                fedbundle merge --at <PATH> [--most-bytes <BYTES>] [--verbose]"
+                fedbundle merge --at <PATH> [--wait <SECONDS>] [--most-bytes <BYTES>] [--verbose]"
             }
             CommandName::Migrate => {
                 "fedbundle migrate --config <FILE> --state <FILE> --to <FILE> [--records-only]"
@@ -488,13 +491,13 @@ impl CommandName {
             CommandName::Polls => {
                 "fedbundle polls --config <FILE> --state <FILE> --now <SECONDS> \
                 [--format <FORMAT>] [--verbose]\n       \
-                fedbundle polls --at <PATH> --now <SECONDS> [--verbose]"
+                fedbundle polls --at <PATH> --now <SECONDS> [--wait <SECONDS>] [--verbose]"
             }
             CommandName::Distrust => {
                 "fedbundle distrust --config <FILE> --state <FILE> --domain <DOMAIN> \
                 --key <KEY_ID> [--dry-run] [--wait <SECONDS>] [--verbose]\n       \
                 fedbundle distrust --at <PATH> --domain <DOMAIN> --key <KEY_ID> [--dry-run] \
-                [--verbose]"
+                [--wait <SECONDS>] [--verbose]"
             }
             CommandName::Serve => {
                 "fedbundle serve --config <FILE> --state <FILE> --listen <ADDRESS> \
@@ -509,7 +512,7 @@ impl CommandName {
                 [--listen <ADDRESS>] [--peers <ADDRESS,..>] [--every <SECONDS>] \
                 [--most-bytes <BYTES>] [--new] [--verbose]"
             }
-            CommandName::Stop => "fedbundle stop --at <PATH>",
+            CommandName::Stop => "fedbundle stop --at <PATH> [--wait <SECONDS>]",
         }
     }
 

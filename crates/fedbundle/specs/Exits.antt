@@ -9,7 +9,7 @@ use Rattle.fedbundle.specs.declared.exits.Exit.{Exit}
 use Rattle.fedbundle.specs.declared.exits.Exit.TheVariants.{Usage, BadKey, BadMoment, BadAddress}
 use Rattle.fedbundle.specs.declared.exits.Exit.TheVariants.{NoBundle, NotAccepted, Locked}
 use Rattle.fedbundle.specs.declared.exits.Exit.TheVariants.{TooManyBytes, System, Refused}
-use Rattle.fedbundle.specs.declared.exits.Exit.TheVariants.{EmptyPath, BadNumber, NoReplica}
+use Rattle.fedbundle.specs.declared.exits.Exit.TheVariants.{EmptyPath, BadNumber, NoReplica, NoReply}
 use Rattle.fedbundle.specs.declared.exits.Exit.TheVariants.{ReplicaRuns, SocketTaken, NoState}
 
 -- 2 for usage; 3 for a lock, a socket, or a replica that does not answer; what the refusal or the
@@ -22,6 +22,7 @@ exit_status_of Locked = 3
 exit_status_of ReplicaRuns = 3
 exit_status_of SocketTaken = 3
 exit_status_of NoReplica = 3
+exit_status_of NoReply = 3
 exit_status_of (System fault) = status_of fault.error
 exit_status_of (Refused e) = status_of e
 exit_status_of exit = 1
@@ -41,6 +42,7 @@ IsExitLine ReplicaRuns line = line ≡ codes "fedbundle: a replica is running\n"
 IsExitLine SocketTaken line = line ≡ codes "fedbundle: socket taken\n"
 IsExitLine NoState line = line ≡ codes "fedbundle: no state\n"
 IsExitLine NoReplica line = line ≡ codes "fedbundle: no replica\n"
+IsExitLine NoReply line = line ≡ codes "fedbundle: no reply\n"
 IsExitLine TooManyBytes line = line ≡ codes "fedbundle: too many bytes\n"
 IsExitLine (System fault) line = (text : List ℕ) × (line ≡ fault_line text)
 IsExitLine (Refused e) line = (text : List ℕ) × (line ≡ fault_line text)

@@ -44,6 +44,8 @@ pub enum Exit {
     NoState,
     /// No replica answered at the socket.
     NoReplica,
+    /// The replica at the socket did not answer in time.
+    NoReply,
     /// More bytes would be held than the limit says.
     TooManyBytes,
     /// The system refused a call at this step.
@@ -104,7 +106,8 @@ pub fn exit_status(exit: &Exit) -> u8
         Exit::Usage | Exit::EmptyPath(_) | Exit::BadNumber(_) => 2,
         Exit::BadKey | Exit::BadMoment | Exit::BadAddress => 1,
         Exit::NoBundle | Exit::NotAccepted | Exit::TooManyBytes => 1,
-        Exit::Locked | Exit::ReplicaRuns | Exit::SocketTaken | Exit::NoReplica => 3,
+        Exit::Locked | Exit::ReplicaRuns | Exit::SocketTaken => 3,
+        Exit::NoReplica | Exit::NoReply => 3,
         Exit::NoState => 1,
         Exit::System(fault) => status(&fault.error),
         Exit::Refused(error) => status(error),
@@ -130,6 +133,7 @@ pub fn write_exit<W: Sink>(exit: &Exit, sink: &mut W) -> Result<(), CommandError
         Exit::SocketTaken => b"fedbundle: socket taken\n",
         Exit::NoState => b"fedbundle: no state\n",
         Exit::NoReplica => b"fedbundle: no replica\n",
+        Exit::NoReply => b"fedbundle: no reply\n",
         Exit::TooManyBytes => b"fedbundle: too many bytes\n",
         Exit::System(fault) => return write_fault(&fault.error, sink),
         Exit::Refused(error) => return write_fault(error, sink),

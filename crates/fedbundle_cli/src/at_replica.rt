@@ -3,26 +3,30 @@ use crate::streams::input;
 use byte_lines::read_up_to;
 use fedbundle::{Call, CommandError, CommandName, Exit, Step};
 use local_answers::{MOST_INPUT, request_words};
-use replica_loop::{AskFault, ask_replica};
+use replica_loop::{AskFault, LocalRequest, ask_replica};
 
 /// Hands the words and, where the command reads it, standard input to the replica that listens at
-/// the path, and writes what it replies.
-pub(crate) fn ask(rt: &HostRuntime, call: &Call<'_>, path: &str) -> Result<u8, Exit> {
+/// the path, and writes what it replies. It waits for the reply for this many seconds.
+pub(crate) fn ask(
+    rt: &HostRuntime,
+    call: &Call<'_>,
+    path: &str,
+    wait_seconds: u64,
+) -> Result<u8, Exit> {
     let words = request_words(rt.alloc(), call)?;
     let texts: Vec<&str> = words.iter().map(|word| word.as_str()).collect(rt.alloc())?;
     let text = input_of(rt, call.name)?;
-    let asked = ask_replica(
-        rt,
-        rt.alloc(),
+    let request = LocalRequest {
         path,
-        texts.as_slice(),
-        text.as_slice(),
-        &mut rt.stdout(),
-        &mut rt.stderr(),
-    );
+        words: texts.as_slice(),
+        input: text.as_slice(),
+        wait_seconds,
+    };
+    let asked = ask_replica(rt, rt.alloc(), &request, &mut rt.stdout(), &mut rt.stderr());
     match asked {
         Ok(status) => Ok(status),
         Err(AskFault::NoReplica) => Err(Exit::NoReplica),
+        Err(AskFault::NoReply) => Err(Exit::NoReply),
         Err(AskFault::Socket(fault)) => Err(Exit::of_file(Step::Socket, fault)),
         Err(AskFault::Io) => Err(Exit::Refused(CommandError::Io)),
         Err(AskFault::NoMemory) => Err(Exit::Refused(CommandError::NoMemory)),

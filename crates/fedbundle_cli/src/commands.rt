@@ -50,9 +50,9 @@ fn carry_out(rt: &HostRuntime, call: &Call<'_>) -> Result<u8, Exit> {
     if let Some(option) = empty_path(call) {
         return Err(Exit::EmptyPath(option));
     }
-    manner_of(call)?;
+    let manner = manner_of(call)?;
     if let Some(path) = given(call, OptionName::At) {
-        return at_replica::ask(rt, call, path);
+        return at_replica::ask(rt, call, path, manner.wait_seconds);
     }
     match call.name {
         CommandName::Canon => canon::run(rt, call),

@@ -75,6 +75,12 @@ fn say_why(rt: &HostRuntime, call: &Call<'_>, exit: &Exit) -> Result<(), AllocEr
             "is not there: --new begins one",
         ),
         Exit::NoReplica => say_option(rt, call, OptionName::At, "has no replica that answers"),
+        Exit::NoReply => say_option(
+            rt,
+            call,
+            OptionName::At,
+            "has a replica that did not answer in time",
+        ),
         Exit::TooManyBytes => say_option(rt, call, OptionName::MostBytes, "would be passed"),
         Exit::System(fault) => say_system(rt, call, fault),
         Exit::Refused(error) => say_refusal(rt, call, error),
@@ -134,6 +140,13 @@ pub(crate) fn state_path<'a>(call: &Call<'a>) -> &'a str {
     given(call, OptionName::State).unwrap_or("")
 }
 
+// The path of the socket: that of a replica that is asked, or that is to be one.
+fn socket_path<'a>(call: &Call<'a>) -> &'a str {
+    given(call, OptionName::At)
+        .or(given(call, OptionName::Socket))
+        .unwrap_or("")
+}
+
 fn say_system(rt: &HostRuntime, call: &Call<'_>, fault: &SystemFault) -> Result<(), AllocError> {
     let Some(code) = fault.code else {
         return Ok(());
@@ -142,7 +155,7 @@ fn say_system(rt: &HostRuntime, call: &Call<'_>, fault: &SystemFault) -> Result<
     let state = shown(rt.alloc(), state_path(call))?;
     let listen = shown(rt.alloc(), given(call, OptionName::Listen).unwrap_or(""))?;
     let peer = shown(rt.alloc(), given(call, OptionName::Peer).unwrap_or(""))?;
-    let socket = shown(rt.alloc(), given(call, OptionName::Socket).unwrap_or(""))?;
+    let socket = shown(rt.alloc(), socket_path(call))?;
     let line = match fault.step {
         Step::Lock => format!(in rt.alloc(); "lock {state}.lock: {words}")?,
         Step::See => format!(in rt.alloc(); "state {state}: {words}")?,

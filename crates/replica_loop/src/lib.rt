@@ -34,6 +34,6 @@ mod talk;
 mod turn;
 mod unread_bytes;
 
-pub use client::{AskFault, ask_replica};
+pub use client::{AskFault, LocalRequest, ask_replica};
 pub use replica::run_replica;
 pub use settings::Settings;
