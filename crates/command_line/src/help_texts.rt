@@ -370,8 +370,8 @@ impl OptionName {
             OptionName::With => "What to compare with: a file of the same kind",
             OptionName::At => "The socket of a running replica, in place of the two files",
             OptionName::Wait =>
-                "How long to wait for the state's lock, or for a running replica's reply, from 0 to \
-                86400 seconds [60]",
+                "How long to wait for the state's lock, or for a running replica's reply, from 0 \
+                to 86400 seconds [60]",
             OptionName::MostBytes =>
                 "How many bytes to take at most, with those of the state file [4294967296]",
             OptionName::Allow => "A domain whose current bundle may be a seed in any case",

@@ -9,8 +9,9 @@ use Rattle.fedbundle.specs.declared.exits.Exit.{Exit}
 use Rattle.fedbundle.specs.declared.exits.Exit.TheVariants.{Usage, BadKey, BadMoment, BadAddress}
 use Rattle.fedbundle.specs.declared.exits.Exit.TheVariants.{NoBundle, NotAccepted, Locked}
 use Rattle.fedbundle.specs.declared.exits.Exit.TheVariants.{TooManyBytes, System, Refused}
-use Rattle.fedbundle.specs.declared.exits.Exit.TheVariants.{EmptyPath, BadNumber, NoReplica, NoReply}
-use Rattle.fedbundle.specs.declared.exits.Exit.TheVariants.{ReplicaRuns, SocketTaken, NoState}
+use Rattle.fedbundle.specs.declared.exits.Exit.TheVariants.{EmptyPath, BadNumber, NoReplica}
+use Rattle.fedbundle.specs.declared.exits.Exit.TheVariants.{NoReply, ReplicaRuns, SocketTaken}
+use Rattle.fedbundle.specs.declared.exits.Exit.TheVariants.{NoState}
 
 -- 2 for usage; 3 for a lock, a socket, or a replica that does not answer; what the refusal or the
 -- fault has; and else 1

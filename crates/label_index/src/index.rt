@@ -169,8 +169,8 @@ impl LabelIndex {
     }
 }
 
-/// The same as [`number_of`]. In a chain of bundles what is awaited is mostly the newest label, so it
-/// looks at that first.
+/// The same as [`number_of`]. In a chain of bundles what is awaited is mostly the newest label, so
+/// it looks at that first.
 fn newest_or_number_of(
     labels: &mut LabelTable,
     reach: &mut Reach,
