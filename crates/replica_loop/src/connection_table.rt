@@ -5,12 +5,14 @@ use crate::local_talk::Surroundings;
 use crate::socket::Socket;
 use crate::talk::Talk;
 use closure_core::Closure;
+use fair_turns::{Turns, Work, comes_first};
 use fedbundle::FileFault;
 use mio::Poll;
 use state_files::Journal;
 use std::alloc::{AllocError, Global};
+use std::io;
 use std::net::SocketAddr;
-use std::time::{Duration, Instant};
+use std::time::{Clock, Duration, Instant};
 
 /// The most connections at once, and the most of them that are of this machine.
 const MOST_CONNECTIONS: usize = 128;
@@ -24,12 +26,16 @@ const MOST_SERVED: usize = 48;
 /// The number of the first connection; those below it are of the listeners.
 const FIRST_SERIAL: usize = 2;
 
+/// For how long one turn carries out work of one kind, beyond what it began.
+const MILLIS_A_TURN: u64 = 4;
+
 /// The connections, and the buffer into which each reads.
 #[derive(Drop)]
 pub(crate) struct ConnectionTable {
     connections: Vec<LiveConnection>,
     serial: usize,
     buffer: Vec<u8>,
+    turns: Turns,
 }
 
 impl ConnectionTable {
@@ -38,6 +44,7 @@ impl ConnectionTable {
             connections: Vec::with_capacity(alloc, MOST_CONNECTIONS)?,
             serial: FIRST_SERIAL,
             buffer: Vec::from_elem(alloc, 0, BYTES_A_TURN)?,
+            turns: Turns::new(),
         })
     }
 
@@ -103,16 +110,67 @@ impl ConnectionTable {
         self.connections.iter().map(|conn| time_of(conn, now)).min()
     }
 
-    /// Takes what came on each connection.
-    pub(crate) fn read<C: Closure>(
+    /// Keeps what came on each connection.
+    pub(crate) fn read(&mut self, alloc: Global, now: Instant) {
+        for conn in &mut self.connections {
+            conn.read(alloc, now, &mut self.buffer);
+        }
+    }
+
+    /// Which work comes after the short one, where some waits.
+    pub(crate) fn work_after_short(&mut self) -> Option<Work> {
+        let has_long = self.has_work(Work::Long);
+        let has_change = self.has_work(Work::Change);
+        self.turns.after_short(has_long, has_change)
+    }
+
+    fn has_work(&self, work: Work) -> bool {
+        self.connections
+            .iter()
+            .any(|conn| conn.work() == Some(work))
+    }
+
+    /// Carries out what waits, one connection after another, until the time of one turn is over.
+    /// One always has its turn.
+    pub(crate) fn carry_out<C: Closure, R: Clock>(
         &mut self,
+        rt: &R,
         alloc: Global,
         held: &mut HeldState<C>,
         around: &Surroundings<'_>,
+        work: Work,
     ) {
-        for conn in &mut self.connections {
-            conn.read(alloc, held, around, &mut self.buffer);
+        let begun = Instant::now(rt);
+        for _ in 0..MOST_CONNECTIONS {
+            let Some(serial) = self.next_turn(work) else {
+                break;
+            };
+            self.turns.note(work, serial);
+            for conn in &mut self.connections {
+                if conn.serial == serial {
+                    conn.carry_out(alloc, held, around);
+                }
+            }
+            if is_time_over(rt, &begun) {
+                break;
+            }
         }
+    }
+
+    // The connection whose turn it is.
+    fn next_turn(&self, work: Work) -> Option<usize> {
+        let last = self.turns.last(work);
+        let mut next: Option<usize> = None;
+        for conn in &self.connections {
+            let is_first = match next {
+                Some(other) => comes_first(conn.serial, other, last),
+                None => true,
+            };
+            if is_first && conn.work() == Some(work) {
+                next = Some(conn.serial);
+            }
+        }
+        next
     }
 
     /// Appends to the journal what requests have changed.
@@ -170,6 +228,14 @@ impl ConnectionTable {
         for conn in &mut self.connections {
             conn.write(now);
         }
+    }
+}
+
+// Whether the time of one turn is over. Where the clock fails it is.
+fn is_time_over<R: Clock>(rt: &R, begun: &io::Result<Instant>) -> bool {
+    match (begun, Instant::now(rt)) {
+        (Ok(begun), Ok(now)) => now.duration_since(*begun) >= Duration::from_millis(MILLIS_A_TURN),
+        _ => true,
     }
 }
 

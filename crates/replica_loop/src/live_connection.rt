@@ -5,6 +5,7 @@ use crate::local_talk::Surroundings;
 use crate::socket::{Progress, Socket};
 use crate::talk::Talk;
 use closure_core::Closure;
+use fair_turns::Work;
 use replica_sync::SyncError;
 use std::alloc::Global;
 use std::net::SocketAddr;
@@ -73,7 +74,7 @@ impl LiveConnection {
     /// Whether there is something to do at once.
     pub(crate) fn is_busy(&self) -> bool {
         self.ending.is_some()
-            || self.talk.has_work()
+            || self.work().is_some()
             || (self.can_read && self.talk.wants_bytes())
             || (self.can_write && (!self.is_connected || !self.talk.output().is_empty()))
     }
@@ -87,32 +88,40 @@ impl LiveConnection {
         idle.min(age)
     }
 
-    /// Takes what came, at most what one turn allows.
-    pub(crate) fn read<C: Closure>(
-        &mut self,
-        alloc: Global,
-        held: &mut HeldState<C>,
-        around: &Surroundings<'_>,
-        buffer: &mut [u8],
-    ) {
+    /// What waits for its turn, where something does.
+    pub(crate) fn work(&self) -> Option<Work> {
+        match self.ending {
+            Some(_) => None,
+            None => self.talk.work(),
+        }
+    }
+
+    /// Keeps what came, at most what one turn allows.
+    pub(crate) fn read(&mut self, alloc: Global, now: Instant, buffer: &mut [u8]) {
         if self.ending.is_some() || !self.is_connected {
             return;
         }
-        let taken = if self.talk.has_work() {
-            self.talk.go_on(alloc, held)
-        } else {
-            self.take_pieces(alloc, held, around, buffer)
-        };
-        if let Err(ending) = taken {
+        if let Err(ending) = self.take_pieces(alloc, now, buffer) {
             self.ending = Some(ending);
         }
     }
 
-    fn take_pieces<C: Closure>(
+    /// Its turn has come.
+    pub(crate) fn carry_out<C: Closure>(
         &mut self,
         alloc: Global,
         held: &mut HeldState<C>,
         around: &Surroundings<'_>,
+    ) {
+        if let Err(ending) = self.talk.carry_out(alloc, held, around) {
+            self.ending = Some(ending);
+        }
+    }
+
+    fn take_pieces(
+        &mut self,
+        alloc: Global,
+        now: Instant,
         buffer: &mut [u8],
     ) -> Result<(), Ending> {
         let mut left = buffer.len();
@@ -121,29 +130,28 @@ impl LiveConnection {
                 break;
             }
             let room = left.min(buffer.len());
-            let count = self.take_piece(alloc, held, around, &mut buffer[..room])?;
+            let count = self.take_piece(alloc, now, &mut buffer[..room])?;
             left = left.saturating_sub(count);
         }
         Ok(())
     }
 
     // Returns how many bytes came.
-    fn take_piece<C: Closure>(
+    fn take_piece(
         &mut self,
         alloc: Global,
-        held: &mut HeldState<C>,
-        around: &Surroundings<'_>,
+        now: Instant,
         buffer: &mut [u8],
     ) -> Result<usize, Ending> {
         match self.socket.read(buffer) {
             Progress::Bytes(0) => {
-                self.talk.end_input(alloc, held, around)?;
+                self.talk.end_input(alloc)?;
                 Ok(0)
             }
             Progress::Bytes(count) => {
-                self.moved = around.now;
+                self.moved = now;
                 let count = count.min(buffer.len());
-                self.talk.take(alloc, held, &buffer[..count])?;
+                self.talk.take(alloc, &buffer[..count])?;
                 Ok(count)
             }
             Progress::Blocked => {

@@ -1,16 +1,16 @@
 //! A connection of this machine, on which one request comes and one reply goes.
 use crate::ending::Ending;
 use crate::held_state::HeldState;
+use crate::request_work::work_of;
 use closure_core::Closure;
+use fair_turns::Work;
 use local_answers::{Reply, RequestFault, RequestParts, Sending, answer_request};
 use status_view::RunningStatus;
 use std::alloc::Global;
-use std::time::Instant;
 
-/// The time, and what the replica says of itself.
+/// What the replica says of itself.
 #[derive(Clone, Copy)]
 pub(crate) struct Surroundings<'a> {
-    pub(crate) now: Instant,
     pub(crate) running: RunningStatus<'a>,
 }
 
@@ -29,6 +29,8 @@ pub(crate) struct LocalTalk {
 enum LocalAnswer {
     // Nothing, as long as the request comes.
     Awaited,
+    // Nothing, as long as a whole request waits for its turn.
+    Due(Work),
     // What is left of a reply that says why there is none of a command.
     Fault(&'static [u8]),
     Whole(Sending),
@@ -61,7 +63,23 @@ impl LocalTalk {
         }
     }
 
-    /// The request is whole: it is carried out.
+    /// Nothing more comes: a request that is whole waits for its turn.
+    pub(crate) fn end_input(&mut self, alloc: Global) {
+        match self.parts.whole() {
+            Ok(request) => self.answer = LocalAnswer::Due(work_of(alloc, request.words)),
+            Err(fault) => self.refuse(alloc, fault),
+        }
+    }
+
+    /// What the request waits for, once it is whole.
+    pub(crate) fn work(&self) -> Option<Work> {
+        match &self.answer {
+            LocalAnswer::Due(work) => Some(*work),
+            _ => None,
+        }
+    }
+
+    /// The request has its turn: it is carried out.
     pub(crate) fn answer<C: Closure>(
         &mut self,
         alloc: Global,
@@ -135,7 +153,7 @@ impl LocalTalk {
 
     pub(crate) fn output(&self) -> &[u8] {
         match &self.answer {
-            LocalAnswer::Awaited => b"".as_slice(),
+            LocalAnswer::Awaited | LocalAnswer::Due(_) => b"".as_slice(),
             LocalAnswer::Fault(text) => text,
             LocalAnswer::Whole(sending) => sending.output(),
         }
@@ -144,7 +162,7 @@ impl LocalTalk {
     /// So many bytes of the output were sent, or all where there are no more.
     pub(crate) fn wrote(&mut self, count: usize) {
         match &mut self.answer {
-            LocalAnswer::Awaited => {}
+            LocalAnswer::Awaited | LocalAnswer::Due(_) => {}
             LocalAnswer::Fault(text) => *text = &text[count.min(text.len())..],
             LocalAnswer::Whole(sending) => {
                 let count = count.min(sending.output().len());
@@ -154,7 +172,7 @@ impl LocalTalk {
     }
 
     pub(crate) fn ending(&self) -> Option<Ending> {
-        let waits = self.wants_bytes() || !self.journal().is_empty();
+        let waits = self.wants_bytes() || self.work().is_some() || !self.journal().is_empty();
         if waits || !self.output().is_empty() {
             return None;
         }

@@ -1,6 +1,7 @@
-//! One turn of the loop: what is ready is read, what came is put on the disk, and only then
-//! anything is written. So nobody is shown a change that a kill could take back. `kept_files` has
-//! what is on the disk.
+//! One turn of the loop: what is ready is read, and what takes little is answered; then a few
+//! milliseconds of long requests or of changes are carried out, what came is put on the disk, and
+//! only then it is shown. So nobody is shown a change that a kill could take back, and nobody waits
+//! for more than one of the others at a time. `kept_files` has what is on the disk.
 use crate::connection_table::ConnectionTable;
 use crate::ending::Ending;
 use crate::event_log::{LogEvent, log_event};
@@ -17,6 +18,7 @@ use crate::socket::Socket;
 use crate::step_fault::{at_step, file_at_step};
 use crate::talk::Talk;
 use closure_core::Closure;
+use fair_turns::Work;
 use fedbundle::{Exit, FileFault, Step};
 use mio::Events;
 use mio::net::TcpStream;
@@ -247,13 +249,44 @@ impl RunningReplica {
         }
     }
 
-    /// Takes what came on each connection.
-    pub(crate) fn read<C: Closure>(&mut self, alloc: Global, held: &mut HeldState<C>) {
+    /// Keeps what came on each connection, and answers what takes little. A request of this machine
+    /// is shown what is on the disk, so it does not wait for the changes of this turn.
+    pub(crate) fn read<C: Closure, R: Clock>(
+        &mut self,
+        rt: &R,
+        alloc: Global,
+        held: &mut HeldState<C>,
+    ) {
+        self.table.read(alloc, self.now);
+        self.carry_out(rt, alloc, held, Work::Short);
+        if held.fresh.is_empty() && !self.table.has_changes() {
+            self.table.write(self.now);
+        }
+    }
+
+    /// Carries out long requests or changes, where some wait.
+    pub(crate) fn go_on<C: Closure, R: Clock>(
+        &mut self,
+        rt: &R,
+        alloc: Global,
+        held: &mut HeldState<C>,
+    ) {
+        if let Some(work) = self.table.work_after_short() {
+            self.carry_out(rt, alloc, held, work);
+        }
+    }
+
+    fn carry_out<C: Closure, R: Clock>(
+        &mut self,
+        rt: &R,
+        alloc: Global,
+        held: &mut HeldState<C>,
+        work: Work,
+    ) {
         let around = Surroundings {
-            now: self.now,
             running: running_status(&self.files, &self.peers),
         };
-        self.table.read(alloc, held, &around);
+        self.table.carry_out(rt, alloc, held, &around, work);
         if self.ends_at.is_none() && self.table.is_stopped() {
             let last = Duration::from_secs(LAST_SECONDS);
             self.ends_at = Some(self.now.checked_add(last).unwrap_or(self.now));
@@ -371,7 +404,8 @@ pub(crate) fn turn<C: Closure, R: Files<File = File> + Net + Clock + Eprint>(
     running.wait(rt, alloc, events);
     running.accept(rt, alloc);
     running.begin_pull(rt, alloc, &held.closure, settings.most_bytes);
-    running.read(alloc, held);
+    running.read(rt, alloc, held);
+    running.go_on(rt, alloc, held);
     running.commit(rt, alloc, held, settings.state)?;
     running.write();
     running.end_connections(rt, alloc, settings.is_verbose);
