@@ -14,14 +14,15 @@ use std::io;
 use std::net::SocketAddr;
 use std::time::{Clock, Duration, Instant};
 
-/// The most connections at once, and the most of them that are of this machine.
-const MOST_CONNECTIONS: usize = 128;
+/// The most connections at once: those of this machine, those on which other replicas ask, one with
+/// each peer, and some on which is only replied that there are too many.
+const MOST_CONNECTIONS: usize = 144;
 
 const MOST_LOCAL: usize = 64;
 
-/// The most on which other replicas ask: however many come, there is room for this machine, for a
-/// reply that there are too many of that, and for a pull.
 const MOST_SERVED: usize = 48;
+
+const MOST_PULLS: usize = 16;
 
 /// The number of the first connection; those below it are of the listeners.
 const FIRST_SERIAL: usize = 2;
@@ -48,8 +49,7 @@ impl ConnectionTable {
         })
     }
 
-    /// Whether one more connection may come.
-    pub(crate) fn has_room(&self) -> bool {
+    fn has_room(&self) -> bool {
         self.connections.len() < MOST_CONNECTIONS
     }
 
@@ -57,8 +57,18 @@ impl ConnectionTable {
     pub(crate) fn has_room_for(&self, talk: &Talk) -> bool {
         match talk {
             Talk::Served(_) => self.has_room() && self.served_count() < MOST_SERVED,
-            Talk::Local(_) | Talk::Pull(_) => self.has_room(),
+            Talk::Local(_) => self.has_room(),
+            Talk::Pull(_) => self.has_pull_room(),
         }
+    }
+
+    /// Whether one more session may begin in which this replica asks.
+    pub(crate) fn has_pull_room(&self) -> bool {
+        let pulls = self
+            .connections
+            .iter()
+            .filter(|conn| matches!(conn.talk, Talk::Pull(_)));
+        self.has_room() && pulls.count() < MOST_PULLS
     }
 
     fn served_count(&self) -> usize {

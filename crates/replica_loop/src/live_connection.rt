@@ -5,7 +5,7 @@ use crate::local_talk::Surroundings;
 use crate::socket::{Progress, Socket};
 use crate::talk::Talk;
 use closure_core::Closure;
-use fair_turns::Work;
+use fair_turns::{Work, most_seconds};
 use replica_sync::SyncError;
 use std::alloc::Global;
 use std::net::SocketAddr;
@@ -34,6 +34,8 @@ pub(crate) struct LiveConnection {
     /// When it came.
     pub(crate) begun: Instant,
     moved: Instant,
+    // How many bytes moved, of both sides.
+    moved_bytes: u64,
     is_connected: bool,
     can_read: bool,
     can_write: bool,
@@ -59,6 +61,7 @@ impl LiveConnection {
             serial,
             begun: now,
             moved: now,
+            moved_bytes: 0,
             can_read: is_connected,
             can_write: is_connected,
             ending: None,
@@ -82,10 +85,23 @@ impl LiveConnection {
     /// How long it may still be quiet, or live.
     pub(crate) fn time_left(&self, now: Instant) -> Duration {
         let idle = Duration::from_secs(MAX_IDLE_SECONDS);
-        let age = Duration::from_secs(MAX_AGE_SECONDS);
         let idle = idle.saturating_sub(now.duration_since(self.moved));
+        let age = Duration::from_secs(self.max_age_seconds());
         let age = age.saturating_sub(now.duration_since(self.begun));
         idle.min(age)
+    }
+
+    // A session that this replica asked for ends earlier where little moves.
+    fn max_age_seconds(&self) -> u64 {
+        match &self.talk {
+            Talk::Pull(_) => most_seconds(self.moved_bytes).min(MAX_AGE_SECONDS),
+            Talk::Local(_) | Talk::Served(_) => MAX_AGE_SECONDS,
+        }
+    }
+
+    fn note_moved(&mut self, count: usize, now: Instant) {
+        self.moved = now;
+        self.moved_bytes = self.moved_bytes.saturating_add(count as u64);
     }
 
     /// What waits for its turn, where something does.
@@ -149,8 +165,8 @@ impl LiveConnection {
                 Ok(0)
             }
             Progress::Bytes(count) => {
-                self.moved = now;
                 let count = count.min(buffer.len());
+                self.note_moved(count, now);
                 self.talk.take(alloc, &buffer[..count])?;
                 Ok(count)
             }
@@ -206,7 +222,7 @@ impl LiveConnection {
         }
         match self.socket.write(&output[..count]) {
             Progress::Bytes(count) => {
-                self.moved = now;
+                self.note_moved(count, now);
                 self.talk.wrote(count);
             }
             Progress::Blocked => self.can_write = false,

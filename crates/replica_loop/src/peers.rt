@@ -81,9 +81,9 @@ impl Peers {
     }
 
     fn due_place(&self, now: Instant, has_failed: bool) -> Option<usize> {
-        self.places
-            .iter()
-            .position(|place| !place.is_asked && place.has_failed == has_failed && place.due <= now)
+        self.places.iter().position(|place| !place.is_asked
+            && place.has_failed == has_failed
+            && place.due <= now)
     }
 
     /// The session with the peer of this number has ended.

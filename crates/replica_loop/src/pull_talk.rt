@@ -12,6 +12,8 @@ const MOST_LINES: usize = 65_536;
 /// A connection on which this replica asks, and takes what is answered.
 #[derive(Drop)]
 pub(crate) struct PullTalk {
+    // Which of the peers it is.
+    number: usize,
     pulling: Pulling,
     rest: UnreadBytes,
     // How many more bytes may come.
@@ -24,9 +26,11 @@ impl PullTalk {
     pub(crate) fn new<C: Closure>(
         alloc: Global,
         closure: &C,
+        number: usize,
         most_bytes: u64,
     ) -> Result<PullTalk, SyncError> {
         Ok(PullTalk {
+            number,
             pulling: Pulling::new(alloc, closure)?,
             rest: UnreadBytes::new(alloc),
             bytes_left: most_bytes,
@@ -107,6 +111,11 @@ impl PullTalk {
         } else {
             None
         }
+    }
+
+    /// Which of the peers it is.
+    pub(crate) fn number(&self) -> usize {
+        self.number
     }
 
     /// How many receipts came that were not held.

@@ -17,7 +17,7 @@ pub(crate) fn work_of(alloc: Global, line: &[u8]) -> Work {
         return Work::Short;
     };
     match command_of(first.as_str()) {
-        Some(name) => work_of_command(name, words.iter().any(|word| word == DRY_RUN)),
+        Some(name) => work_of_command(name, words.iter().any(|word| word.as_str() == DRY_RUN)),
         None => Work::Short,
     }
 }

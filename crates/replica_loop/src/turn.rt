@@ -41,6 +41,9 @@ const PAUSE_MILLIS: u64 = 100;
 /// How many connections are accepted at each listener in one turn.
 const ARRIVALS_A_TURN: usize = 32;
 
+/// How many sessions are begun in one turn.
+const PULLS_A_TURN: usize = 16;
+
 /// How long replies may still be sent after the replica was asked to end.
 const LAST_SECONDS: u64 = 1;
 
@@ -122,7 +125,7 @@ impl RunningReplica {
     }
 
     fn may_pull(&self) -> bool {
-        self.ends_at.is_none() && self.table.has_room()
+        self.ends_at.is_none() && self.table.has_pull_room()
     }
 
     /// Takes in the connections that came.
@@ -200,37 +203,35 @@ impl RunningReplica {
         }
     }
 
-    /// Begins the session with the next peer, where it is due and there is room.
-    pub(crate) fn begin_pull<C: Closure, R: Net + Eprint>(
+    /// Begins a session with each peer that is due.
+    pub(crate) fn begin_pulls<C: Closure, R: Net + Eprint>(
         &mut self,
         rt: &R,
         alloc: Global,
         closure: &C,
         most_bytes: u64,
     ) {
-        if !self.may_pull() {
-            return;
-        }
-        let Some(peer) = self.peers.begin(self.now) else {
-            return;
-        };
         let held = running_status(&self.files, &self.peers).state_bytes();
         let left = most_bytes.saturating_sub(held);
-        if let Err(ending) = self.connect(rt, alloc, closure, peer, left) {
-            self.peers.end(ending, 0, None);
-            log_event(rt, alloc, LogEvent::Pull(peer, 0, Duration::ZERO, ending));
+        for _ in 0..PULLS_A_TURN {
+            if !self.may_pull() {
+                break;
+            }
+            let Some((number, peer)) = self.peers.begin(self.now) else {
+                break;
+            };
+            let begun = match PullTalk::new(alloc, closure, number, left) {
+                Ok(talk) => self.connect(rt, talk, peer),
+                Err(why) => Err(Ending::Fault(why)),
+            };
+            if let Err(ending) = begun {
+                self.peers.end(number, ending, 0, None);
+                log_event(rt, alloc, LogEvent::Pull(peer, 0, Duration::ZERO, ending));
+            }
         }
     }
 
-    fn connect<C: Closure, R: Net>(
-        &mut self,
-        rt: &R,
-        alloc: Global,
-        closure: &C,
-        peer: SocketAddr,
-        most_bytes: u64,
-    ) -> Result<(), Ending> {
-        let talk = PullTalk::new(alloc, closure, most_bytes)?;
+    fn connect<R: Net>(&mut self, rt: &R, talk: PullTalk, peer: SocketAddr) -> Result<(), Ending> {
         let stream = match TcpStream::connect(rt, peer) {
             Ok(stream) => stream,
             Err(_) => return Err(Ending::Fault(SyncError::Io)),
@@ -365,7 +366,7 @@ fn running_status<'a>(files: &KeptFiles, peers: &'a Peers) -> RunningStatus<'a> 
 // Counts what a session brought.
 fn note_pull<R: Clock>(rt: &R, peers: &mut Peers, conn: &LiveConnection, ending: Ending) {
     if let Talk::Pull(talk) = &conn.talk {
-        peers.end(ending, talk.taken(), unix_seconds(rt));
+        peers.end(talk.number(), ending, talk.taken(), unix_seconds(rt));
     }
 }
 
@@ -403,7 +404,7 @@ pub(crate) fn turn<C: Closure, R: Files<File = File> + Net + Clock + Eprint>(
 ) -> Result<bool, FileFault> {
     running.wait(rt, alloc, events);
     running.accept(rt, alloc);
-    running.begin_pull(rt, alloc, &held.closure, settings.most_bytes);
+    running.begin_pulls(rt, alloc, &held.closure, settings.most_bytes);
     running.read(rt, alloc, held);
     running.go_on(rt, alloc, held);
     running.commit(rt, alloc, held, settings.state)?;
