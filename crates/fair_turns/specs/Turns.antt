@@ -1,5 +1,5 @@
 -- Whose turn it is among the connections that wait.
-use Rattle.std.specs.Prelude.{◌≡◌, ◌<◌, ◌≤◌, ◌⊎◌, ℕ, Bool, IsTrue, true, false}
+use Rattle.std.specs.Prelude.{◌<◌, ◌≤◌, ◌⊎◌, ℕ, Bool, IsTrue, true, false}
 use Rattle.fair_turns.specs.declared.turns.Turns.{Turns}
 use Rattle.fair_turns.specs.declared.turns.Work.{Work}
 use Rattle.fair_turns.specs.declared.turns.Work.TheVariants.{Change, Long, Short}

@@ -1,4 +1,5 @@
 //! The connections that there are, and how many there may be.
+use crate::ending::Ending;
 use crate::held_state::HeldState;
 use crate::live_connection::{BYTES_A_TURN, LiveConnection};
 use crate::local_talk::Surroundings;
@@ -30,6 +31,18 @@ const FIRST_SERIAL: usize = 2;
 /// For how long one turn carries out work of one kind, beyond what it began.
 const MILLIS_A_TURN: u64 = 4;
 
+/// Some of the connections.
+#[derive(Clone, Copy)]
+enum Group {
+    All,
+    Served,
+    /// Those of this machine that have a request, or a reply of a command.
+    Local,
+    /// Those of this machine whose request has not come whole.
+    Awaited,
+    Pulls,
+}
+
 /// The connections, and the buffer into which each reads.
 #[derive(Drop)]
 pub(crate) struct ConnectionTable {
@@ -49,10 +62,6 @@ impl ConnectionTable {
         })
     }
 
-    fn has_room(&self) -> bool {
-        self.connections.len() < MOST_CONNECTIONS
-    }
-
     /// Whether one more connection may come on which this is said.
     pub(crate) fn has_room_for(&self, talk: &Talk) -> bool {
         match talk {
@@ -60,6 +69,10 @@ impl ConnectionTable {
             Talk::Local(_) => self.has_room(),
             Talk::Pull(_) => self.has_pull_room(),
         }
+    }
+
+    fn has_room(&self) -> bool {
+        self.count(Group::All) < MOST_CONNECTIONS
     }
 
     /// Whether one more session may begin in which this replica asks.
@@ -71,21 +84,57 @@ impl ConnectionTable {
         self.has_room() && pulls.count() < MOST_PULLS
     }
 
-    fn served_count(&self) -> usize {
-        let served = self
-            .connections
-            .iter()
-            .filter(|conn| matches!(conn.talk, Talk::Served(_)));
-        served.count()
+    // How many there are of those that have not ended.
+    fn count(&self, group: Group) -> usize {
+        let live = self.connections.iter().filter(|conn| conn.ending.is_none());
+        live.filter(|conn| is_of(conn, group)).count()
     }
 
-    /// Whether one more connection of this machine may come.
-    pub(crate) fn has_local_room(&self) -> bool {
-        let local = self
-            .connections
-            .iter()
-            .filter(|conn| matches!(conn.talk, Talk::Local(_)));
-        local.count() < MOST_LOCAL
+    /// Where as many other replicas ask as there may, one of them gives way.
+    pub(crate) fn make_served_room(&mut self, now: Instant) {
+        if self.count(Group::Served) < MOST_SERVED {
+            return;
+        }
+        if let Some(serial) = self.first_to_go(Group::Served, now) {
+            for conn in &mut self.connections {
+                if conn.serial == serial {
+                    conn.ending = Some(Ending::GaveWay);
+                }
+            }
+        }
+    }
+
+    /// Where there are as many requests of this machine as there may be, one gives way that has not
+    /// come whole. Returns whether there is room for one more.
+    pub(crate) fn make_local_room(&mut self, alloc: Global, now: Instant) -> bool {
+        if self.count(Group::Local) < MOST_LOCAL {
+            return true;
+        }
+        let Some(serial) = self.first_to_go(Group::Awaited, now) else {
+            return false;
+        };
+        for conn in &mut self.connections {
+            if let Talk::Local(talk) = &mut conn.talk
+                && conn.serial == serial
+            {
+                talk.give_way(alloc);
+            }
+        }
+        true
+    }
+
+    fn first_to_go(&self, group: Group, now: Instant) -> Option<usize> {
+        let mut first: Option<Candidate> = None;
+        for conn in &self.connections {
+            if conn.ending.is_none() && is_of(conn, group) {
+                let candidate = conn.candidate(now);
+                first = match first {
+                    Some(other) => Some(first_to_go(other, candidate)),
+                    None => Some(candidate),
+                };
+            }
+        }
+        Some(first?.serial)
     }
 
     /// Takes the connection in. One that the poll cannot watch is closed.
@@ -120,7 +169,7 @@ impl ConnectionTable {
         self.connections.iter().map(|conn| time_of(conn, now)).min()
     }
 
-    /// Keeps what came on each connection.
+    /// Keeps what came on each connection, of requests as much as there is room for.
     pub(crate) fn read(&mut self, alloc: Global, now: Instant) {
         for conn in &mut self.connections {
             conn.read(alloc, now, &mut self.buffer);
@@ -158,7 +207,7 @@ impl ConnectionTable {
             self.turns.note(work, serial);
             for conn in &mut self.connections {
                 if conn.serial == serial {
-                    conn.carry_out(alloc, held, around);
+                    conn.carry_out(alloc, held, &around);
                 }
             }
             if is_time_over(rt, &begun) {
@@ -238,6 +287,16 @@ impl ConnectionTable {
         for conn in &mut self.connections {
             conn.write(now);
         }
+    }
+}
+
+fn is_of(conn: &LiveConnection, group: Group) -> bool {
+    match (&conn.talk, group) {
+        (_, Group::All) => true,
+        (Talk::Served(_), Group::Served) | (Talk::Pull(_), Group::Pulls) => true,
+        (Talk::Local(talk), Group::Local) => talk.takes_place(),
+        (Talk::Local(talk), Group::Awaited) => talk.wants_bytes(),
+        _ => false,
     }
 }
 

@@ -20,7 +20,7 @@ pub(crate) enum LogEvent {
     Serve(Option<SocketAddr>, Duration, Ending),
     /// A connection of this machine has ended.
     Local(Duration, Ending),
-    /// There was no room for a connection.
+    /// There was no room for a connection, or one gave way to it.
     Refuse,
     /// A connection that came could not be taken.
     Accept,

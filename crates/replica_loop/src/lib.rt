@@ -6,7 +6,7 @@
 //! that each turn returns where the system's calls do; the rest is shown by runs of the program.
 //!
 //! `replica` begins and ends a replica, and `turn` is one round of the loop: what came is read, and
-//! a few milliseconds of what waits are carried out, in the order that `fair_turns` has; the changes go
+//! a few milliseconds of what waits are carried out, in the order that `fair_turns` has. Changes go
 //! to the journal, and only then they are shown to anyone; a long journal goes into the snapshot.
 //! `request_work` says which requests show much, and which may change what is held. `kept_files` has these files, by the calls of `state_files`. Connections come in at
 //! the `listeners`; a `socket_path` is that of one of them. `connection_table` has them,

@@ -17,6 +17,9 @@ pub(crate) const BYTES_A_TURN: usize = 65_536;
 /// How often a connection is read in one turn: what came is mostly followed by the end.
 const READS_A_TURN: usize = 2;
 
+/// How often one is written in one turn: a reply has three parts.
+const WRITES_A_TURN: usize = 3;
+
 /// For how many seconds nothing may move on a connection, and how old it may be.
 const MAX_IDLE_SECONDS: u64 = 30;
 
@@ -33,6 +36,8 @@ pub(crate) struct LiveConnection {
     pub(crate) serial: usize,
     /// When it came.
     pub(crate) begun: Instant,
+    // When it last asked something whole, or came.
+    asked: Instant,
     moved: Instant,
     // How many bytes moved, of both sides.
     moved_bytes: u64,
@@ -60,6 +65,7 @@ impl LiveConnection {
             peer,
             serial,
             begun: now,
+            asked: now,
             moved: now,
             moved_bytes: 0,
             can_read: is_connected,
@@ -129,8 +135,19 @@ impl LiveConnection {
         held: &mut HeldState<C>,
         around: &Surroundings<'_>,
     ) {
-        if let Err(ending) = self.talk.carry_out(alloc, held, around) {
-            self.ending = Some(ending);
+        match self.talk.carry_out(alloc, held, around) {
+            Ok(()) if self.talk.output().is_empty() => {}
+            Ok(()) => self.asked = around.now,
+            Err(ending) => self.ending = Some(ending),
+        }
+    }
+
+    /// The connection as one that may give way.
+    pub(crate) fn candidate(&self, now: Instant) -> Candidate {
+        let quiet = now.duration_since(self.asked).as_millis();
+        Candidate {
+            serial: self.serial,
+            quiet: u64::try_from(quiet).unwrap_or(u64::MAX),
         }
     }
 
@@ -193,7 +210,7 @@ impl LiveConnection {
     pub(crate) fn write(&mut self, now: Instant) {
         if self.ending.is_none() && self.can_write {
             self.find_connected();
-            self.write_piece(now);
+            self.write_pieces(now);
         }
         if self.ending.is_none() {
             self.ending = self.talk.ending();
@@ -214,20 +231,34 @@ impl LiveConnection {
         }
     }
 
-    fn write_piece(&mut self, now: Instant) {
+    // A reply has several parts: mostly all of them are written at once.
+    fn write_pieces(&mut self, now: Instant) {
+        let mut left = BYTES_A_TURN;
+        for _ in 0..WRITES_A_TURN {
+            if left == 0 || !self.can_write || !self.is_connected {
+                break;
+            }
+            left = left.saturating_sub(self.write_piece(now, left));
+        }
+    }
+
+    // Returns how many bytes were written.
+    fn write_piece(&mut self, now: Instant, most: usize) -> usize {
         let output = self.talk.output();
-        let count = output.len().min(BYTES_A_TURN);
-        if count == 0 || !self.is_connected {
-            return;
+        let count = output.len().min(most);
+        if count == 0 {
+            return 0;
         }
         match self.socket.write(&output[..count]) {
             Progress::Bytes(count) => {
                 self.note_moved(count, now);
                 self.talk.wrote(count);
+                return count;
             }
             Progress::Blocked => self.can_write = false,
             Progress::Interrupted => {}
             Progress::Failed => self.ending = Some(Ending::Fault(SyncError::Io)),
         }
+        0
     }
 }

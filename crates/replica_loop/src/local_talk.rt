@@ -7,6 +7,7 @@ use fair_turns::Work;
 use local_answers::{Reply, RequestFault, RequestParts, Sending, answer_request};
 use status_view::RunningStatus;
 use std::alloc::Global;
+use std::time::Instant;
 
 /// What the replica says of itself.
 #[derive(Clone, Copy)]

@@ -16,7 +16,7 @@ pub(crate) struct Peers {
 }
 
 // A peer, and its next session.
-#[derive(Clone, Copy, Drop)]
+#[derive(Clone, Copy)]
 struct PeerPlace {
     address: SocketAddr,
     is_asked: bool,

@@ -13,7 +13,7 @@ pub struct Settings<'a, 'p> {
     pub listen: Option<SocketAddr>,
     /// From which replicas this one pulls.
     pub peers: &'p [SocketAddr],
-    /// How long after a round of pulls began the next one begins.
+    /// How long after a pull began the next one from that peer begins.
     pub every: Duration,
     /// How many bytes the state's files and what a session brings may have together.
     pub most_bytes: u64,

@@ -73,7 +73,7 @@ impl RunningReplica {
         settings: &Settings<'_, '_>,
     ) -> Result<RunningReplica, Exit> {
         let now = at_step(Step::Socket, Instant::now(rt))?;
-        let listeners = Listeners::open(rt, settings)?;
+        let listeners = Listeners::open(rt, settings, now)?;
         let journal = beginning.begin_journal(rt, alloc, closure, settings.state);
         Ok(RunningReplica {
             listeners,
@@ -161,9 +161,13 @@ impl RunningReplica {
         }
     }
 
-    fn talk_of(&self, alloc: Global, socket: &Socket) -> Talk {
+    // What is said on it. Where there are too many of its kind, one of them gives way.
+    fn talk_of(&mut self, alloc: Global, socket: &Socket) -> Talk {
         match socket {
-            Socket::Tcp(_) => Talk::Served(ServedTalk::new(alloc)),
+            Socket::Tcp(_) => {
+                self.table.make_served_room(self.now);
+                Talk::Served(ServedTalk::new(alloc))
+            }
             Socket::Unix(_) => {
                 if self.table.has_local_room() {
                     Talk::Local(LocalTalk::new(alloc))
@@ -250,8 +254,8 @@ impl RunningReplica {
         }
     }
 
-    /// Keeps what came on each connection, and answers what takes little. A request of this machine
-    /// is shown what is on the disk, so it does not wait for the changes of this turn.
+    /// Keeps what came on each connection, and answers what takes little. That is shown at once: it
+    /// is what is on the disk, and does not wait for the changes of this turn.
     pub(crate) fn read<C: Closure, R: Clock>(
         &mut self,
         rt: &R,
@@ -261,7 +265,7 @@ impl RunningReplica {
         self.table.read(alloc, self.now);
         self.carry_out(rt, alloc, held, Work::Short);
         if held.fresh.is_empty() && !self.table.has_changes() {
-            self.table.write(self.now);
+            self.write();
         }
     }
 
@@ -385,6 +389,9 @@ fn event_of(
     is_verbose: bool,
 ) -> Option<LogEvent> {
     let is_said = is_verbose || ending != Ending::Well;
+    if ending == Ending::GaveWay {
+        return Some(LogEvent::Refuse);
+    }
     match &conn.talk {
         Talk::Pull(talk) => Some(LogEvent::Pull(conn.peer?, talk.taken(), time, ending)),
         Talk::Served(_) if is_said => Some(LogEvent::Serve(conn.peer, time, ending)),
@@ -406,6 +413,7 @@ pub(crate) fn turn<C: Closure, R: Files<File = File> + Net + Clock + Eprint>(
     running.accept(rt, alloc);
     running.begin_pulls(rt, alloc, &held.closure, settings.most_bytes);
     running.read(rt, alloc, held);
+    running.end_connections(rt, alloc, settings.is_verbose);
     running.go_on(rt, alloc, held);
     running.commit(rt, alloc, held, settings.state)?;
     running.write();
