@@ -6,7 +6,7 @@ use crate::local_talk::Surroundings;
 use crate::socket::Socket;
 use crate::talk::Talk;
 use closure_core::Closure;
-use fair_turns::{Turns, Work, comes_first};
+use fair_turns::{ByteRoom, Candidate, Turns, Work, comes_first, first_to_go};
 use fedbundle::FileFault;
 use mio::Poll;
 use state_files::Journal;
@@ -50,22 +50,27 @@ pub(crate) struct ConnectionTable {
     serial: usize,
     buffer: Vec<u8>,
     turns: Turns,
+    most_request_bytes: u64,
 }
 
 impl ConnectionTable {
-    pub(crate) fn new(alloc: Global) -> Result<ConnectionTable, AllocError> {
+    pub(crate) fn new(
+        alloc: Global,
+        most_request_bytes: u64,
+    ) -> Result<ConnectionTable, AllocError> {
         Ok(ConnectionTable {
             connections: Vec::with_capacity(alloc, MOST_CONNECTIONS)?,
             serial: FIRST_SERIAL,
             buffer: Vec::from_elem(alloc, 0, BYTES_A_TURN)?,
             turns: Turns::new(),
+            most_request_bytes,
         })
     }
 
     /// Whether one more connection may come on which this is said.
     pub(crate) fn has_room_for(&self, talk: &Talk) -> bool {
         match talk {
-            Talk::Served(_) => self.has_room() && self.served_count() < MOST_SERVED,
+            Talk::Served(_) => self.has_room() && self.count(Group::Served) < MOST_SERVED,
             Talk::Local(_) => self.has_room(),
             Talk::Pull(_) => self.has_pull_room(),
         }
@@ -77,11 +82,7 @@ impl ConnectionTable {
 
     /// Whether one more session may begin in which this replica asks.
     pub(crate) fn has_pull_room(&self) -> bool {
-        let pulls = self
-            .connections
-            .iter()
-            .filter(|conn| matches!(conn.talk, Talk::Pull(_)));
-        self.has_room() && pulls.count() < MOST_PULLS
+        self.has_room() && self.count(Group::Pulls) < MOST_PULLS
     }
 
     // How many there are of those that have not ended.
@@ -171,9 +172,19 @@ impl ConnectionTable {
 
     /// Keeps what came on each connection, of requests as much as there is room for.
     pub(crate) fn read(&mut self, alloc: Global, now: Instant) {
+        let mut room = self.room();
         for conn in &mut self.connections {
-            conn.read(alloc, now, &mut self.buffer);
+            conn.read(alloc, now, &mut self.buffer, &mut room);
         }
+    }
+
+    /// The room for requests of this machine and their replies.
+    pub(crate) fn room(&self) -> ByteRoom {
+        let mut held: u64 = 0;
+        for conn in &self.connections {
+            held = held.saturating_add(conn.talk.held_bytes());
+        }
+        ByteRoom::new(self.most_request_bytes, held)
     }
 
     /// Which work comes after the short one, where some waits.
@@ -205,6 +216,8 @@ impl ConnectionTable {
                 break;
             };
             self.turns.note(work, serial);
+            let room = self.room();
+            let around = Surroundings { room, ..*around };
             for conn in &mut self.connections {
                 if conn.serial == serial {
                     conn.carry_out(alloc, held, &around);

@@ -5,7 +5,7 @@ use crate::local_talk::Surroundings;
 use crate::socket::{Progress, Socket};
 use crate::talk::Talk;
 use closure_core::Closure;
-use fair_turns::{Work, most_seconds};
+use fair_turns::{ByteRoom, Candidate, Work, most_seconds};
 use replica_sync::SyncError;
 use std::alloc::Global;
 use std::net::SocketAddr;
@@ -119,11 +119,17 @@ impl LiveConnection {
     }
 
     /// Keeps what came, at most what one turn allows.
-    pub(crate) fn read(&mut self, alloc: Global, now: Instant, buffer: &mut [u8]) {
+    pub(crate) fn read(
+        &mut self,
+        alloc: Global,
+        now: Instant,
+        buffer: &mut [u8],
+        room: &mut ByteRoom,
+    ) {
         if self.ending.is_some() || !self.is_connected {
             return;
         }
-        if let Err(ending) = self.take_pieces(alloc, now, buffer) {
+        if let Err(ending) = self.take_pieces(alloc, now, buffer, room) {
             self.ending = Some(ending);
         }
     }
@@ -156,14 +162,15 @@ impl LiveConnection {
         alloc: Global,
         now: Instant,
         buffer: &mut [u8],
+        room: &mut ByteRoom,
     ) -> Result<(), Ending> {
         let mut left = buffer.len();
         for _ in 0..READS_A_TURN {
             if left == 0 || !self.can_read || !self.talk.wants_bytes() {
                 break;
             }
-            let room = left.min(buffer.len());
-            let count = self.take_piece(alloc, now, &mut buffer[..room])?;
+            let most = left.min(buffer.len());
+            let count = self.take_piece(alloc, now, &mut buffer[..most], room)?;
             left = left.saturating_sub(count);
         }
         Ok(())
@@ -175,6 +182,7 @@ impl LiveConnection {
         alloc: Global,
         now: Instant,
         buffer: &mut [u8],
+        room: &mut ByteRoom,
     ) -> Result<usize, Ending> {
         match self.socket.read(buffer) {
             Progress::Bytes(0) => {
@@ -184,7 +192,7 @@ impl LiveConnection {
             Progress::Bytes(count) => {
                 let count = count.min(buffer.len());
                 self.note_moved(count, now);
-                self.talk.take(alloc, &buffer[..count])?;
+                self.talk.take(alloc, &buffer[..count], room)?;
                 Ok(count)
             }
             Progress::Blocked => {

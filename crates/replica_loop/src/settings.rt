@@ -17,6 +17,8 @@ pub struct Settings<'a, 'p> {
     pub every: Duration,
     /// How many bytes the state's files and what a session brings may have together.
     pub most_bytes: u64,
+    /// How many bytes requests of this machine and their replies may have together.
+    pub most_request_bytes: u64,
     /// Whether it may begin without a state file.
     pub is_new: bool,
     /// Whether each connection is reported that has ended, and not only those at fault.

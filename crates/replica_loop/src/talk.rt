@@ -6,7 +6,7 @@ use crate::local_talk::{LocalTalk, Surroundings};
 use crate::pull_talk::PullTalk;
 use crate::served_talk::ServedTalk;
 use closure_core::Closure;
-use fair_turns::Work;
+use fair_turns::{ByteRoom, Work};
 use std::alloc::{AllocError, Global};
 
 /// What is said on a connection. Bytes that come are given to it, and what is to be written is
@@ -41,11 +41,24 @@ impl Talk {
         }
     }
 
-    /// Keeps bytes that came.
-    pub(crate) fn take(&mut self, alloc: Global, piece: &[u8]) -> Result<(), AllocError> {
+    /// How many bytes are held of a request of this machine, or of its reply.
+    pub(crate) fn held_bytes(&self) -> u64 {
+        match self {
+            Talk::Local(talk) => talk.held_bytes(),
+            Talk::Served(_) | Talk::Pull(_) => 0,
+        }
+    }
+
+    /// Keeps bytes that came. Those of requests need room.
+    pub(crate) fn take(
+        &mut self,
+        alloc: Global,
+        piece: &[u8],
+        room: &mut ByteRoom,
+    ) -> Result<(), AllocError> {
         match self {
             Talk::Local(talk) => {
-                talk.take(alloc, piece);
+                talk.take(alloc, piece, room);
                 Ok(())
             }
             Talk::Served(talk) => talk.take(piece),

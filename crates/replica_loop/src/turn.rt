@@ -77,7 +77,7 @@ impl RunningReplica {
         let journal = beginning.begin_journal(rt, alloc, closure, settings.state);
         Ok(RunningReplica {
             listeners,
-            table: ConnectionTable::new(alloc)?,
+            table: ConnectionTable::new(alloc, settings.most_request_bytes)?,
             peers: Peers::new(alloc, settings.peers, settings.every, now)?,
             files: KeptFiles::new(lock, file_at_step(Step::Journal, journal)?),
             now,
@@ -169,7 +169,7 @@ impl RunningReplica {
                 Talk::Served(ServedTalk::new(alloc))
             }
             Socket::Unix(_) => {
-                if self.table.has_local_room() {
+                if self.table.make_local_room(alloc, self.now) {
                     Talk::Local(LocalTalk::new(alloc))
                 } else {
                     Talk::Local(LocalTalk::refused(alloc))
@@ -289,6 +289,8 @@ impl RunningReplica {
         work: Work,
     ) {
         let around = Surroundings {
+            now: self.now,
+            room: self.table.room(),
             running: running_status(&self.files, &self.peers),
         };
         self.table.carry_out(rt, alloc, held, &around, work);
