@@ -4,6 +4,7 @@
 //! for more than one of the others at a time. `kept_files` has what is on the disk.
 use crate::connection_table::ConnectionTable;
 use crate::ending::Ending;
+use crate::event_counts::EventCounts;
 use crate::event_log::{LogEvent, log_event};
 use crate::held_state::HeldState;
 use crate::kept_files::KeptFiles;
@@ -54,6 +55,7 @@ pub(crate) struct RunningReplica {
     table: ConnectionTable,
     peers: Peers,
     files: KeptFiles,
+    events: EventCounts,
     now: Instant,
     // When it ends, once it was asked to.
     ends_at: Option<Instant>,
@@ -80,6 +82,7 @@ impl RunningReplica {
             table: ConnectionTable::new(alloc, settings.most_request_bytes)?,
             peers: Peers::new(alloc, settings.peers, settings.every, now)?,
             files: KeptFiles::new(lock, file_at_step(Step::Journal, journal)?),
+            events: EventCounts::new(alloc),
             now,
             ends_at: None,
             has_reported: false,
@@ -92,7 +95,7 @@ impl RunningReplica {
         if let Err(error) = self.listeners.poll.poll(events, Some(wait)) {
             // A signal came, as where the process was stopped and goes on.
             if error.kind() != ErrorKind::Interrupted {
-                log_event(rt, alloc, LogEvent::Poll);
+                self.events.note(rt, alloc, LogEvent::Poll, self.now);
                 thread::sleep(rt, Duration::from_millis(PAUSE_MILLIS));
             }
         }
@@ -121,7 +124,9 @@ impl RunningReplica {
             Some(moment) => moment.duration_since(self.now),
             None => most,
         };
-        most.min(table).min(listeners).min(peers).min(end)
+        let events = self.events.time_left(self.now).unwrap_or(most);
+        let rest = listeners.min(peers).min(end).min(events);
+        most.min(table).min(rest)
     }
 
     fn may_pull(&self) -> bool {
@@ -202,7 +207,7 @@ impl RunningReplica {
 
     fn report_once<R: Eprint>(&mut self, rt: &R, alloc: Global, event: LogEvent) {
         if !self.has_reported {
-            log_event(rt, alloc, event);
+            self.events.note(rt, alloc, event, self.now);
             self.has_reported = true;
         }
     }
@@ -339,11 +344,17 @@ impl RunningReplica {
                 let time = self.now.duration_since(conn.begun);
                 note_pull(rt, &mut self.peers, conn, ending);
                 if let Some(event) = event_of(conn, ending, time, is_verbose) {
-                    log_event(rt, alloc, event);
+                    self.events.note(rt, alloc, event, self.now);
                 }
             }
         }
         self.table.remove_ended();
+        self.events.tell(rt, alloc, self.now);
+    }
+
+    /// Reports what was only counted.
+    pub(crate) fn tell_all<R: Eprint>(&mut self, rt: &R, alloc: Global) {
+        self.events.tell_all(rt, alloc);
     }
 
     /// Removes the socket's file, if it is still that of this replica.
