@@ -281,7 +281,7 @@ impl ConnectionTable {
         self.connections.iter().any(is_stop)
     }
 
-    /// Whether replies are still to be sent.
+    /// Whether replies are still to be made or sent.
     pub(crate) fn has_replies(&self) -> bool {
         self.connections.iter().any(has_reply)
     }
@@ -345,7 +345,9 @@ fn has_change(conn: &LiveConnection) -> bool {
 
 fn has_reply(conn: &LiveConnection) -> bool {
     match &conn.talk {
-        Talk::Local(talk) => conn.ending.is_none() && !talk.output().is_empty(),
+        Talk::Local(talk) => {
+            conn.ending.is_none() && (talk.work().is_some() || !talk.output().is_empty())
+        }
         _ => false,
     }
 }

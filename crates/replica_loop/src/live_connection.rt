@@ -141,6 +141,8 @@ impl LiveConnection {
         held: &mut HeldState<C>,
         around: &Surroundings<'_>,
     ) {
+        // It was this replica that kept it waiting.
+        self.moved = around.now;
         match self.talk.carry_out(alloc, held, around) {
             Ok(()) if self.talk.output().is_empty() => {}
             Ok(()) => self.asked = around.now,
@@ -223,7 +225,7 @@ impl LiveConnection {
         if self.ending.is_none() {
             self.ending = self.talk.ending();
         }
-        if self.ending.is_none() && self.time_left(now).is_zero() {
+        if self.work().is_none() && self.ending.is_none() && self.time_left(now).is_zero() {
             self.ending = Some(Ending::Fault(SyncError::Io));
         }
     }
