@@ -12,7 +12,7 @@ _fedbundle() {
             COMPREPLY=($(compgen -f -- "$word"))
             return
             ;;
-        --allow|--domain|--endpoint|--every|--format|--key|--listen|--most-bytes|--now|--peer|--peers|--sessions|--wait) return ;;
+        --allow|--domain|--endpoint|--every|--format|--key|--listen|--most-bytes|--most-request-bytes|--now|--peer|--peers|--sessions|--wait) return ;;
     esac
     case ${COMP_WORDS[1]} in
         canon) words='--domain --format --help' ;;
@@ -32,7 +32,7 @@ _fedbundle() {
         distrust) words='--config --state --domain --key --dry-run --wait --verbose --at --help' ;;
         serve) words='--config --state --listen --sessions --verbose --help' ;;
         pull) words='--config --state --peer --wait --most-bytes --verbose --help' ;;
-        replica) words='--config --state --socket --listen --peers --every --most-bytes --new --verbose --help' ;;
+        replica) words='--config --state --socket --listen --peers --every --most-bytes --most-request-bytes --new --verbose --help' ;;
         stop) words='--wait --at --help' ;;
         help) words='canon config report list diff graph status bundle explain observe merge migrate reseed polls distrust serve pull replica stop help' ;;
         *) return ;;

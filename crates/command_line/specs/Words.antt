@@ -26,7 +26,7 @@ use Rattle.command_line.specs.declared.command_name.OptionName.TheVariants.{At, 
 use Rattle.command_line.specs.declared.command_name.OptionName.TheVariants.{Allow, DryRun, Verbose}
 use Rattle.command_line.specs.declared.command_name.OptionName.TheVariants.{OptionalDomain, Format}
 use Rattle.command_line.specs.declared.command_name.OptionName.TheVariants.{Short, Socket, Every}
-use Rattle.command_line.specs.declared.command_name.OptionName.TheVariants.{New}
+use Rattle.command_line.specs.declared.command_name.OptionName.TheVariants.{New, MostRequestBytes}
 use Rattle.command_line.specs.declared.command_name.OptionName.TheVariants.{OptionalListen, Peers}
 use Rattle.command_line.specs.declared.command_name.OptionName.TheVariants.{FileFormat}
 
@@ -57,6 +57,7 @@ option_text Socket = codes "socket"
 option_text OptionalListen = codes "listen"
 option_text Peers = codes "peers"
 option_text Every = codes "every"
+option_text MostRequestBytes = codes "most-request-bytes"
 option_text New = codes "new"
 option_text FileFormat = codes "format"
 
@@ -82,6 +83,7 @@ may_be_left_out Format = true
 may_be_left_out OptionalListen = true
 may_be_left_out Peers = true
 may_be_left_out Every = true
+may_be_left_out MostRequestBytes = true
 may_be_left_out FileFormat = true
 may_be_left_out option = false
 
@@ -137,7 +139,7 @@ options_of command.Distrust = Config ∷ State ∷ Domain ∷ Key ∷ DryRun ∷
 options_of command.Serve = Config ∷ State ∷ Listen ∷ Sessions ∷ Verbose ∷ []
 options_of command.Pull = Config ∷ State ∷ Peer ∷ Wait ∷ MostBytes ∷ Verbose ∷ []
 options_of command.Replica = Config ∷ State ∷ Socket ∷ OptionalListen ∷ Peers ∷ Every
-    ∷ MostBytes ∷ New ∷ Verbose ∷ []
+    ∷ MostBytes ∷ MostRequestBytes ∷ New ∷ Verbose ∷ []
 options_of command.Stop = Wait ∷ At ∷ []
 
 abbrev pub all_names : List CommandName

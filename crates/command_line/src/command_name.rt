@@ -36,6 +36,7 @@ pub enum OptionName {
     OptionalListen,
     Peers,
     Every,
+    MostRequestBytes,
     New,
     /// The format where a running replica prints one format alone.
     FileFormat,
@@ -139,6 +140,7 @@ impl OptionName {
             OptionName::OptionalListen => "listen",
             OptionName::Peers => "peers",
             OptionName::Every => "every",
+            OptionName::MostRequestBytes => "most-request-bytes",
             OptionName::New => "new",
             OptionName::FileFormat => "format",
         }
@@ -175,6 +177,7 @@ impl OptionName {
                 | OptionName::OptionalListen
                 | OptionName::Peers
                 | OptionName::Every
+                | OptionName::MostRequestBytes
                 | OptionName::FileFormat
         )
     }
@@ -330,7 +333,7 @@ static PULL: [OptionName; 6] = [
     OptionName::Verbose,
 ];
 
-static REPLICA: [OptionName; 9] = [
+static REPLICA: [OptionName; 10] = [
     OptionName::Config,
     OptionName::State,
     OptionName::Socket,
@@ -338,6 +341,7 @@ static REPLICA: [OptionName; 9] = [
     OptionName::Peers,
     OptionName::Every,
     OptionName::MostBytes,
+    OptionName::MostRequestBytes,
     OptionName::New,
     OptionName::Verbose,
 ];

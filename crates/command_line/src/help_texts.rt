@@ -288,9 +288,11 @@ they hold in memory, and the lock of FILE.lock, until `stop` ends it.
 
 Answers requests of this machine on the socket, whose mode is 0600: the commands with --at.
 Answers other replicas at the address of --listen, as `serve` does, and pulls from each of
---peers in turn, as `pull` does. At most 128 connections are open at once, 64 of them of
-this machine. One on which nothing moves for 30 seconds, or which is older than 600
-seconds, is closed.
+--peers, as `pull` does. At most 144 connections are open at once: 64 requests of this
+machine, 48 on which other replicas ask, and one with each peer. One on which nothing moves
+for 30 seconds, or which is older than 600 seconds, is closed, and so is a pull in which
+fewer than 1,000 bytes move in a second. Where there are too many, the one that has asked
+nothing whole for the longest is closed.
 
 Each change is appended to FILE.journal and put on the disk before it is acknowledged. The
 journal is folded into the state file at the start, and when it has more than 8,388,608
@@ -342,6 +344,7 @@ impl OptionName {
             OptionName::OptionalListen => "ADDRESS",
             OptionName::Peers => "ADDRESS,..",
             OptionName::Every => "SECONDS",
+            OptionName::MostRequestBytes => "BYTES",
             OptionName::New => "",
             OptionName::FileFormat => "FORMAT",
         }
@@ -385,7 +388,10 @@ impl OptionName {
             OptionName::Peers =>
                 "The addresses of at most 16 replicas to pull from, with commas between them",
             OptionName::Every =>
-                "How long after a round of pulls the next one begins, from 1 to 86400 seconds [60]",
+                "How long after a pull began the next one from that peer begins, from 1 to 86400 \
+                seconds [60]",
+            OptionName::MostRequestBytes =>
+                "How many bytes requests and their replies may have together [536870912]",
             OptionName::New => "Begins without a state file where there is none",
             OptionName::FileFormat => "The format of what is printed: text, or json",
         }
@@ -510,7 +516,7 @@ impl CommandName {
             CommandName::Replica => {
                 "fedbundle replica --config <FILE> --state <FILE> --socket <PATH> \
                 [--listen <ADDRESS>] [--peers <ADDRESS,..>] [--every <SECONDS>] \
-                [--most-bytes <BYTES>] [--new] [--verbose]"
+                [--most-bytes <BYTES>] [--most-request-bytes <BYTES>] [--new] [--verbose]"
             }
             CommandName::Stop => "fedbundle stop --at <PATH> [--wait <SECONDS>]",
         }

@@ -17,7 +17,7 @@ pub enum RequestFault {
     NoWords,
     /// The line of words is no JSON array of texts.
     BadWords,
-    /// 64 local connections are open.
+    /// 64 local connections are open, or there is no room for more bytes of requests and replies.
     TooManyRequests,
     /// Memory ran out.
     NoMemory,

@@ -1,28 +1,47 @@
 //! The connections that there are, and how many there may be.
+use crate::ending::Ending;
 use crate::held_state::HeldState;
 use crate::live_connection::{BYTES_A_TURN, LiveConnection};
 use crate::local_talk::Surroundings;
 use crate::socket::Socket;
 use crate::talk::Talk;
 use closure_core::Closure;
+use fair_turns::{ByteRoom, Candidate, Turns, Work, comes_first, first_to_go};
 use fedbundle::FileFault;
 use mio::Poll;
 use state_files::Journal;
 use std::alloc::{AllocError, Global};
+use std::io;
 use std::net::SocketAddr;
-use std::time::{Duration, Instant};
+use std::time::{Clock, Duration, Instant};
 
-/// The most connections at once, and the most of them that are of this machine.
-const MOST_CONNECTIONS: usize = 128;
+/// The most connections at once: those of this machine, those on which other replicas ask, one with
+/// each peer, and some on which is only replied that there are too many.
+const MOST_CONNECTIONS: usize = 144;
 
 const MOST_LOCAL: usize = 64;
 
-/// The most on which other replicas ask: however many come, there is room for this machine, for a
-/// reply that there are too many of that, and for a pull.
 const MOST_SERVED: usize = 48;
+
+const MOST_PULLS: usize = 16;
 
 /// The number of the first connection; those below it are of the listeners.
 const FIRST_SERIAL: usize = 2;
+
+/// For how long one turn carries out work of one kind, beyond what it began.
+const MILLIS_A_TURN: u64 = 4;
+
+/// Some of the connections.
+#[derive(Clone, Copy)]
+enum Group {
+    All,
+    Served,
+    /// Those of this machine that have a request, or a reply of a command.
+    Local,
+    /// Those of this machine whose request has not come whole.
+    Awaited,
+    Pulls,
+}
 
 /// The connections, and the buffer into which each reads.
 #[derive(Drop)]
@@ -30,45 +49,93 @@ pub(crate) struct ConnectionTable {
     connections: Vec<LiveConnection>,
     serial: usize,
     buffer: Vec<u8>,
+    turns: Turns,
+    most_request_bytes: u64,
 }
 
 impl ConnectionTable {
-    pub(crate) fn new(alloc: Global) -> Result<ConnectionTable, AllocError> {
+    pub(crate) fn new(
+        alloc: Global,
+        most_request_bytes: u64,
+    ) -> Result<ConnectionTable, AllocError> {
         Ok(ConnectionTable {
             connections: Vec::with_capacity(alloc, MOST_CONNECTIONS)?,
             serial: FIRST_SERIAL,
             buffer: Vec::from_elem(alloc, 0, BYTES_A_TURN)?,
+            turns: Turns::new(),
+            most_request_bytes,
         })
-    }
-
-    /// Whether one more connection may come.
-    pub(crate) fn has_room(&self) -> bool {
-        self.connections.len() < MOST_CONNECTIONS
     }
 
     /// Whether one more connection may come on which this is said.
     pub(crate) fn has_room_for(&self, talk: &Talk) -> bool {
         match talk {
-            Talk::Served(_) => self.has_room() && self.served_count() < MOST_SERVED,
-            Talk::Local(_) | Talk::Pull(_) => self.has_room(),
+            Talk::Served(_) => self.has_room() && self.count(Group::Served) < MOST_SERVED,
+            Talk::Local(_) => self.has_room(),
+            Talk::Pull(_) => self.has_pull_room(),
         }
     }
 
-    fn served_count(&self) -> usize {
-        let served = self
-            .connections
-            .iter()
-            .filter(|conn| matches!(conn.talk, Talk::Served(_)));
-        served.count()
+    fn has_room(&self) -> bool {
+        self.count(Group::All) < MOST_CONNECTIONS
     }
 
-    /// Whether one more connection of this machine may come.
-    pub(crate) fn has_local_room(&self) -> bool {
-        let local = self
-            .connections
-            .iter()
-            .filter(|conn| matches!(conn.talk, Talk::Local(_)));
-        local.count() < MOST_LOCAL
+    /// Whether one more session may begin in which this replica asks.
+    pub(crate) fn has_pull_room(&self) -> bool {
+        self.has_room() && self.count(Group::Pulls) < MOST_PULLS
+    }
+
+    // How many there are of those that have not ended.
+    fn count(&self, group: Group) -> usize {
+        let live = self.connections.iter().filter(|conn| conn.ending.is_none());
+        live.filter(|conn| is_of(conn, group)).count()
+    }
+
+    /// Where as many other replicas ask as there may, one of them gives way.
+    pub(crate) fn make_served_room(&mut self, now: Instant) {
+        if self.count(Group::Served) < MOST_SERVED {
+            return;
+        }
+        if let Some(serial) = self.first_to_go(Group::Served, now) {
+            for conn in &mut self.connections {
+                if conn.serial == serial {
+                    conn.ending = Some(Ending::GaveWay);
+                }
+            }
+        }
+    }
+
+    /// Where there are as many requests of this machine as there may be, one gives way that has not
+    /// come whole. Returns whether there is room for one more.
+    pub(crate) fn make_local_room(&mut self, alloc: Global, now: Instant) -> bool {
+        if self.count(Group::Local) < MOST_LOCAL {
+            return true;
+        }
+        let Some(serial) = self.first_to_go(Group::Awaited, now) else {
+            return false;
+        };
+        for conn in &mut self.connections {
+            if let Talk::Local(talk) = &mut conn.talk
+                && conn.serial == serial
+            {
+                talk.give_way(alloc);
+            }
+        }
+        true
+    }
+
+    fn first_to_go(&self, group: Group, now: Instant) -> Option<usize> {
+        let mut first: Option<Candidate> = None;
+        for conn in &self.connections {
+            if conn.ending.is_none() && is_of(conn, group) {
+                let candidate = conn.candidate(now);
+                first = match first {
+                    Some(other) => Some(first_to_go(other, candidate)),
+                    None => Some(candidate),
+                };
+            }
+        }
+        Some(first?.serial)
     }
 
     /// Takes the connection in. One that the poll cannot watch is closed.
@@ -103,16 +170,79 @@ impl ConnectionTable {
         self.connections.iter().map(|conn| time_of(conn, now)).min()
     }
 
-    /// Takes what came on each connection.
-    pub(crate) fn read<C: Closure>(
+    /// Keeps what came on each connection, of requests as much as there is room for.
+    pub(crate) fn read(&mut self, alloc: Global, now: Instant) {
+        let mut room = self.room();
+        for conn in &mut self.connections {
+            conn.read(alloc, now, &mut self.buffer, &mut room);
+        }
+    }
+
+    /// The room for requests of this machine and their replies.
+    pub(crate) fn room(&self) -> ByteRoom {
+        let mut held: u64 = 0;
+        for conn in &self.connections {
+            held = held.saturating_add(conn.talk.held_bytes());
+        }
+        ByteRoom::new(self.most_request_bytes, held)
+    }
+
+    /// Which work comes after the short one, where some waits.
+    pub(crate) fn work_after_short(&mut self) -> Option<Work> {
+        let has_long = self.has_work(Work::Long);
+        let has_change = self.has_work(Work::Change);
+        self.turns.after_short(has_long, has_change)
+    }
+
+    fn has_work(&self, work: Work) -> bool {
+        self.connections
+            .iter()
+            .any(|conn| conn.work() == Some(work))
+    }
+
+    /// Carries out what waits, one connection after another, until the time of one turn is over.
+    /// One always has its turn.
+    pub(crate) fn carry_out<C: Closure, R: Clock>(
         &mut self,
+        rt: &R,
         alloc: Global,
         held: &mut HeldState<C>,
         around: &Surroundings<'_>,
+        work: Work,
     ) {
-        for conn in &mut self.connections {
-            conn.read(alloc, held, around, &mut self.buffer);
+        let begun = Instant::now(rt);
+        for _ in 0..MOST_CONNECTIONS {
+            let Some(serial) = self.next_turn(work) else {
+                break;
+            };
+            self.turns.note(work, serial);
+            let room = self.room();
+            let around = Surroundings { room, ..*around };
+            for conn in &mut self.connections {
+                if conn.serial == serial {
+                    conn.carry_out(alloc, held, &around);
+                }
+            }
+            if is_time_over(rt, &begun) {
+                break;
+            }
         }
+    }
+
+    // The connection whose turn it is.
+    fn next_turn(&self, work: Work) -> Option<usize> {
+        let last = self.turns.last(work);
+        let mut next: Option<usize> = None;
+        for conn in &self.connections {
+            let is_first = match next {
+                Some(other) => comes_first(conn.serial, other, last),
+                None => true,
+            };
+            if is_first && conn.work() == Some(work) {
+                next = Some(conn.serial);
+            }
+        }
+        next
     }
 
     /// Appends to the journal what requests have changed.
@@ -151,7 +281,7 @@ impl ConnectionTable {
         self.connections.iter().any(is_stop)
     }
 
-    /// Whether replies are still to be sent.
+    /// Whether replies are still to be made or sent.
     pub(crate) fn has_replies(&self) -> bool {
         self.connections.iter().any(has_reply)
     }
@@ -170,6 +300,24 @@ impl ConnectionTable {
         for conn in &mut self.connections {
             conn.write(now);
         }
+    }
+}
+
+fn is_of(conn: &LiveConnection, group: Group) -> bool {
+    match (&conn.talk, group) {
+        (_, Group::All) => true,
+        (Talk::Served(_), Group::Served) | (Talk::Pull(_), Group::Pulls) => true,
+        (Talk::Local(talk), Group::Local) => talk.takes_place(),
+        (Talk::Local(talk), Group::Awaited) => talk.wants_bytes(),
+        _ => false,
+    }
+}
+
+// Whether the time of one turn is over. Where the clock fails it is.
+fn is_time_over<R: Clock>(rt: &R, begun: &io::Result<Instant>) -> bool {
+    match (begun, Instant::now(rt)) {
+        (Ok(begun), Ok(now)) => now.duration_since(*begun) >= Duration::from_millis(MILLIS_A_TURN),
+        _ => true,
     }
 }
 
@@ -197,7 +345,9 @@ fn has_change(conn: &LiveConnection) -> bool {
 
 fn has_reply(conn: &LiveConnection) -> bool {
     match &conn.talk {
-        Talk::Local(talk) => conn.ending.is_none() && !talk.output().is_empty(),
+        Talk::Local(talk) => {
+            conn.ending.is_none() && (talk.work().is_some() || !talk.output().is_empty())
+        }
         _ => false,
     }
 }

@@ -12,6 +12,8 @@ pub(crate) enum Ending {
     Fault(SyncError),
     /// The other side sent more than the limit says.
     TooManyBytes,
+    /// It gave way to a later one.
+    GaveWay,
 }
 
 impl Ending {
@@ -21,6 +23,7 @@ impl Ending {
             Ending::Well => None,
             Ending::Fault(why) => Some(PeerFault::Session(why)),
             Ending::TooManyBytes => Some(PeerFault::TooManyBytes),
+            Ending::GaveWay => Some(PeerFault::Session(SyncError::Io)),
         }
     }
 }

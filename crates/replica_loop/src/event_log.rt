@@ -1,5 +1,5 @@
 //! Events on standard error: a line for each, pairs of a word and a value in a fixed order. No byte
-//! that another side chose stands in one.
+//! that another side chose stands in one. `event_counts` says where one line stands for several.
 use crate::ending::Ending;
 use replica_sync::SyncError;
 use state_files::LostFile;
@@ -20,7 +20,7 @@ pub(crate) enum LogEvent {
     Serve(Option<SocketAddr>, Duration, Ending),
     /// A connection of this machine has ended.
     Local(Duration, Ending),
-    /// There was no room for a connection.
+    /// There was no room for a connection, or one gave way to it.
     Refuse,
     /// A connection that came could not be taken.
     Accept,
@@ -40,6 +40,38 @@ pub(crate) enum LogEvent {
 pub(crate) fn log_event<R: Eprint>(rt: &R, alloc: Global, event: LogEvent) {
     if let Ok(line) = format!(in alloc; "{event}\n") {
         let _ = rt.eprint(line);
+    }
+}
+
+/// Writes one line that stands for so many events of a kind, of which this is the last.
+pub(crate) fn log_times<R: Eprint>(rt: &R, alloc: Global, event: LogEvent, times: u64) {
+    if times < 2 {
+        log_event(rt, alloc, event);
+    } else if let Ok(line) = format!(in alloc; "{event} times={times}\n") {
+        let _ = rt.eprint(line);
+    }
+}
+
+impl LogEvent {
+    /// Whether one line may stand for both: they are of one kind, and of those that anyone who
+    /// connects can make as often as he likes.
+    pub(crate) fn is_counted_with(&self, other: &LogEvent) -> bool {
+        match (self, other) {
+            (LogEvent::Serve(_, _, one), LogEvent::Serve(_, _, two)) => have_one_code(*one, *two),
+            (LogEvent::Local(_, one), LogEvent::Local(_, two)) => have_one_code(*one, *two),
+            (LogEvent::Refuse, LogEvent::Refuse) => true,
+            (LogEvent::Accept, LogEvent::Accept) => true,
+            (LogEvent::Poll, LogEvent::Poll) => true,
+            _ => false,
+        }
+    }
+}
+
+// Whether both failed, and their lines have the same fault.
+fn have_one_code(one: Ending, two: Ending) -> bool {
+    match (one.fault(), two.fault()) {
+        (Some(one), Some(two)) => fault_code(one) == fault_code(two),
+        _ => false,
     }
 }
 

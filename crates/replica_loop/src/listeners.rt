@@ -4,6 +4,7 @@ use crate::settings::Settings;
 use crate::socket::Socket;
 use crate::socket_path::{FileId, file_id, too_long};
 use crate::step_fault::{at_step, file_at_step};
+use fair_turns::Arrivals;
 use fedbundle::{Exit, Step};
 use mio::net::{TcpListener, UnixListener, UnixStream};
 use mio::{Interest, Poll, Token};
@@ -25,6 +26,14 @@ const OWNER_ONLY: u32 = 0o600;
 /// How long nothing is accepted after an accept failed.
 const PAUSE_MILLIS: u64 = 100;
 
+/// A span of time, and how many connections of this machine may come within one, and how many of
+/// other replicas: so few that they do not fill the table before one of them has asked.
+const SPAN_MILLIS: u64 = 125;
+
+const LOCAL_A_SPAN: u64 = 128;
+
+const GOSSIP_A_SPAN: u64 = 8;
+
 /// The listeners, and what is known of them.
 #[derive(Drop)]
 pub(crate) struct Listeners {
@@ -41,8 +50,10 @@ pub(crate) struct Listeners {
 struct Queue {
     // Whether somebody may wait.
     is_filled: bool,
-    // When the next accept is tried, after one failed.
+    // When the next accept is tried, after one failed, or as many came within a span as may.
     closed_until: Option<Instant>,
+    begun: Instant,
+    arrivals: Arrivals,
 }
 
 /// What an accept gave.
@@ -64,6 +75,7 @@ impl Listeners {
     pub(crate) fn open<R: Files + Net>(
         rt: &R,
         settings: &Settings<'_, '_>,
+        now: Instant,
     ) -> Result<Listeners, Exit> {
         let poll = at_step(Step::Socket, Poll::new(rt))?;
         file_at_step(Step::Socket, too_long(settings.socket))?;
@@ -79,8 +91,8 @@ impl Listeners {
             local,
             local_file,
             gossip,
-            at_local: Queue::new(),
-            at_gossip: Queue::new(),
+            at_local: Queue::new(LOCAL_A_SPAN, now),
+            at_gossip: Queue::new(GOSSIP_A_SPAN, now),
         })
     }
 
@@ -117,7 +129,10 @@ impl Listeners {
             return Arrival::Nobody;
         }
         match self.local.accept() {
-            Ok((stream, _)) => Arrival::Came(Socket::Unix(stream), None),
+            Ok((stream, _)) => {
+                self.at_local.note_arrival(now);
+                Arrival::Came(Socket::Unix(stream), None)
+            }
             Err(error) => self.at_local.note(&error, now),
         }
     }
@@ -134,6 +149,7 @@ impl Listeners {
             Ok((stream, peer)) => {
                 // Without it an answer may wait for a moment.
                 let _ = stream.set_nodelay(true);
+                self.at_gossip.note_arrival(now);
                 Arrival::Came(Socket::Tcp(stream), Some(peer))
             }
             Err(error) => self.at_gossip.note(&error, now),
@@ -142,10 +158,23 @@ impl Listeners {
 }
 
 impl Queue {
-    fn new() -> Queue {
+    fn new(most_a_span: u64, now: Instant) -> Queue {
         Queue {
             is_filled: false,
             closed_until: None,
+            begun: now,
+            arrivals: Arrivals::new(most_a_span),
+        }
+    }
+
+    // One came. Where no more may come within this span, the others wait for the next one.
+    fn note_arrival(&mut self, now: Instant) {
+        let millis = now.duration_since(self.begun).as_millis();
+        let span = u64::try_from(millis).unwrap_or(u64::MAX) / SPAN_MILLIS;
+        self.arrivals.note(span);
+        if !self.arrivals.may_come(span) {
+            let next = Duration::from_millis(span.saturating_add(1).saturating_mul(SPAN_MILLIS));
+            self.closed_until = self.begun.checked_add(next);
         }
     }
 

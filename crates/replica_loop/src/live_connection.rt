@@ -5,6 +5,7 @@ use crate::local_talk::Surroundings;
 use crate::socket::{Progress, Socket};
 use crate::talk::Talk;
 use closure_core::Closure;
+use fair_turns::{ByteRoom, Candidate, Work, most_seconds};
 use replica_sync::SyncError;
 use std::alloc::Global;
 use std::net::SocketAddr;
@@ -15,6 +16,9 @@ pub(crate) const BYTES_A_TURN: usize = 65_536;
 
 /// How often a connection is read in one turn: what came is mostly followed by the end.
 const READS_A_TURN: usize = 2;
+
+/// How often one is written in one turn: a reply has three parts.
+const WRITES_A_TURN: usize = 3;
 
 /// For how many seconds nothing may move on a connection, and how old it may be.
 const MAX_IDLE_SECONDS: u64 = 30;
@@ -32,7 +36,11 @@ pub(crate) struct LiveConnection {
     pub(crate) serial: usize,
     /// When it came.
     pub(crate) begun: Instant,
+    // When it last asked something whole, or came.
+    asked: Instant,
     moved: Instant,
+    // How many bytes moved, of both sides.
+    moved_bytes: u64,
     is_connected: bool,
     can_read: bool,
     can_write: bool,
@@ -57,7 +65,9 @@ impl LiveConnection {
             peer,
             serial,
             begun: now,
+            asked: now,
             moved: now,
+            moved_bytes: 0,
             can_read: is_connected,
             can_write: is_connected,
             ending: None,
@@ -73,7 +83,7 @@ impl LiveConnection {
     /// Whether there is something to do at once.
     pub(crate) fn is_busy(&self) -> bool {
         self.ending.is_some()
-            || self.talk.has_work()
+            || self.work().is_some()
             || (self.can_read && self.talk.wants_bytes())
             || (self.can_write && (!self.is_connected || !self.talk.output().is_empty()))
     }
@@ -81,69 +91,110 @@ impl LiveConnection {
     /// How long it may still be quiet, or live.
     pub(crate) fn time_left(&self, now: Instant) -> Duration {
         let idle = Duration::from_secs(MAX_IDLE_SECONDS);
-        let age = Duration::from_secs(MAX_AGE_SECONDS);
         let idle = idle.saturating_sub(now.duration_since(self.moved));
+        let age = Duration::from_secs(self.max_age_seconds());
         let age = age.saturating_sub(now.duration_since(self.begun));
         idle.min(age)
     }
 
-    /// Takes what came, at most what one turn allows.
-    pub(crate) fn read<C: Closure>(
+    // A session that this replica asked for ends earlier where little moves.
+    fn max_age_seconds(&self) -> u64 {
+        match &self.talk {
+            Talk::Pull(_) => most_seconds(self.moved_bytes).min(MAX_AGE_SECONDS),
+            Talk::Local(_) | Talk::Served(_) => MAX_AGE_SECONDS,
+        }
+    }
+
+    fn note_moved(&mut self, count: usize, now: Instant) {
+        self.moved = now;
+        self.moved_bytes = self.moved_bytes.saturating_add(count as u64);
+    }
+
+    /// What waits for its turn, where something does.
+    pub(crate) fn work(&self) -> Option<Work> {
+        match self.ending {
+            Some(_) => None,
+            None => self.talk.work(),
+        }
+    }
+
+    /// Keeps what came, at most what one turn allows.
+    pub(crate) fn read(
         &mut self,
         alloc: Global,
-        held: &mut HeldState<C>,
-        around: &Surroundings<'_>,
+        now: Instant,
         buffer: &mut [u8],
+        room: &mut ByteRoom,
     ) {
         if self.ending.is_some() || !self.is_connected {
             return;
         }
-        let taken = if self.talk.has_work() {
-            self.talk.go_on(alloc, held)
-        } else {
-            self.take_pieces(alloc, held, around, buffer)
-        };
-        if let Err(ending) = taken {
+        if let Err(ending) = self.take_pieces(alloc, now, buffer, room) {
             self.ending = Some(ending);
         }
     }
 
-    fn take_pieces<C: Closure>(
+    /// Its turn has come.
+    pub(crate) fn carry_out<C: Closure>(
         &mut self,
         alloc: Global,
         held: &mut HeldState<C>,
         around: &Surroundings<'_>,
+    ) {
+        // It was this replica that kept it waiting.
+        self.moved = around.now;
+        match self.talk.carry_out(alloc, held, around) {
+            Ok(()) if self.talk.output().is_empty() => {}
+            Ok(()) => self.asked = around.now,
+            Err(ending) => self.ending = Some(ending),
+        }
+    }
+
+    /// The connection as one that may give way.
+    pub(crate) fn candidate(&self, now: Instant) -> Candidate {
+        let quiet = now.duration_since(self.asked).as_millis();
+        Candidate {
+            serial: self.serial,
+            quiet: u64::try_from(quiet).unwrap_or(u64::MAX),
+        }
+    }
+
+    fn take_pieces(
+        &mut self,
+        alloc: Global,
+        now: Instant,
         buffer: &mut [u8],
+        room: &mut ByteRoom,
     ) -> Result<(), Ending> {
         let mut left = buffer.len();
         for _ in 0..READS_A_TURN {
             if left == 0 || !self.can_read || !self.talk.wants_bytes() {
                 break;
             }
-            let room = left.min(buffer.len());
-            let count = self.take_piece(alloc, held, around, &mut buffer[..room])?;
+            let most = left.min(buffer.len());
+            let count = self.take_piece(alloc, now, &mut buffer[..most], room)?;
             left = left.saturating_sub(count);
         }
         Ok(())
     }
 
     // Returns how many bytes came.
-    fn take_piece<C: Closure>(
+    fn take_piece(
         &mut self,
         alloc: Global,
-        held: &mut HeldState<C>,
-        around: &Surroundings<'_>,
+        now: Instant,
         buffer: &mut [u8],
+        room: &mut ByteRoom,
     ) -> Result<usize, Ending> {
         match self.socket.read(buffer) {
             Progress::Bytes(0) => {
-                self.talk.end_input(alloc, held, around)?;
+                self.talk.end_input(alloc)?;
                 Ok(0)
             }
             Progress::Bytes(count) => {
-                self.moved = around.now;
                 let count = count.min(buffer.len());
-                self.talk.take(alloc, held, &buffer[..count])?;
+                self.note_moved(count, now);
+                self.talk.take(alloc, &buffer[..count], room)?;
                 Ok(count)
             }
             Progress::Blocked => {
@@ -169,12 +220,12 @@ impl LiveConnection {
     pub(crate) fn write(&mut self, now: Instant) {
         if self.ending.is_none() && self.can_write {
             self.find_connected();
-            self.write_piece(now);
+            self.write_pieces(now);
         }
         if self.ending.is_none() {
             self.ending = self.talk.ending();
         }
-        if self.ending.is_none() && self.time_left(now).is_zero() {
+        if self.work().is_none() && self.ending.is_none() && self.time_left(now).is_zero() {
             self.ending = Some(Ending::Fault(SyncError::Io));
         }
     }
@@ -190,20 +241,34 @@ impl LiveConnection {
         }
     }
 
-    fn write_piece(&mut self, now: Instant) {
+    // A reply has several parts: mostly all of them are written at once.
+    fn write_pieces(&mut self, now: Instant) {
+        let mut left = BYTES_A_TURN;
+        for _ in 0..WRITES_A_TURN {
+            if left == 0 || !self.can_write || !self.is_connected {
+                break;
+            }
+            left = left.saturating_sub(self.write_piece(now, left));
+        }
+    }
+
+    // Returns how many bytes were written.
+    fn write_piece(&mut self, now: Instant, most: usize) -> usize {
         let output = self.talk.output();
-        let count = output.len().min(BYTES_A_TURN);
-        if count == 0 || !self.is_connected {
-            return;
+        let count = output.len().min(most);
+        if count == 0 {
+            return 0;
         }
         match self.socket.write(&output[..count]) {
             Progress::Bytes(count) => {
-                self.moved = now;
+                self.note_moved(count, now);
                 self.talk.wrote(count);
+                return count;
             }
             Progress::Blocked => self.can_write = false,
             Progress::Interrupted => {}
             Progress::Failed => self.ending = Some(Ending::Fault(SyncError::Io)),
         }
+        0
     }
 }

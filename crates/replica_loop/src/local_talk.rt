@@ -1,16 +1,20 @@
 //! A connection of this machine, on which one request comes and one reply goes.
 use crate::ending::Ending;
 use crate::held_state::HeldState;
+use crate::request_work::work_of;
 use closure_core::Closure;
+use fair_turns::{ByteRoom, Work};
 use local_answers::{Reply, RequestFault, RequestParts, Sending, answer_request};
 use status_view::RunningStatus;
 use std::alloc::Global;
 use std::time::Instant;
 
-/// The time, and what the replica says of itself.
+/// The time, the room that there is, and what the replica says of itself.
 #[derive(Clone, Copy)]
 pub(crate) struct Surroundings<'a> {
     pub(crate) now: Instant,
+    /// The room for requests and replies.
+    pub(crate) room: ByteRoom,
     pub(crate) running: RunningStatus<'a>,
 }
 
@@ -22,6 +26,8 @@ static DISK_FAILED: &[u8] = b"{\"errors\":17,\"output\":0,\"status\":3}\nfedbund
 pub(crate) struct LocalTalk {
     parts: RequestParts,
     answer: LocalAnswer,
+    // How many bytes the request has so far, or the reply of a command.
+    held: u64,
 }
 
 // What is being sent.
@@ -29,6 +35,8 @@ pub(crate) struct LocalTalk {
 enum LocalAnswer {
     // Nothing, as long as the request comes.
     Awaited,
+    // Nothing, as long as a whole request waits for its turn.
+    Due(Work),
     // What is left of a reply that says why there is none of a command.
     Fault(&'static [u8]),
     Whole(Sending),
@@ -39,6 +47,7 @@ impl LocalTalk {
         LocalTalk {
             parts: RequestParts::new(alloc),
             answer: LocalAnswer::Awaited,
+            held: 0,
         }
     }
 
@@ -47,6 +56,7 @@ impl LocalTalk {
         LocalTalk {
             parts: RequestParts::new(alloc),
             answer: LocalAnswer::Fault(RequestFault::TooManyRequests.reply()),
+            held: 0,
         }
     }
 
@@ -54,23 +64,77 @@ impl LocalTalk {
         matches!(self.answer, LocalAnswer::Awaited)
     }
 
+    /// Whether it has a request or a reply of a command: one that is refused takes no place.
+    pub(crate) fn takes_place(&self) -> bool {
+        !matches!(self.answer, LocalAnswer::Fault(_))
+    }
+
+    /// It gives way to another request: the reply says that there are too many.
+    pub(crate) fn give_way(&mut self, alloc: Global) {
+        self.refuse(alloc, RequestFault::TooManyRequests);
+    }
+
+    /// How many bytes are held of the request, or of the reply.
+    pub(crate) fn held_bytes(&self) -> u64 {
+        self.held
+    }
+
     /// Takes bytes of the request. Where they are too many, that is replied at once.
-    pub(crate) fn take(&mut self, alloc: Global, piece: &[u8]) {
-        if let Err(fault) = self.parts.take(piece) {
+    pub(crate) fn take(&mut self, alloc: Global, piece: &[u8], room: &mut ByteRoom) {
+        let count = piece.len() as u64;
+        if !room.take(count) {
+            self.refuse(alloc, RequestFault::TooManyRequests);
+        } else if let Err(fault) = self.parts.take(piece) {
             self.refuse(alloc, fault);
+        } else {
+            self.held = self.held.saturating_add(count);
         }
     }
 
-    /// The request is whole: it is carried out.
+    /// Nothing more comes: a request that is whole waits for its turn.
+    pub(crate) fn end_input(&mut self, alloc: Global) {
+        match self.parts.whole() {
+            Ok(request) => self.answer = LocalAnswer::Due(work_of(alloc, request.words)),
+            Err(fault) => self.refuse(alloc, fault),
+        }
+    }
+
+    /// What the request waits for, once it is whole.
+    pub(crate) fn work(&self) -> Option<Work> {
+        match &self.answer {
+            LocalAnswer::Due(work) => Some(*work),
+            _ => None,
+        }
+    }
+
+    /// The request has its turn: it is carried out.
     pub(crate) fn answer<C: Closure>(
         &mut self,
         alloc: Global,
         held: &mut HeldState<C>,
         around: &Surroundings<'_>,
     ) {
+        let mut room = around.room;
+        // The lines of what changes take about as much again as the input.
+        if self.work() == Some(Work::Change) && !room.take(self.held) {
+            self.refuse(alloc, RequestFault::TooManyRequests);
+            return;
+        }
         match self.carry_out(alloc, held, around) {
-            Ok(reply) => self.reply_with(alloc, LocalAnswer::Whole(Sending::new(reply))),
+            Ok(reply) => self.reply_within(alloc, reply, around.room),
             Err(fault) => self.refuse(alloc, fault),
+        }
+    }
+
+    // Where there is no room for the reply, and nothing was changed, it is refused.
+    fn reply_within(&mut self, alloc: Global, reply: Reply, mut room: ByteRoom) {
+        let bytes = bytes_of(&reply);
+        let shows_only = reply.journal.is_empty() && !reply.ends;
+        if shows_only && !room.take(bytes) {
+            self.refuse(alloc, RequestFault::TooManyRequests);
+        } else {
+            self.reply_with(alloc, LocalAnswer::Whole(Sending::new(reply)));
+            self.held = bytes;
         }
     }
 
@@ -97,6 +161,7 @@ impl LocalTalk {
     // Nothing more is read, so what was read is let go.
     fn reply_with(&mut self, alloc: Global, answer: LocalAnswer) {
         self.parts = RequestParts::new(alloc);
+        self.held = 0;
         self.answer = answer;
     }
 
@@ -135,7 +200,7 @@ impl LocalTalk {
 
     pub(crate) fn output(&self) -> &[u8] {
         match &self.answer {
-            LocalAnswer::Awaited => b"".as_slice(),
+            LocalAnswer::Awaited | LocalAnswer::Due(_) => b"".as_slice(),
             LocalAnswer::Fault(text) => text,
             LocalAnswer::Whole(sending) => sending.output(),
         }
@@ -144,7 +209,7 @@ impl LocalTalk {
     /// So many bytes of the output were sent, or all where there are no more.
     pub(crate) fn wrote(&mut self, count: usize) {
         match &mut self.answer {
-            LocalAnswer::Awaited => {}
+            LocalAnswer::Awaited | LocalAnswer::Due(_) => {}
             LocalAnswer::Fault(text) => *text = &text[count.min(text.len())..],
             LocalAnswer::Whole(sending) => {
                 let count = count.min(sending.output().len());
@@ -154,10 +219,19 @@ impl LocalTalk {
     }
 
     pub(crate) fn ending(&self) -> Option<Ending> {
-        let waits = self.wants_bytes() || !self.journal().is_empty();
+        let waits = self.wants_bytes() || self.work().is_some() || !self.journal().is_empty();
         if waits || !self.output().is_empty() {
             return None;
         }
         Some(Ending::Well)
     }
+}
+
+fn bytes_of(reply: &Reply) -> u64 {
+    let parts = [&reply.head, &reply.output, &reply.errors, &reply.journal];
+    let mut bytes: u64 = 0;
+    for part in parts {
+        bytes = bytes.saturating_add(part.len() as u64);
+    }
+    bytes
 }

@@ -5,17 +5,24 @@ use std::alloc::{AllocError, Global};
 use std::net::SocketAddr;
 use std::time::{Duration, Instant};
 
-/// The peers, of which each is asked in turn. A round begins a fixed time after the one before it
-/// began, or when that has ended.
+/// The peers, of which each is asked by itself: a session begins a fixed time after the one before
+/// it began, or when that has ended.
 #[derive(Drop)]
 pub(crate) struct Peers {
-    addresses: Vec<SocketAddr>,
+    places: Vec<PeerPlace>,
     // What is said of each, in the same order.
     statuses: Vec<PeerStatus>,
-    next: usize,
-    is_asking: bool,
-    round: Instant,
     every: Duration,
+}
+
+// A peer, and its next session.
+#[derive(Clone, Copy)]
+struct PeerPlace {
+    address: SocketAddr,
+    is_asked: bool,
+    // Whether the last session failed: then others that are due are asked before.
+    has_failed: bool,
+    due: Instant,
 }
 
 impl Peers {
@@ -25,10 +32,15 @@ impl Peers {
         every: Duration,
         now: Instant,
     ) -> Result<Peers, AllocError> {
-        let mut addresses = Vec::new(alloc);
+        let mut places = Vec::new(alloc);
         let mut statuses = Vec::new(alloc);
         for peer in peers {
-            addresses.push(*peer)?;
+            places.push(PeerPlace {
+                address: *peer,
+                is_asked: false,
+                has_failed: false,
+                due: now,
+            })?;
             statuses.push(PeerStatus {
                 address: format!(in alloc; "{peer}")?,
                 ended_well: None,
@@ -37,58 +49,62 @@ impl Peers {
             })?;
         }
         Ok(Peers {
-            addresses,
+            places,
             statuses,
-            next: 0,
-            is_asking: false,
-            round: now,
             every,
         })
     }
 
-    /// What is said of each peer, in the order in which they are asked.
+    /// What is said of each peer, in the order of the words.
     pub(crate) fn statuses(&self) -> &[PeerStatus] {
         self.statuses.as_slice()
     }
 
-    /// How long until the next session may begin: `None` where one is under way, or there are no
-    /// peers.
+    /// How long until the next session may begin: `None` where each peer is asked, or there are
+    /// none.
     pub(crate) fn time_left(&self, now: Instant) -> Option<Duration> {
-        if self.is_asking || self.addresses.is_empty() {
-            return None;
-        }
-        if self.next > 0 {
-            return Some(Duration::ZERO);
-        }
-        Some(self.round.duration_since(now))
+        let idle = self.places.iter().filter(|place| !place.is_asked);
+        idle.map(|place| place.due.duration_since(now)).min()
     }
 
-    /// The peer whose turn it is, where a session is due. It counts as begun.
-    pub(crate) fn begin(&mut self, now: Instant) -> Option<SocketAddr> {
-        if self.time_left(now)? > Duration::ZERO {
-            return None;
-        }
-        if self.next == 0 {
-            self.round = now.checked_add(self.every).unwrap_or(now);
-        }
-        let peer = self.addresses.get(self.next)?;
-        self.is_asking = true;
-        Some(*peer)
+    /// The number and the address of a peer that is due: one whose last session failed only where
+    /// there is no other. Its session counts as begun.
+    pub(crate) fn begin(&mut self, now: Instant) -> Option<(usize, SocketAddr)> {
+        let number = match self.due_place(now, false) {
+            Some(number) => number,
+            None => self.due_place(now, true)?,
+        };
+        let place = self.places.get_mut(number)?;
+        place.is_asked = true;
+        place.due = now.checked_add(self.every).unwrap_or(now);
+        Some((number, place.address))
     }
 
-    /// The session has ended.
-    pub(crate) fn end(&mut self, ending: Ending, receipts: u64, unix_seconds: Option<u64>) {
-        if let Some(peer) = self.statuses.get_mut(self.next) {
+    fn due_place(&self, now: Instant, has_failed: bool) -> Option<usize> {
+        self.places.iter().position(|place| !place.is_asked
+            && place.has_failed == has_failed
+            && place.due <= now)
+    }
+
+    /// The session with the peer of this number has ended.
+    pub(crate) fn end(
+        &mut self,
+        number: usize,
+        ending: Ending,
+        receipts: u64,
+        unix_seconds: Option<u64>,
+    ) {
+        let fault = ending.fault();
+        if let Some(place) = self.places.get_mut(number) {
+            place.is_asked = false;
+            place.has_failed = fault.is_some();
+        }
+        if let Some(peer) = self.statuses.get_mut(number) {
             peer.receipts = peer.receipts.saturating_add(receipts);
-            match ending.fault() {
+            match fault {
                 Some(fault) => peer.fault = Some(fault),
                 None => peer.ended_well = unix_seconds,
             }
-        }
-        self.is_asking = false;
-        self.next = self.next.saturating_add(1);
-        if self.next >= self.addresses.len() {
-            self.next = 0;
         }
     }
 }

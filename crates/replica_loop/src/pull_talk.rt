@@ -4,7 +4,7 @@ use crate::held_state::HeldState;
 use crate::unread_bytes::UnreadBytes;
 use closure_core::Closure;
 use replica_sync::{Pulling, SyncError};
-use std::alloc::Global;
+use std::alloc::{AllocError, Global};
 
 /// How many lines are taken at most in one turn: no more can come in one read.
 const MOST_LINES: usize = 65_536;
@@ -12,22 +12,29 @@ const MOST_LINES: usize = 65_536;
 /// A connection on which this replica asks, and takes what is answered.
 #[derive(Drop)]
 pub(crate) struct PullTalk {
+    // Which of the peers it is.
+    number: usize,
     pulling: Pulling,
     rest: UnreadBytes,
     // How many more bytes may come.
     bytes_left: u64,
+    // Whether more came.
+    has_too_many: bool,
 }
 
 impl PullTalk {
     pub(crate) fn new<C: Closure>(
         alloc: Global,
         closure: &C,
+        number: usize,
         most_bytes: u64,
     ) -> Result<PullTalk, SyncError> {
         Ok(PullTalk {
+            number,
             pulling: Pulling::new(alloc, closure)?,
             rest: UnreadBytes::new(alloc),
             bytes_left: most_bytes,
+            has_too_many: false,
         })
     }
 
@@ -37,29 +44,20 @@ impl PullTalk {
 
     /// Whether bytes that came can be taken.
     pub(crate) fn has_work(&self) -> bool {
-        !self.rest.is_empty() && self.can_take()
+        (self.has_too_many || !self.rest.is_empty()) && self.can_take()
     }
 
     fn can_take(&self) -> bool {
         !self.pulling.is_over() && self.pulling.output().is_empty()
     }
 
-    /// Takes bytes that came, as many as may come.
-    pub(crate) fn take<C: Closure>(
-        &mut self,
-        alloc: Global,
-        held: &mut HeldState<C>,
-        piece: &[u8],
-    ) -> Result<(), Ending> {
+    /// Keeps bytes that came, as many as may come.
+    pub(crate) fn take(&mut self, piece: &[u8]) -> Result<(), AllocError> {
         let left = usize::try_from(self.bytes_left).unwrap_or(usize::MAX);
         let room = left.min(piece.len());
         self.bytes_left = self.bytes_left.saturating_sub(room as u64);
-        self.rest.keep(&piece[..room])?;
-        self.go_on(alloc, held)?;
-        if room < piece.len() {
-            return Err(Ending::TooManyBytes);
-        }
-        Ok(())
+        self.has_too_many |= room < piece.len();
+        self.rest.keep(&piece[..room])
     }
 
     /// Takes what is left of the bytes that came, up to the end of an answer.
@@ -69,10 +67,13 @@ impl PullTalk {
         held: &mut HeldState<C>,
     ) -> Result<(), Ending> {
         for _ in 0..MOST_LINES {
-            if !self.has_work() {
+            if self.rest.is_empty() || !self.can_take() {
                 break;
             }
             self.take_line(alloc, held)?;
+        }
+        if self.has_too_many {
+            return Err(Ending::TooManyBytes);
         }
         Ok(())
     }
@@ -110,6 +111,11 @@ impl PullTalk {
         } else {
             None
         }
+    }
+
+    /// Which of the peers it is.
+    pub(crate) fn number(&self) -> usize {
+        self.number
     }
 
     /// How many receipts came that were not held.

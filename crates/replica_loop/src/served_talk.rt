@@ -3,7 +3,7 @@ use crate::ending::Ending;
 use crate::unread_bytes::UnreadBytes;
 use closure_core::Closure;
 use replica_sync::Serving;
-use std::alloc::Global;
+use std::alloc::{AllocError, Global};
 
 /// A connection on which another replica asks, and is answered.
 #[derive(Drop)]
@@ -34,15 +34,9 @@ impl ServedTalk {
         !self.rest.is_empty() && self.output().is_empty()
     }
 
-    pub(crate) fn take<C: Closure>(
-        &mut self,
-        alloc: Global,
-        closure: &C,
-        piece: &[u8],
-    ) -> Result<(), Ending> {
-        let used = self.serving.read(alloc, closure, piece)?;
-        self.rest.keep(&piece[used..])?;
-        Ok(())
+    /// Keeps bytes that came.
+    pub(crate) fn take(&mut self, piece: &[u8]) -> Result<(), AllocError> {
+        self.rest.keep(piece)
     }
 
     /// Takes what is left of the bytes that came, up to the end of a have.

@@ -13,10 +13,12 @@ pub struct Settings<'a, 'p> {
     pub listen: Option<SocketAddr>,
     /// From which replicas this one pulls.
     pub peers: &'p [SocketAddr],
-    /// How long after a round of pulls began the next one begins.
+    /// How long after a pull began the next one from that peer begins.
     pub every: Duration,
     /// How many bytes the state's files and what a session brings may have together.
     pub most_bytes: u64,
+    /// How many bytes requests of this machine and their replies may have together.
+    pub most_request_bytes: u64,
     /// Whether it may begin without a state file.
     pub is_new: bool,
     /// Whether each connection is reported that has ended, and not only those at fault.

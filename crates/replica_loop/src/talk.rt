@@ -6,7 +6,8 @@ use crate::local_talk::{LocalTalk, Surroundings};
 use crate::pull_talk::PullTalk;
 use crate::served_talk::ServedTalk;
 use closure_core::Closure;
-use std::alloc::Global;
+use fair_turns::{ByteRoom, Work};
+use std::alloc::{AllocError, Global};
 
 /// What is said on a connection. Bytes that come are given to it, and what is to be written is
 /// taken from it.
@@ -30,47 +31,43 @@ impl Talk {
         }
     }
 
-    /// Whether bytes that were read before can be taken now.
-    pub(crate) fn has_work(&self) -> bool {
+    /// What waits for a turn, where something does: of what was read nothing was carried out yet.
+    pub(crate) fn work(&self) -> Option<Work> {
         match self {
-            Talk::Local(_) => false,
-            Talk::Served(talk) => talk.has_work(),
-            Talk::Pull(talk) => talk.has_work(),
+            Talk::Local(talk) => talk.work(),
+            Talk::Served(talk) if talk.has_work() => Some(Work::Short),
+            Talk::Pull(talk) if talk.has_work() => Some(Work::Change),
+            Talk::Served(_) | Talk::Pull(_) => None,
         }
     }
 
-    /// Takes bytes that came.
-    pub(crate) fn take<C: Closure>(
+    /// How many bytes are held of a request of this machine, or of its reply.
+    pub(crate) fn held_bytes(&self) -> u64 {
+        match self {
+            Talk::Local(talk) => talk.held_bytes(),
+            Talk::Served(_) | Talk::Pull(_) => 0,
+        }
+    }
+
+    /// Keeps bytes that came. Those of requests need room.
+    pub(crate) fn take(
         &mut self,
         alloc: Global,
-        held: &mut HeldState<C>,
         piece: &[u8],
-    ) -> Result<(), Ending> {
+        room: &mut ByteRoom,
+    ) -> Result<(), AllocError> {
         match self {
             Talk::Local(talk) => {
-                talk.take(alloc, piece);
+                talk.take(alloc, piece, room);
                 Ok(())
             }
-            Talk::Served(talk) => talk.take(alloc, &held.closure, piece),
-            Talk::Pull(talk) => talk.take(alloc, held, piece),
+            Talk::Served(talk) => talk.take(piece),
+            Talk::Pull(talk) => talk.take(piece),
         }
     }
 
-    /// Takes bytes that were read before.
-    pub(crate) fn go_on<C: Closure>(
-        &mut self,
-        alloc: Global,
-        held: &mut HeldState<C>,
-    ) -> Result<(), Ending> {
-        match self {
-            Talk::Local(_) => Ok(()),
-            Talk::Served(talk) => talk.go_on(alloc, &held.closure),
-            Talk::Pull(talk) => talk.go_on(alloc, held),
-        }
-    }
-
-    /// The other side sends nothing more.
-    pub(crate) fn end_input<C: Closure>(
+    /// Its turn has come: what waits is carried out.
+    pub(crate) fn carry_out<C: Closure>(
         &mut self,
         alloc: Global,
         held: &mut HeldState<C>,
@@ -79,6 +76,18 @@ impl Talk {
         match self {
             Talk::Local(talk) => {
                 talk.answer(alloc, held, around);
+                Ok(())
+            }
+            Talk::Served(talk) => talk.go_on(alloc, &held.closure),
+            Talk::Pull(talk) => talk.go_on(alloc, held),
+        }
+    }
+
+    /// The other side sends nothing more.
+    pub(crate) fn end_input(&mut self, alloc: Global) -> Result<(), Ending> {
+        match self {
+            Talk::Local(talk) => {
+                talk.end_input(alloc);
                 Ok(())
             }
             Talk::Served(talk) => {

@@ -1,8 +1,10 @@
-//! One turn of the loop: what is ready is read, what came is put on the disk, and only then
-//! anything is written. So nobody is shown a change that a kill could take back. `kept_files` has
-//! what is on the disk.
+//! One turn of the loop: what is ready is read, and what takes little is answered; then a few
+//! milliseconds of long requests or of changes are carried out, what came is put on the disk, and
+//! only then it is shown. So nobody is shown a change that a kill could take back, and nobody waits
+//! for more than one of the others at a time. `kept_files` has what is on the disk.
 use crate::connection_table::ConnectionTable;
 use crate::ending::Ending;
+use crate::event_counts::EventCounts;
 use crate::event_log::{LogEvent, log_event};
 use crate::held_state::HeldState;
 use crate::kept_files::KeptFiles;
@@ -17,6 +19,7 @@ use crate::socket::Socket;
 use crate::step_fault::{at_step, file_at_step};
 use crate::talk::Talk;
 use closure_core::Closure;
+use fair_turns::Work;
 use fedbundle::{Exit, FileFault, Step};
 use mio::Events;
 use mio::net::TcpStream;
@@ -39,6 +42,9 @@ const PAUSE_MILLIS: u64 = 100;
 /// How many connections are accepted at each listener in one turn.
 const ARRIVALS_A_TURN: usize = 32;
 
+/// How many sessions are begun in one turn.
+const PULLS_A_TURN: usize = 16;
+
 /// How long replies may still be sent after the replica was asked to end.
 const LAST_SECONDS: u64 = 1;
 
@@ -49,6 +55,7 @@ pub(crate) struct RunningReplica {
     table: ConnectionTable,
     peers: Peers,
     files: KeptFiles,
+    events: EventCounts,
     now: Instant,
     // When it ends, once it was asked to.
     ends_at: Option<Instant>,
@@ -68,13 +75,14 @@ impl RunningReplica {
         settings: &Settings<'_, '_>,
     ) -> Result<RunningReplica, Exit> {
         let now = at_step(Step::Socket, Instant::now(rt))?;
-        let listeners = Listeners::open(rt, settings)?;
+        let listeners = Listeners::open(rt, settings, now)?;
         let journal = beginning.begin_journal(rt, alloc, closure, settings.state);
         Ok(RunningReplica {
             listeners,
-            table: ConnectionTable::new(alloc)?,
+            table: ConnectionTable::new(alloc, settings.most_request_bytes)?,
             peers: Peers::new(alloc, settings.peers, settings.every, now)?,
             files: KeptFiles::new(lock, file_at_step(Step::Journal, journal)?),
+            events: EventCounts::new(alloc),
             now,
             ends_at: None,
             has_reported: false,
@@ -87,7 +95,7 @@ impl RunningReplica {
         if let Err(error) = self.listeners.poll.poll(events, Some(wait)) {
             // A signal came, as where the process was stopped and goes on.
             if error.kind() != ErrorKind::Interrupted {
-                log_event(rt, alloc, LogEvent::Poll);
+                self.events.note(rt, alloc, LogEvent::Poll, self.now);
                 thread::sleep(rt, Duration::from_millis(PAUSE_MILLIS));
             }
         }
@@ -116,11 +124,13 @@ impl RunningReplica {
             Some(moment) => moment.duration_since(self.now),
             None => most,
         };
-        most.min(table).min(listeners).min(peers).min(end)
+        let events = self.events.time_left(self.now).unwrap_or(most);
+        let rest = listeners.min(peers).min(end).min(events);
+        most.min(table).min(rest)
     }
 
     fn may_pull(&self) -> bool {
-        self.ends_at.is_none() && self.table.has_room()
+        self.ends_at.is_none() && self.table.has_pull_room()
     }
 
     /// Takes in the connections that came.
@@ -156,11 +166,15 @@ impl RunningReplica {
         }
     }
 
-    fn talk_of(&self, alloc: Global, socket: &Socket) -> Talk {
+    // What is said on it. Where there are too many of its kind, one of them gives way.
+    fn talk_of(&mut self, alloc: Global, socket: &Socket) -> Talk {
         match socket {
-            Socket::Tcp(_) => Talk::Served(ServedTalk::new(alloc)),
+            Socket::Tcp(_) => {
+                self.table.make_served_room(self.now);
+                Talk::Served(ServedTalk::new(alloc))
+            }
             Socket::Unix(_) => {
-                if self.table.has_local_room() {
+                if self.table.make_local_room(alloc, self.now) {
                     Talk::Local(LocalTalk::new(alloc))
                 } else {
                     Talk::Local(LocalTalk::refused(alloc))
@@ -193,42 +207,40 @@ impl RunningReplica {
 
     fn report_once<R: Eprint>(&mut self, rt: &R, alloc: Global, event: LogEvent) {
         if !self.has_reported {
-            log_event(rt, alloc, event);
+            self.events.note(rt, alloc, event, self.now);
             self.has_reported = true;
         }
     }
 
-    /// Begins the session with the next peer, where it is due and there is room.
-    pub(crate) fn begin_pull<C: Closure, R: Net + Eprint>(
+    /// Begins a session with each peer that is due.
+    pub(crate) fn begin_pulls<C: Closure, R: Net + Eprint>(
         &mut self,
         rt: &R,
         alloc: Global,
         closure: &C,
         most_bytes: u64,
     ) {
-        if !self.may_pull() {
-            return;
-        }
-        let Some(peer) = self.peers.begin(self.now) else {
-            return;
-        };
         let held = running_status(&self.files, &self.peers).state_bytes();
         let left = most_bytes.saturating_sub(held);
-        if let Err(ending) = self.connect(rt, alloc, closure, peer, left) {
-            self.peers.end(ending, 0, None);
-            log_event(rt, alloc, LogEvent::Pull(peer, 0, Duration::ZERO, ending));
+        for _ in 0..PULLS_A_TURN {
+            if !self.may_pull() {
+                break;
+            }
+            let Some((number, peer)) = self.peers.begin(self.now) else {
+                break;
+            };
+            let begun = match PullTalk::new(alloc, closure, number, left) {
+                Ok(talk) => self.connect(rt, talk, peer),
+                Err(why) => Err(Ending::Fault(why)),
+            };
+            if let Err(ending) = begun {
+                self.peers.end(number, ending, 0, None);
+                log_event(rt, alloc, LogEvent::Pull(peer, 0, Duration::ZERO, ending));
+            }
         }
     }
 
-    fn connect<C: Closure, R: Net>(
-        &mut self,
-        rt: &R,
-        alloc: Global,
-        closure: &C,
-        peer: SocketAddr,
-        most_bytes: u64,
-    ) -> Result<(), Ending> {
-        let talk = PullTalk::new(alloc, closure, most_bytes)?;
+    fn connect<R: Net>(&mut self, rt: &R, talk: PullTalk, peer: SocketAddr) -> Result<(), Ending> {
         let stream = match TcpStream::connect(rt, peer) {
             Ok(stream) => stream,
             Err(_) => return Err(Ending::Fault(SyncError::Io)),
@@ -247,13 +259,46 @@ impl RunningReplica {
         }
     }
 
-    /// Takes what came on each connection.
-    pub(crate) fn read<C: Closure>(&mut self, alloc: Global, held: &mut HeldState<C>) {
+    /// Keeps what came on each connection, and answers what takes little. That is shown at once: it
+    /// is what is on the disk, and does not wait for the changes of this turn.
+    pub(crate) fn read<C: Closure, R: Clock>(
+        &mut self,
+        rt: &R,
+        alloc: Global,
+        held: &mut HeldState<C>,
+    ) {
+        self.table.read(alloc, self.now);
+        self.carry_out(rt, alloc, held, Work::Short);
+        if held.fresh.is_empty() && !self.table.has_changes() {
+            self.write();
+        }
+    }
+
+    /// Carries out long requests or changes, where some wait.
+    pub(crate) fn go_on<C: Closure, R: Clock>(
+        &mut self,
+        rt: &R,
+        alloc: Global,
+        held: &mut HeldState<C>,
+    ) {
+        if let Some(work) = self.table.work_after_short() {
+            self.carry_out(rt, alloc, held, work);
+        }
+    }
+
+    fn carry_out<C: Closure, R: Clock>(
+        &mut self,
+        rt: &R,
+        alloc: Global,
+        held: &mut HeldState<C>,
+        work: Work,
+    ) {
         let around = Surroundings {
             now: self.now,
+            room: self.table.room(),
             running: running_status(&self.files, &self.peers),
         };
-        self.table.read(alloc, held, &around);
+        self.table.carry_out(rt, alloc, held, &around, work);
         if self.ends_at.is_none() && self.table.is_stopped() {
             let last = Duration::from_secs(LAST_SECONDS);
             self.ends_at = Some(self.now.checked_add(last).unwrap_or(self.now));
@@ -299,11 +344,17 @@ impl RunningReplica {
                 let time = self.now.duration_since(conn.begun);
                 note_pull(rt, &mut self.peers, conn, ending);
                 if let Some(event) = event_of(conn, ending, time, is_verbose) {
-                    log_event(rt, alloc, event);
+                    self.events.note(rt, alloc, event, self.now);
                 }
             }
         }
         self.table.remove_ended();
+        self.events.tell(rt, alloc, self.now);
+    }
+
+    /// Reports what was only counted.
+    pub(crate) fn tell_all<R: Eprint>(&mut self, rt: &R, alloc: Global) {
+        self.events.tell_all(rt, alloc);
     }
 
     /// Removes the socket's file, if it is still that of this replica.
@@ -332,7 +383,7 @@ fn running_status<'a>(files: &KeptFiles, peers: &'a Peers) -> RunningStatus<'a> 
 // Counts what a session brought.
 fn note_pull<R: Clock>(rt: &R, peers: &mut Peers, conn: &LiveConnection, ending: Ending) {
     if let Talk::Pull(talk) = &conn.talk {
-        peers.end(ending, talk.taken(), unix_seconds(rt));
+        peers.end(talk.number(), ending, talk.taken(), unix_seconds(rt));
     }
 }
 
@@ -351,6 +402,9 @@ fn event_of(
     is_verbose: bool,
 ) -> Option<LogEvent> {
     let is_said = is_verbose || ending != Ending::Well;
+    if ending == Ending::GaveWay {
+        return Some(LogEvent::Refuse);
+    }
     match &conn.talk {
         Talk::Pull(talk) => Some(LogEvent::Pull(conn.peer?, talk.taken(), time, ending)),
         Talk::Served(_) if is_said => Some(LogEvent::Serve(conn.peer, time, ending)),
@@ -370,8 +424,10 @@ pub(crate) fn turn<C: Closure, R: Files<File = File> + Net + Clock + Eprint>(
 ) -> Result<bool, FileFault> {
     running.wait(rt, alloc, events);
     running.accept(rt, alloc);
-    running.begin_pull(rt, alloc, &held.closure, settings.most_bytes);
-    running.read(alloc, held);
+    running.begin_pulls(rt, alloc, &held.closure, settings.most_bytes);
+    running.read(rt, alloc, held);
+    running.end_connections(rt, alloc, settings.is_verbose);
+    running.go_on(rt, alloc, held);
     running.commit(rt, alloc, held, settings.state)?;
     running.write();
     running.end_connections(rt, alloc, settings.is_verbose);

@@ -7,11 +7,14 @@ use std::alloc::Global;
 use std::net::SocketAddr;
 use std::time::Duration;
 
-/// How many seconds after a round of pulls the next one begins where nothing else is said, and at
-/// most.
+/// How many seconds after a pull began the next one from that peer begins where nothing else is
+/// said, and at most.
 const EVERY_SECONDS: u64 = 60;
 
 const MAX_EVERY_SECONDS: u64 = 86_400;
+
+/// How many bytes requests and their replies may have together where nothing else is said.
+const MOST_REQUEST_BYTES: u64 = 536_870_912;
 
 /// From how many replicas one pulls at most.
 const MOST_PEERS: usize = 16;
@@ -33,6 +36,7 @@ fn settings_of<'a, 'p>(call: &Call<'a>, peers: &'p [SocketAddr]) -> Result<Setti
         peers,
         every: Duration::from_secs(every_of(given(call, OptionName::Every))?),
         most_bytes: manner.most_bytes,
+        most_request_bytes: request_bytes_of(given(call, OptionName::MostRequestBytes))?,
         is_new: given(call, OptionName::New) == Some("true"),
         is_verbose: manner.is_verbose,
     })
@@ -53,6 +57,17 @@ fn every_of(text: Option<&str>) -> Result<u64, Exit> {
     match text.parse::<u64>() {
         Ok(seconds) if has_digits && (1..=MAX_EVERY_SECONDS).contains(&seconds) => Ok(seconds),
         _ => Err(Exit::BadNumber(OptionName::Every)),
+    }
+}
+
+fn request_bytes_of(text: Option<&str>) -> Result<u64, Exit> {
+    let Some(text) = text else {
+        return Ok(MOST_REQUEST_BYTES);
+    };
+    let has_digits = text.bytes().all(|byte| byte.is_ascii_digit());
+    match text.parse::<u64>() {
+        Ok(bytes) if has_digits => Ok(bytes),
+        _ => Err(Exit::BadNumber(OptionName::MostRequestBytes)),
     }
 }
 

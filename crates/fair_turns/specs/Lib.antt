@@ -1,0 +1,3 @@
+pub mod Arrivals
+pub mod GivingWay
+pub mod Turns

@@ -1,0 +1,32 @@
+//! What a request asks for, as far as it decides when its turn comes.
+use fair_turns::Work;
+use fedbundle::{CommandName, command_of};
+use request_lines::read_request_words;
+use std::alloc::Global;
+
+/// The flag of a request that only shows what a change would do.
+const DRY_RUN: &str = "--dry-run";
+
+/// What a request with this line of words is. Words that cannot be read are answered soon: the
+/// reply says so.
+pub(crate) fn work_of(alloc: Global, line: &[u8]) -> Work {
+    let Ok(words) = read_request_words(alloc, line) else {
+        return Work::Short;
+    };
+    let Some(first) = words.first() else {
+        return Work::Short;
+    };
+    match command_of(first.as_str()) {
+        Some(name) => work_of_command(name, words.iter().any(|word| word.as_str() == DRY_RUN)),
+        None => Work::Short,
+    }
+}
+
+fn work_of_command(name: CommandName, is_dry: bool) -> Work {
+    match name {
+        CommandName::Bundle | CommandName::Stop => Work::Short,
+        CommandName::Observe | CommandName::Merge => Work::Change,
+        CommandName::Distrust if !is_dry => Work::Change,
+        _ => Work::Long,
+    }
+}
