@@ -194,14 +194,24 @@ impl OptionName {
     }
 }
 
-static CANON: [OptionName; 2] = [OptionName::Domain, OptionName::FileFormat];
+static CANON: [OptionName; 3] = [
+    OptionName::Domain,
+    OptionName::FileFormat,
+    OptionName::Verbose,
+];
 
-static CONFIG: [OptionName; 3] = [OptionName::Config, OptionName::With, OptionName::FileFormat];
+static CONFIG: [OptionName; 4] = [
+    OptionName::Config,
+    OptionName::With,
+    OptionName::FileFormat,
+    OptionName::Verbose,
+];
 
-static REPORT: [OptionName; 4] = [
+static REPORT: [OptionName; 5] = [
     OptionName::Config,
     OptionName::OptionalState,
     OptionName::FileFormat,
+    OptionName::Verbose,
     OptionName::At,
 ];
 
@@ -274,11 +284,12 @@ static MERGE: [OptionName; 6] = [
     OptionName::At,
 ];
 
-static MIGRATE: [OptionName; 4] = [
+static MIGRATE: [OptionName; 5] = [
     OptionName::Config,
     OptionName::State,
     OptionName::To,
     OptionName::RecordsOnly,
+    OptionName::Verbose,
 ];
 
 static RESEED: [OptionName; 4] = [
@@ -337,7 +348,7 @@ static REPLICA: [OptionName; 9] = [
     OptionName::Verbose,
 ];
 
-static STOP: [OptionName; 1] = [OptionName::At];
+static STOP: [OptionName; 2] = [OptionName::Verbose, OptionName::At];
 
 impl CommandName {
     /// The subcommand's word.
