@@ -15,9 +15,9 @@ _fedbundle() {
         --allow|--domain|--endpoint|--every|--format|--key|--listen|--most-bytes|--most-request-bytes|--now|--peer|--peers|--sessions|--wait) return ;;
     esac
     case ${COMP_WORDS[1]} in
-        canon) words='--domain --format --help' ;;
-        config) words='--config --with --format --help' ;;
-        report) words='--config --state --format --wait --at --help' ;;
+        canon) words='--domain --format --verbose --help' ;;
+        config) words='--config --with --format --verbose --help' ;;
+        report) words='--config --state --format --wait --verbose --at --help' ;;
         list) words='--config --state --domain --format --verbose --help' ;;
         diff) words='--config --state --with --verbose --help' ;;
         graph) words='--config --state --domain --verbose --help' ;;
@@ -26,14 +26,14 @@ _fedbundle() {
         explain) words='--config --state --domain --short --format --wait --verbose --at --help' ;;
         observe) words='--config --state --domain --endpoint --key --wait --verbose --at --help' ;;
         merge) words='--config --state --wait --most-bytes --verbose --at --help' ;;
-        migrate) words='--config --state --to --records-only --help' ;;
+        migrate) words='--config --state --to --records-only --verbose --help' ;;
         reseed) words='--config --state --allow --verbose --help' ;;
         polls) words='--config --state --now --format --wait --verbose --at --help' ;;
         distrust) words='--config --state --domain --key --dry-run --wait --verbose --at --help' ;;
         serve) words='--config --state --listen --sessions --verbose --help' ;;
         pull) words='--config --state --peer --wait --most-bytes --verbose --help' ;;
         replica) words='--config --state --socket --listen --peers --every --most-bytes --most-request-bytes --new --verbose --help' ;;
-        stop) words='--wait --at --help' ;;
+        stop) words='--wait --verbose --at --help' ;;
         help) words='canon config report list diff graph status bundle explain observe merge migrate reseed polls distrust serve pull replica stop help' ;;
         *) return ;;
     esac

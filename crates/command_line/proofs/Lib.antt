@@ -1,3 +1,4 @@
 mod WordsFacts
 mod OptionTextFacts
 mod SessionsFacts
+mod KeyTextFacts

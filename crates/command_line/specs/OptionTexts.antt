@@ -1,13 +1,22 @@
 -- What the texts of options say.
 use Rattle.std.specs.Prelude.{◌≡◌, ◌⊎◌, ℕ, List, [], ◌∷◌, Option, Some, None, codes}
 use Rattle.std.specs.Prelude.{Bool, true, false, if◌then◌else◌}
+use Rattle.std.specs.Prelude.{length, ◌≤◌}
 use Rattle.std.specs.Str.{bytes_eq}
+use Rattle.std.specs.Str.Parse.{IsNumeral, digits_value}
+use Rattle.hex.specs.Hex.{IsBytes, encode_lower}
+use Rattle.jwk_set.specs.declared.authority.KeyId.{KeyId}
 use Rattle.command_line.specs.Words.{options_of, option_text}
 use Rattle.command_line.specs.declared.option_texts.ExplanationForm.{ExplanationForm}
 use Rattle.command_line.specs.declared.option_texts.ExplanationForm.TheVariants.{Receipts, Steps}
 use Rattle.command_line.specs.declared.option_texts.ExplanationForm.TheVariants as chain
 use Rattle.command_line.specs.declared.command_name.CommandName.{CommandName}
 use Rattle.command_line.specs.declared.command_name.OptionName.{OptionName}
+use Rattle.command_line.specs.declared.command_name.OptionName.TheVariants.{MostBytes, Verbose}
+use Rattle.command_line.specs.declared.command_name.OptionName.TheVariants.{Wait}
+use Rattle.command_line.specs.declared.option_error.OptionError.{OptionError}
+use Rattle.command_line.specs.declared.option_error.OptionError.TheVariants.{BadNumber}
+use Rattle.command_line.specs.declared.option_texts.Manner.{Manner}
 use Rattle.command_line.specs.declared.option_texts.BundleFormat.{BundleFormat}
 use Rattle.command_line.specs.declared.option_texts.BundleFormat.TheVariants.{Json, Pem}
 use Rattle.command_line.specs.declared.option_texts.OutputForm.{OutputForm}
@@ -57,3 +66,56 @@ SaysExplanationIn short form chosen =
 abbrev pub SaysNoExplanationIn : (short form : Option (List ℕ)) → Type 0
 SaysNoExplanationIn short form =
     (chosen : ExplanationForm) → SaysExplanationIn short form chosen → ⊥
+
+-- ---- keys
+
+-- the text is the lower-case digits of the key id
+abbrev pub IsKeyText : List ℕ → KeyId → Type 0
+IsKeyText text key = encode_lower key.0 ≡ text
+
+-- it is those of none
+abbrev pub IsNoKeyText : List ℕ → Type 0
+IsNoKeyText text = (bytes : List ℕ) → length bytes ≡ 32 → IsBytes bytes → encode_lower bytes ≡ text
+    → ⊥
+
+-- ---- numbers
+
+-- The text is that of a number of at most `most`: decimal digits, and no other byte. Needless zeros
+-- may stand before them.
+pub record IsNumberText (most : ℕ) (text : List ℕ) (n : ℕ) : Type 0 where
+  pub digits : IsNumeral 10 text
+  pub value : n ≡ digits_value 10 text
+  pub within : n ≤ most
+
+-- the number of the text, and none where it is the text of none
+abbrev pub ReadsNumber : (most : ℕ) → List ℕ → Option ℕ → Type 0
+ReadsNumber most text (Some n) = IsNumberText most text n
+ReadsNumber most text None = (n : ℕ) → IsNumberText most text n → ⊥
+
+-- the same, and another number where there is no text
+abbrev pub SaysNumber : (otherwise most : ℕ) → Option (List ℕ) → Option ℕ → Type 0
+SaysNumber otherwise most None said = said ≡ Some otherwise
+SaysNumber otherwise most (Some text) said = ReadsNumber most text said
+
+-- How many seconds the lock of a state is waited for: 60, or up to a day.
+abbrev pub SaysWait : Option (List ℕ) → Option ℕ → Type 0
+SaysWait = SaysNumber 60 86400
+
+-- How many bytes are held at most: 4 GiB, or any number of 64 bits.
+abbrev pub SaysMostBytes : Option (List ℕ) → Option ℕ → Type 0
+SaysMostBytes = SaysNumber 4294967296 18446744073709551615
+
+-- what the words say of waiting, of the most bytes and of saying more
+pub record SaysManner (name : CommandName) (texts : List (Option (List ℕ)))
+    (manner : Manner) : Type 0 where
+  pub wait : SaysWait (option_said name texts Wait) (Some manner.wait_seconds)
+  pub most : SaysMostBytes (option_said name texts MostBytes) (Some manner.most_bytes)
+  pub verbose : SaysFlag (option_said name texts Verbose) manner.is_verbose
+
+-- The wait is no number in its range; or it is, or is left out, and the most bytes are none.
+abbrev pub SaysNoManner : CommandName → List (Option (List ℕ)) → OptionError → Type 0
+SaysNoManner name texts (BadNumber Wait) = SaysWait (option_said name texts Wait) None
+SaysNoManner name texts (BadNumber MostBytes) =
+    ((n : ℕ) × SaysWait (option_said name texts Wait) (Some n))
+    × SaysMostBytes (option_said name texts MostBytes) None
+SaysNoManner name texts error = ⊥

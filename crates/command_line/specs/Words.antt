@@ -118,9 +118,9 @@ name_text command.Replica = codes "replica"
 name_text command.Stop = codes "stop"
 
 abbrev pub options_of : CommandName → List OptionName
-options_of command.Canon = Domain ∷ FileFormat ∷ []
-options_of command.Config = Config ∷ With ∷ FileFormat ∷ []
-options_of command.Report = Config ∷ OptionalState ∷ FileFormat ∷ Wait ∷ At ∷ []
+options_of command.Canon = Domain ∷ FileFormat ∷ Verbose ∷ []
+options_of command.Config = Config ∷ With ∷ FileFormat ∷ Verbose ∷ []
+options_of command.Report = Config ∷ OptionalState ∷ FileFormat ∷ Wait ∷ Verbose ∷ At ∷ []
 options_of command.List = Config ∷ State ∷ OptionalDomain ∷ FileFormat ∷ Verbose ∷ []
 options_of command.Diff = Config ∷ State ∷ With ∷ Verbose ∷ []
 options_of command.Graph = Config ∷ State ∷ OptionalDomain ∷ Verbose ∷ []
@@ -131,7 +131,7 @@ options_of command.Explain = Config ∷ State ∷ Domain ∷ Short ∷ FileForma
 options_of command.Observe = Config ∷ State ∷ Domain ∷ Endpoint ∷ Key ∷ Wait ∷ Verbose
     ∷ At ∷ []
 options_of command.Merge = Config ∷ State ∷ Wait ∷ MostBytes ∷ Verbose ∷ At ∷ []
-options_of command.Migrate = Config ∷ State ∷ To ∷ RecordsOnly ∷ []
+options_of command.Migrate = Config ∷ State ∷ To ∷ RecordsOnly ∷ Verbose ∷ []
 options_of command.Reseed = Config ∷ State ∷ Allow ∷ Verbose ∷ []
 options_of command.Polls = Config ∷ State ∷ Now ∷ FileFormat ∷ Wait ∷ Verbose ∷ At ∷ []
 options_of command.Distrust = Config ∷ State ∷ Domain ∷ Key ∷ DryRun ∷ Wait ∷ Verbose
@@ -140,7 +140,7 @@ options_of command.Serve = Config ∷ State ∷ Listen ∷ Sessions ∷ Verbose 
 options_of command.Pull = Config ∷ State ∷ Peer ∷ Wait ∷ MostBytes ∷ Verbose ∷ []
 options_of command.Replica = Config ∷ State ∷ Socket ∷ OptionalListen ∷ Peers ∷ Every
     ∷ MostBytes ∷ MostRequestBytes ∷ New ∷ Verbose ∷ []
-options_of command.Stop = Wait ∷ At ∷ []
+options_of command.Stop = Wait ∷ Verbose ∷ At ∷ []
 
 abbrev pub all_names : List CommandName
 all_names = command.Canon ∷ command.Config ∷ command.Report ∷ command.List ∷ command.Diff

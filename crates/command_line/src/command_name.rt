@@ -197,15 +197,25 @@ impl OptionName {
     }
 }
 
-static CANON: [OptionName; 2] = [OptionName::Domain, OptionName::FileFormat];
+static CANON: [OptionName; 3] = [
+    OptionName::Domain,
+    OptionName::FileFormat,
+    OptionName::Verbose,
+];
 
-static CONFIG: [OptionName; 3] = [OptionName::Config, OptionName::With, OptionName::FileFormat];
+static CONFIG: [OptionName; 4] = [
+    OptionName::Config,
+    OptionName::With,
+    OptionName::FileFormat,
+    OptionName::Verbose,
+];
 
-static REPORT: [OptionName; 5] = [
+static REPORT: [OptionName; 6] = [
     OptionName::Config,
     OptionName::OptionalState,
     OptionName::FileFormat,
     OptionName::Wait,
+    OptionName::Verbose,
     OptionName::At,
 ];
 
@@ -281,11 +291,12 @@ static MERGE: [OptionName; 6] = [
     OptionName::At,
 ];
 
-static MIGRATE: [OptionName; 4] = [
+static MIGRATE: [OptionName; 5] = [
     OptionName::Config,
     OptionName::State,
     OptionName::To,
     OptionName::RecordsOnly,
+    OptionName::Verbose,
 ];
 
 static RESEED: [OptionName; 4] = [
@@ -346,7 +357,7 @@ static REPLICA: [OptionName; 10] = [
     OptionName::Verbose,
 ];
 
-static STOP: [OptionName; 2] = [OptionName::Wait, OptionName::At];
+static STOP: [OptionName; 3] = [OptionName::Wait, OptionName::Verbose, OptionName::At];
 
 impl CommandName {
     /// The subcommand's word.

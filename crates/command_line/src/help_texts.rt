@@ -109,7 +109,8 @@ Graphviz: `fedbundle graph .. | dot -Tsvg` draws it. A box is a document, with t
 where it is configured, and bold where it is the current one of its domain. An arrow is a
 receipt, from the document that vouches for it to the one that it brought, with the first
 digits of its key: dashed where it is pending, and red where its key is distrusted. With
---domain it has what brought documents of the domain. It writes no file.
+--domain it has the receipts that brought documents of the domain, and each document at
+either end is drawn as what it is, also one of another domain. It writes no file.
 
 Ends with 0; with 1 and nothing printed where anything read or the name of the domain is
 refused.";
@@ -442,13 +443,15 @@ impl CommandName {
     /// The subcommand's usage: its word and its options, each with what its text is.
     pub(crate) fn usage<'a>(self) -> &'a str {
         match self {
-            CommandName::Canon => "fedbundle canon --domain <DOMAIN> [--format <FORMAT>]",
+            CommandName::Canon =>
+                "fedbundle canon --domain <DOMAIN> [--format <FORMAT>] [--verbose]",
             CommandName::Config => {
-                "fedbundle config --config <FILE> [--with <FILE>] [--format <FORMAT>]"
+                "fedbundle config --config <FILE> [--with <FILE>] [--format <FORMAT>] [--verbose]"
             }
             CommandName::Report => {
-                "fedbundle report --config <FILE> [--state <FILE>] [--format <FORMAT>]\n       \
-                fedbundle report --at <PATH> [--wait <SECONDS>]"
+                "fedbundle report --config <FILE> [--state <FILE>] [--format <FORMAT>] \
+                [--verbose]\n       \
+                fedbundle report --at <PATH> [--wait <SECONDS>] [--verbose]"
             }
             CommandName::List => {
                 "fedbundle list --config <FILE> --state <FILE> [--domain <DOMAIN>] \
@@ -489,7 +492,8 @@ impl CommandName {
                 fedbundle merge --at <PATH> [--wait <SECONDS>] [--most-bytes <BYTES>] [--verbose]"
             }
             CommandName::Migrate => {
-                "fedbundle migrate --config <FILE> --state <FILE> --to <FILE> [--records-only]"
+                "fedbundle migrate --config <FILE> --state <FILE> --to <FILE> [--records-only] \
+                [--verbose]"
             }
             CommandName::Reseed => {
                 "fedbundle reseed --config <FILE> --state <FILE> [--allow <DOMAIN>] [--verbose]"
@@ -518,7 +522,7 @@ impl CommandName {
                 [--listen <ADDRESS>] [--peers <ADDRESS,..>] [--every <SECONDS>] \
                 [--most-bytes <BYTES>] [--most-request-bytes <BYTES>] [--new] [--verbose]"
             }
-            CommandName::Stop => "fedbundle stop --at <PATH> [--wait <SECONDS>]",
+            CommandName::Stop => "fedbundle stop --at <PATH> [--wait <SECONDS>] [--verbose]",
         }
     }
 

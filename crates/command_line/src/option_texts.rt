@@ -1,6 +1,9 @@
 //! The texts of options, found and read.
-ghost use Rattle.std.specs.Prelude.{◌≡◌, ℕ, IfOk, IfErr, Ok, Some, None, map, option_map};
-ghost use Rattle.hex.specs.Hex.{decode_sized};
+ghost use Rattle.std.specs.Prelude.{◌≡◌, ◌↔◌, ◌==◌, ℕ, IfOk, IfErr, IsTrue, Ok, Some, None, map};
+ghost use Rattle.std.specs.Prelude.{option_map, slice_index_or};
+ghost use Rattle.hex.specs.Hex.{decode_sized, encode_lower};
+ghost use Rattle.command_line.specs.OptionTexts.{IsKeyText, IsNoKeyText, ReadsNumber, SaysManner};
+ghost use Rattle.command_line.specs.OptionTexts.{SaysNoManner, SaysNumber};
 ghost use Rattle.command_line.specs.OptionTexts.{SaysBundleFormat, SaysExplanationForm, SaysFlag};
 ghost use Rattle.command_line.specs.OptionTexts.{SaysNoBundleFormat, option_said};
 ghost use Rattle.command_line.specs.OptionTexts.{SaysExplanationIn, SaysNoExplanationIn};
@@ -114,30 +117,59 @@ pub fn wanted<'a>(call: &Call<'a>, wanted: OptionName) -> Result<&'a str, Option
 /// # Errors
 /// A text is no number, or one out of its range.
 pub fn manner_of(call: &Call<'_>) -> Result<Manner, OptionError>
+    ensures ok { IfOk result (SaysManner call.now.name
+        (map (option_map (λ t. t.now)) call.now.texts.items)) }
     ensures refused { IfErr result (λ error. (option : OptionName) × (error ≡ BadNumber option)) }
+    ensures none { IfErr result (SaysNoManner call.now.name
+        (map (option_map (λ t. t.now)) call.now.texts.items)) }
 {
     let wait = given(call, OptionName::Wait);
     let most = given(call, OptionName::MostBytes);
+    let Some(wait_seconds) = number_up_to(wait, WAIT_SECONDS, MAX_WAIT_SECONDS) else {
+        return Err(OptionError::BadNumber(OptionName::Wait));
+    };
+    let Some(most_bytes) = number_up_to(most, MOST_BYTES, u64::MAX) else {
+        return Err(OptionError::BadNumber(OptionName::MostBytes));
+    };
+    let is_verbose = is_flag_given(given(call, OptionName::Verbose));
     Ok(Manner {
-        wait_seconds: number_up_to(wait, WAIT_SECONDS, MAX_WAIT_SECONDS).ok_or(
-            OptionError::BadNumber(OptionName::Wait),
-        )?,
-        most_bytes: number_up_to(most, MOST_BYTES, u64::MAX).ok_or(OptionError::BadNumber(
-            OptionName::MostBytes,
-        ))?,
-        is_verbose: is_flag_given(given(call, OptionName::Verbose)),
+        wait_seconds,
+        most_bytes,
+        is_verbose,
     })
 }
 
 // The number of the text, or the other one where there is no text.
-fn number_up_to(text: Option<&str>, otherwise: u64, most: u64) -> Option<u64> {
-    let Some(text) = text else {
-        return Some(otherwise);
-    };
-    let has_digits = text.bytes().all(|byte| byte.is_ascii_digit());
+fn number_up_to(text: Option<&str>, otherwise: u64, most: u64) -> Option<u64>
+    ensures { SaysNumber otherwise most (option_map (λ t. t.now) text.entry) result }
+{
+    match text {
+        Some(text) => number_of(text, most),
+        None => Some(otherwise),
+    }
+}
+
+// The number of the text, where it is at most the other one.
+fn number_of(text: &str, most: u64) -> Option<u64>
+    ensures { ReadsNumber most text.now result }
+{
+    // A text with a plus sign is parsed too.
+    if has_plus(text.as_bytes()) {
+        return None;
+    }
     match text.parse::<u64>() {
-        Ok(number) if has_digits && number <= most => Some(number),
-        _ => None,
+        Ok(number) if number <= most => Some(number),
+        Ok(_) => None,
+        Err(_) => None,
+    }
+}
+
+fn has_plus(text: &[u8]) -> bool
+    ensures { result ≡ (slice_index_or text.now 0 0 == 43) }
+{
+    match text {
+        [first, ..] => *first == b'+',
+        [] => false,
     }
 }
 
@@ -147,17 +179,25 @@ fn number_up_to(text: Option<&str>, otherwise: u64, most: u64) -> Option<u64> {
 /// The text is something else.
 pub fn read_key(text: &str) -> Result<KeyId, OptionError>
     ensures ok { IfOk result (λ key. decode_sized text.now 32 ≡ Ok key.0) }
+    ensures lower { IfOk result (IsKeyText text.now) }
     ensures refused { IfErr result (λ error. error ≡ BadKey) }
+    ensures none { IfErr result (λ error. IsNoKeyText text.now) }
 {
-    let is_lower = text
-        .bytes()
-        .all(|b| b.is_ascii_digit() || (b'a'..=b'f').contains(&b));
     let mut id = [0; 32];
-    if is_lower && hex::decode_to_slice(text, &mut id).is_ok() {
-        Ok(KeyId(id))
-    } else {
-        Err(OptionError::BadKey)
+    match hex::decode_to_slice(text, &mut id) {
+        // Upper-case digits are decoded too.
+        Ok(()) if is_key_text(&id, text) => Ok(KeyId(id)),
+        Ok(()) => Err(OptionError::BadKey),
+        Err(_) => Err(OptionError::BadKey),
     }
+}
+
+fn is_key_text(id: &[u8; 32], text: &str) -> bool
+    ensures { IsTrue result ↔ (encode_lower id.now ≡ text.now) }
+{
+    let mut digits = [0; 64];
+    hex::encode_to_slice(*id, &mut digits).unwrap();
+    digits.as_slice() == text.as_bytes()
 }
 
 /// The format of `bundle`: `json`, which is also meant where nothing is said, or `pem`.

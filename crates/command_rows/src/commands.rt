@@ -103,7 +103,7 @@ fn do_call<C: Closure>(
     devices: &mut Devices,
 ) -> Result<(), CommandError> {
     match (call.name, call.texts.as_slice()) {
-        (CommandName::Canon, [Some(domain), form]) => canon(case, domain, *form, devices),
+        (CommandName::Canon, [Some(domain), form, ..]) => canon(case, domain, *form, devices),
         (CommandName::Serve, [_, _, _, Some(sessions), _]) if read_sessions(sessions).is_none() => {
             tell(b"fedbundle: usage\n", 2, devices);
             Ok(())
@@ -135,8 +135,8 @@ fn do_under_config<C: Closure>(
     devices: &mut Devices,
 ) -> Result<(), CommandError> {
     match (asked.name, asked.given) {
-        (CommandName::Config, [None, form]) => print_config(case, config, *form, devices),
-        (CommandName::Config, [Some(with), _]) => compare_configs(case, config, with, devices),
+        (CommandName::Config, [None, form, ..]) => print_config(case, config, *form, devices),
+        (CommandName::Config, [Some(with), ..]) => compare_configs(case, config, with, devices),
         (CommandName::Report, [None, ..]) => report::<C>(case, config, devices),
         (name, [Some(state), given @ ..]) => {
             let file = case.script.text(state);
@@ -263,7 +263,7 @@ fn do_asked<C: Closure>(
 ) -> Result<(), CommandError> {
     let (input, output) = (&mut devices.input, &mut devices.output);
     match (asked.name, asked.given) {
-        (CommandName::Report, [form, _]) => report_held(case, closure, *form, devices),
+        (CommandName::Report, [form, ..]) => report_held(case, closure, *form, devices),
         (CommandName::List, [domain, form, _]) => {
             list_held(case, closure, *domain, *form, devices)
         }
@@ -280,7 +280,7 @@ fn do_asked<C: Closure>(
             observe(case, closure, domain, endpoint, key, devices)
         }
         (CommandName::Merge, _) => run_merge(case.alloc, closure, input, output),
-        (CommandName::Migrate, [Some(to), Some(records_only)]) => {
+        (CommandName::Migrate, [Some(to), Some(records_only), ..]) => {
             migrate(case, closure, to, records_only, devices)
         }
         (CommandName::Polls, [Some(now), form, ..]) => polls(case, closure, now, *form, devices),

@@ -23,11 +23,15 @@ pub(crate) fn config<R: Files>(
     }
 }
 
-/// The address of an IP address and a port. At port 0 the system would choose a port that nobody
-/// knows.
+/// The address of an IP address and a port. At port 0 the system chooses the port.
 pub(crate) fn address(text: &str) -> Result<SocketAddr, Exit> {
-    match text.parse::<SocketAddr>() {
-        Ok(address) if address.port() != 0 => Ok(address),
+    text.parse::<SocketAddr>().map_err(|_| Exit::BadAddress)
+}
+
+/// The same where another program has to know the port, so it is not 0.
+pub(crate) fn known_address(text: &str) -> Result<SocketAddr, Exit> {
+    match address(text)? {
+        known if known.port() != 0 => Ok(known),
         _ => Err(Exit::BadAddress),
     }
 }

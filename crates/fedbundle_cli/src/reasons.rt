@@ -119,7 +119,7 @@ fn say_address(rt: &HostRuntime, call: &Call<'_>) -> Result<(), AllocError> {
 // The options of a replica that have addresses. One that is none is among them.
 fn say_addresses(rt: &HostRuntime, call: &Call<'_>, why: &str) -> Result<(), AllocError> {
     match given(call, OptionName::Listen) {
-        Some(text) if crate::options::address(text).is_err() => {
+        Some(text) if crate::options::known_address(text).is_err() => {
             say_option(rt, call, OptionName::Listen, why)
         }
         _ => say_option(rt, call, OptionName::Peers, why),

@@ -39,7 +39,7 @@ fn pull_from(
     peer: &str,
     most_bytes: u64,
 ) -> Result<Result<(), Exit>, Exit> {
-    let connection = connect(rt, options::address(peer)?)?;
+    let connection = connect(rt, options::known_address(peer)?)?;
     Ok(end_session(rt, closure, connection, most_bytes))
 }
 

@@ -44,7 +44,7 @@ fn settings_of<'a, 'p>(call: &Call<'a>, peers: &'p [SocketAddr]) -> Result<Setti
 
 fn listen_of(text: Option<&str>) -> Result<Option<SocketAddr>, Exit> {
     match text {
-        Some(text) => Ok(Some(options::address(text)?)),
+        Some(text) => Ok(Some(options::known_address(text)?)),
         None => Ok(None),
     }
 }
@@ -80,7 +80,7 @@ fn peers_of(alloc: Global, text: Option<&str>) -> Result<Vec<SocketAddr>, Exit> 
         if peers.len() == MOST_PEERS {
             return Err(Exit::BadNumber(OptionName::Peers));
         }
-        let address = options::address(address)?;
+        let address = options::known_address(address)?;
         if peers.push(address).is_err() {
             return Err(Exit::Refused(CommandError::NoMemory));
         }

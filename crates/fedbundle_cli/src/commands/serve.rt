@@ -45,10 +45,11 @@ fn serve_at(
     address: &str,
     service: Service,
 ) -> Result<u8, Exit> {
-    let address = options::address(address)?;
-    let listener = listen(rt, address)?;
-    if service.is_verbose {
-        say_listening(rt, address);
+    let wanted = options::address(address)?;
+    let listener = listen(rt, wanted)?;
+    if service.is_verbose || wanted.port() == 0 {
+        // Where the system does not say which port it chose, nothing else is known of it.
+        say_listening(rt, listener.local_addr().unwrap_or(wanted));
     }
     Ok(serve_all(rt, closure, &listener, service))
 }
