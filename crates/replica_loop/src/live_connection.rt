@@ -11,13 +11,13 @@ use std::alloc::Global;
 use std::net::SocketAddr;
 use std::time::{Duration, Instant};
 
-/// How many bytes of a connection are read or written in one turn.
+/// How many bytes of a connection are read in one turn, or written at once.
 pub(crate) const BYTES_A_TURN: usize = 65_536;
 
 /// How often a connection is read in one turn: what came is mostly followed by the end.
 const READS_A_TURN: usize = 2;
 
-/// How often one is written in one turn: a reply has three parts.
+/// How often one is written at once: a reply has three parts.
 const WRITES_A_TURN: usize = 3;
 
 /// For how many seconds nothing may move on a connection, and how old it may be.
