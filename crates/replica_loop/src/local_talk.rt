@@ -181,8 +181,8 @@ impl LocalTalk {
     }
 
     /// The lines of this turn could not be put on the disk: a reply of which nothing is sent says
-    /// that in the place of what it said, which may show what is not on the disk. So does that to a
-    /// request that waits for its turn.
+    /// that in the place of what it said, which may show what is not on the disk. A request
+    /// that waits for its turn is told the same.
     pub(crate) fn fail(&mut self) {
         let is_refused = match &self.answer {
             LocalAnswer::Whole(sending) => !sending.has_begun(),
