@@ -80,6 +80,11 @@ impl LiveConnection {
         self.can_write |= can_write;
     }
 
+    /// Whether something may have come that was not read yet.
+    pub(crate) fn may_have_come(&self) -> bool {
+        self.can_read
+    }
+
     /// Whether there is something to do at once.
     pub(crate) fn is_busy(&self) -> bool {
         self.ending.is_some()
