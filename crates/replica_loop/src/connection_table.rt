@@ -38,7 +38,7 @@ enum Group {
     Served,
     /// Those of this machine that have a request, or a reply of a command.
     Local,
-    /// Those of this machine whose request has not come whole.
+    /// Those of this machine whose request has not come whole, though all that came was read.
     Awaited,
     Pulls,
 }
@@ -308,7 +308,7 @@ fn is_of(conn: &LiveConnection, group: Group) -> bool {
         (_, Group::All) => true,
         (Talk::Served(_), Group::Served) | (Talk::Pull(_), Group::Pulls) => true,
         (Talk::Local(talk), Group::Local) => talk.takes_place(),
-        (Talk::Local(talk), Group::Awaited) => talk.wants_bytes(),
+        (Talk::Local(talk), Group::Awaited) => talk.wants_bytes() && !conn.may_have_come(),
         _ => false,
     }
 }

@@ -30,7 +30,7 @@ impl EventCounts {
         }
     }
 
-    /// An event came. The first of its kind is written at once, and so is one that is never counted.
+    /// An event came. The first of its kind is written at once, and so is one that is not counted.
     pub(crate) fn note<R: Eprint>(&mut self, rt: &R, alloc: Global, event: LogEvent, now: Instant) {
         for kind in &mut self.kinds {
             if kind.event.is_counted_with(&event) {

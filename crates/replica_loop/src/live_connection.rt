@@ -11,13 +11,13 @@ use std::alloc::Global;
 use std::net::SocketAddr;
 use std::time::{Duration, Instant};
 
-/// How many bytes of a connection are read or written in one turn.
+/// How many bytes of a connection are read in one turn, or written at once.
 pub(crate) const BYTES_A_TURN: usize = 65_536;
 
 /// How often a connection is read in one turn: what came is mostly followed by the end.
 const READS_A_TURN: usize = 2;
 
-/// How often one is written in one turn: a reply has three parts.
+/// How often one is written at once: a reply has three parts.
 const WRITES_A_TURN: usize = 3;
 
 /// For how many seconds nothing may move on a connection, and how old it may be.
@@ -78,6 +78,11 @@ impl LiveConnection {
     pub(crate) fn mark(&mut self, can_read: bool, can_write: bool) {
         self.can_read |= can_read;
         self.can_write |= can_write;
+    }
+
+    /// Whether something may have come that was not read yet.
+    pub(crate) fn may_have_come(&self) -> bool {
+        self.can_read
     }
 
     /// Whether there is something to do at once.

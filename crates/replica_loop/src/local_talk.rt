@@ -181,12 +181,16 @@ impl LocalTalk {
     }
 
     /// The lines of this turn could not be put on the disk: a reply of which nothing is sent says
-    /// that in the place of what it said, which may show what is not on the disk.
+    /// that in the place of what it said, which may show what is not on the disk. A request
+    /// that waits for its turn is told the same.
     pub(crate) fn fail(&mut self) {
-        if let LocalAnswer::Whole(sending) = &self.answer {
-            if !sending.has_begun() {
-                self.answer = LocalAnswer::Fault(DISK_FAILED);
-            }
+        let is_refused = match &self.answer {
+            LocalAnswer::Whole(sending) => !sending.has_begun(),
+            LocalAnswer::Due(_) => true,
+            LocalAnswer::Awaited | LocalAnswer::Fault(_) => false,
+        };
+        if is_refused {
+            self.answer = LocalAnswer::Fault(DISK_FAILED);
         }
     }
 
