@@ -1,4 +1,4 @@
-//! The documents that vouch for the receipts that a graph shows. What is known of them is shown too,
+//! The documents that vouch for the receipts that a graph shows. What is known of them is shown,
 //! whatever their domain is.
 ghost use Rattle.std.specs.Prelude.{◌≡◌, ◌↔◌, ◌&&◌, not, true, IfOk, option_copied};
 ghost use Rattle.std.specs.BTreeSet.{IsFromIterResult};
