@@ -28,8 +28,9 @@ def stop(text):
 
 
 def built_program():
-    """The program that is measured whole: the one that ./fedbundle runs, or that $FEDBUNDLE names."""
-    program = os.environ.get("FEDBUNDLE", str(TOP / "crates/fedbundle_cli/out/fedbundle"))
+    """The program that is measured whole: the one that $FEDBUNDLE names, or ./fedbundle made, or `rt ci` did."""
+    made = [TOP / "crates/fedbundle_cli/out" / name for name in ("fedbundle", "fedbundle_cli")]
+    program = os.environ.get("FEDBUNDLE", str(next((path for path in made if path.exists()), made[0])))
     if not os.access(program, os.X_OK):
         stop(f"{program} is not there: build it with ./fedbundle --version, or name it in $FEDBUNDLE")
     return program

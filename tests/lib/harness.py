@@ -39,8 +39,12 @@ def stop(text):
 
 
 def find_program():
-    """The program that $FEDBUNDLE names, or else the one that ./fedbundle builds."""
+    """The program that $FEDBUNDLE names, or else the one that ./fedbundle builds. If nobody ran that, but `rt ci` or
+    `rt run` built the program, it is that one."""
     named = os.environ.get("FEDBUNDLE")
+    by_rt = TOP / "crates/fedbundle_cli/out/fedbundle_cli"
+    if not named and by_rt.exists() and not by_rt.with_name("fedbundle").exists():
+        named = by_rt
     if not named:
         if subprocess.run([TOP / "fedbundle", "--version"], stdout=subprocess.DEVNULL).returncode != 0:
             stop("the program is not built")

@@ -170,21 +170,27 @@ def polls_json(config, held, lines, now):
 
 
 def graph_lines(config, held, chosen=None):
-    receipts = [held.values[line] for line in held.receipts if chosen in (None, held.values[line]["domain"])]
+    """With a domain: its receipts, and of each document that is its own or vouches for one of these, all that is known."""
+    every = [held.values[line] for line in held.receipts]
+    receipts = [r for r in every if chosen in (None, r["domain"])]
+    shown = {r["voucher"] for r in receipts}
+    is_shown = lambda d: chosen in (None, d.domain) or d.id in shown
     yield "digraph trust {"
     yield "node [shape=box];"
     for r in receipts:
         yield f'"{r["voucher"]}" [label="{endpoint_domain(r)}\\n{r["voucher"][:8]}"];'
-    for r in receipts:
-        d = Document(r["domain"], r["doc"])
-        yield f'"{d.id}" [label="{label(d)}"];'
+    for d in (Document(r["domain"], r["doc"]) for r in every):
+        if is_shown(d):
+            yield f'"{d.id}" [label="{label(d)}"];'
     for d in seeds_of(config):
-        if chosen in (None, d.domain):
+        if is_shown(d):
             yield f'"{d.id}" [label="{label(d)}", peripheries=2];'
     for domain in domains_of(config):
-        if chosen in (None, domain):
-            found = accepted_in(held, domain)
-            yield f'"{found[-1].id}" [style=bold];' if found else f"// no current document of {domain}"
+        current = (accepted_in(held, domain) or [None])[-1]
+        if current is not None and is_shown(current):
+            yield f'"{current.id}" [style=bold];'
+        elif current is None and chosen in (None, domain):
+            yield f"// no current document of {domain}"
     for r in receipts:
         style = {"accepted": "", "pending": ", style=dashed", "distrusted": ", color=red"}[held.status(r)]
         yield f'"{r["voucher"]}" -> "{Document(r["domain"], r["doc"]).id}" [label="{r["key"][:8]}"{style}];'

@@ -2,22 +2,61 @@
 use crate::replica::{receipt_of, record_of, tell_held};
 use crate::row_call::{RowCall, bucket_of, number_of, text_of_lines, word_of};
 use crate::stop::Stop;
+use bundle_view::{ReportError, write_report};
 use byte_lines::MemSink;
 use replica_sync::{Event, run_world, write_snapshot};
 use trust_closure::ExchangeClosure;
 
+/// The most bytes of a snapshot or a report.
+const MOST_BYTES: usize = 65_536;
+
 /// Tells what each replica holds after the events of the text's lines, where the second word tells
 /// how many there are.
 pub(crate) fn tell_world(row: RowCall<'_>, answer: &mut String) -> Result<(), Stop> {
+    let replicas = world_of(row)?;
+    tell_replicas(row, &replicas, answer)
+}
+
+// The replicas after the events.
+fn world_of(row: RowCall<'_>) -> Result<Vec<ExchangeClosure>, Stop> {
     let config = row.config()?;
     let events = events_of(row)?;
-    let replicas: Vec<ExchangeClosure> = run_world(
-        row.alloc,
-        &config,
-        row.number(1)?,
-        events.as_slice(),
-    )?;
-    tell_replicas(row, &replicas, answer)
+    Ok(run_world(row.alloc, &config, row.number(1)?, events.as_slice())?)
+}
+
+/// Tells the report of the first replica after the events, and of each other one whether it writes
+/// the same snapshot and the same report, byte for byte.
+pub(crate) fn tell_agreement(row: RowCall<'_>, answer: &mut String) -> Result<(), Stop> {
+    let replicas = world_of(row)?;
+    let Some((first, others)) = replicas.split_first() else {
+        return Ok(answer.push_str("no replica\n")?);
+    };
+    let (snapshot, report) = (snapshot_of(row, first)?, report_of(row, first)?);
+    row.script.show_lines(report.as_bytes(), answer)?;
+    for other in others {
+        let is_snapshot = snapshot_of(row, other)?.as_bytes() == snapshot.as_bytes();
+        let is_report = report_of(row, other)?.as_bytes() == report.as_bytes();
+        writeln!(
+            answer,
+            "same snapshot {is_snapshot}, same report {is_report}"
+        )?;
+    }
+    Ok(())
+}
+
+fn snapshot_of(row: RowCall<'_>, replica: &ExchangeClosure) -> Result<MemSink, Stop> {
+    let mut sink = MemSink::new(row.alloc, MOST_BYTES)?;
+    write_snapshot(row.alloc, replica, &mut sink)?;
+    Ok(sink)
+}
+
+fn report_of(row: RowCall<'_>, replica: &ExchangeClosure) -> Result<MemSink, Stop> {
+    let mut sink = MemSink::new(row.alloc, MOST_BYTES)?;
+    match write_report(row.alloc, replica, &mut sink) {
+        Ok(()) => Ok(sink),
+        Err(ReportError::NoMemory) => Err(Stop::NoMemory),
+        Err(ReportError::Io) => Err(Stop::Line),
+    }
 }
 
 fn tell_replicas(
@@ -35,9 +74,8 @@ fn tell_replicas(
 }
 
 fn show_held(row: RowCall<'_>, replica: &ExchangeClosure, answer: &mut String) -> Result<(), Stop> {
-    let mut sink = MemSink::new(row.alloc, 65_536)?;
-    write_snapshot(row.alloc, replica, &mut sink)?;
-    Ok(row.script.show_lines(sink.as_bytes(), answer)?)
+    let snapshot = snapshot_of(row, replica)?;
+    Ok(row.script.show_lines(snapshot.as_bytes(), answer)?)
 }
 
 fn events_of(row: RowCall<'_>) -> Result<Vec<Event>, Stop> {

@@ -1,6 +1,6 @@
 //! The settings in which a row runs.
 use crate::calls::{tell_whole, tell_without_text};
-use crate::events::tell_world;
+use crate::events::{tell_agreement, tell_world};
 use crate::messages::tell_made;
 use crate::places::{Device, tell_places};
 use crate::row_call::RowCall;
@@ -31,6 +31,7 @@ fn tell_call(row: RowCall<'_>, answer: &mut String) -> Result<(), Stop> {
         "show" => Ok(tell_text(row, answer)?),
         "make" => tell_made(row, answer),
         "world" => tell_world(row, answer),
+        "agree" => tell_agreement(row, answer),
         "have" | "absorb" | "session" => without_text(row, answer),
         _ => in_all_pieces(row, answer),
     }

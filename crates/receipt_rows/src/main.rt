@@ -8,6 +8,7 @@ mod counting;
 mod devices;
 mod receipts;
 mod streams;
+mod triples;
 mod words;
 
 use row_script::{Row, Rows, Script};
@@ -35,6 +36,7 @@ impl Rows for Calls {
         match row.verb {
             "receipt" => receipts::read(self.alloc, script, text, answer),
             "record" => receipts::read_record(self.alloc, script, text, answer),
+            "triple" => triples::make(self.alloc, row.words, answer),
             "chain" => chains::check(self.alloc, script, row.words, answer),
             "errors" => words::tell_errors(answer),
             _ => call_with_stream(self.alloc, script, row, text, answer),

@@ -104,7 +104,11 @@ fn tell_parts(script: &Script, receipt: &Receipt, told: &mut String) -> Result<(
     told.push_str("\n")
 }
 
-fn tell_triple(verb: &str, triple: &Triple, told: &mut String) -> Result<(), AllocError> {
+pub(crate) fn tell_triple(
+    verb: &str,
+    triple: &Triple,
+    told: &mut String,
+) -> Result<(), AllocError> {
     let domain = triple.domain().as_str();
     let document = triple.document();
     let key = triple.key();

@@ -2,11 +2,11 @@
 use Rattle.std.proofs.Common.{◌≡◌, ◌<◌, ◌≤◌, ◌+◌, ℕ, suc, List, [], ◌∷◌, ◌++◌, length, get_or, drop, refl, sym, ap, ◌∙◌, append_assoc, Option}
 use Rattle.std.proofs.Common.{add-one, drop-cons}
 use Rattle.std.proofs.lemmas.List.{drop_all}
-use Rattle.fed_config.specs.Configuration.{AreDomains}
 use Rattle.receipt_core.specs.Acceptance.{Meaning}
 use Rattle.replica_view.specs.HeldTexts.{IsReceiptOfOther}
-use Rattle.replica_view.specs.TrustGraph.{AreGraphLines, IsOtherDomain, IsSeedOfOther}
-use Rattle.replica_view.specs.TrustGraph.{ShowsBrought, ShowsConfigured, ShowsCurrent, ShowsEdge, ShowsVoucher}
+use Rattle.replica_view.specs.TrustGraph.{AreGraphLines, IsPassedReceipt, IsPassedSeed}
+use Rattle.replica_view.specs.TrustGraph.{ShowsBrought, ShowsConfigured, ShowsEdge, ShowsVoucher}
+use Rattle.replica_view.specs.Inside.GraphParts.{AddsCurrents}
 use Rattle.replica_view.specs.Inside.MadeLines.{AddsLinesFor}
 use Rattle.replica_view.proofs.MadeLineFacts.{LinesSoFar, lines_all}
 
@@ -21,16 +21,15 @@ pub slice_lines_all : {A : Type 0} (passed : A → Type 0) (shows : A → List �
 slice_lines_all passed shows xs k old new high so_far = lines_all passed shows xs (drop k xs) xs old new (drop_all k xs high) refl so_far
 
 -- all parts were made
-pub graph_made : (m : Meaning) (chosen : Option (List ℕ)) (domains : List (List ℕ)) (old one two three four five : List (List ℕ)) → old ≡ []
+pub graph_made : (m : Meaning) (chosen : Option (List ℕ)) (old one two three four five : List (List ℕ)) → old ≡ []
     → AddsLinesFor (IsReceiptOfOther chosen) ShowsVoucher m.held old one
-    → AddsLinesFor (IsReceiptOfOther chosen) ShowsBrought m.held one two
-    → AddsLinesFor (IsSeedOfOther chosen) ShowsConfigured m.config.seeds two three
-    → AreDomains m.config domains
-    → AddsLinesFor (IsOtherDomain chosen) (ShowsCurrent m) domains three four
+    → AddsLinesFor (IsPassedReceipt m chosen) ShowsBrought m.held one two
+    → AddsLinesFor (IsPassedSeed m chosen) ShowsConfigured m.config.seeds two three
+    → AddsCurrents m chosen three four
     → AddsLinesFor (IsReceiptOfOther chosen) (ShowsEdge m) m.held four five → AreGraphLines m chosen five
-graph_made m chosen domains old one two three four five empty vouchers brought configured are currents edges =
-    let flat : (((vouchers.made ++ brought.made) ++ configured.made) ++ currents.made) ++ edges.made
-    ≡ vouchers.made ++ (brought.made ++ (configured.made ++ (currents.made ++ edges.made))) = simp append_assoc in
+graph_made m chosen old one two three four five empty vouchers brought configured currents edges =
+    let flat : (((vouchers.made ++ brought.made) ++ configured.made) ++ currents.lines.made) ++ edges.made
+    ≡ vouchers.made ++ (brought.made ++ (configured.made ++ (currents.lines.made ++ edges.made))) = simp append_assoc in
     record {
       vouchers = vouchers.made;
       each_voucher = vouchers.are;
@@ -38,16 +37,16 @@ graph_made m chosen domains old one two three four five empty vouchers brought c
       each_brought = brought.are;
       configured = configured.made;
       each_configured = configured.are;
-      domains = domains;
-      are_domains = are;
-      currents = currents.made;
-      each_current = currents.are;
+      domains = currents.domains;
+      are_domains = currents.are_domains;
+      currents = currents.lines.made;
+      each_current = currents.lines.are;
       edges = edges.made;
       each_edge = edges.are;
       are = edges.now
           ∙ ap (λ z. z ++ edges.made)
-          (currents.now
-          ∙ ap (λ z. z ++ currents.made)
+          (currents.lines.now
+          ∙ ap (λ z. z ++ currents.lines.made)
           (configured.now
           ∙ ap (λ z. z ++ configured.made)
           (brought.now ∙ ap (λ z. z ++ brought.made) (vouchers.now ∙ ap (λ z. z ++ vouchers.made) empty))))

@@ -1,3 +1,4 @@
 pub mod OfferFacts
 pub mod MadeLineFacts
 mod GraphFacts
+mod VoucherFacts

@@ -2,7 +2,8 @@
 -- id; of the lines that speak of one node, a later one adds to the earlier ones and stands in place
 -- of what it says again.
 use Rattle.std.specs.Prelude.{◌≡◌, ℕ, List, [], ◌∷◌, ◌++◌, take, codes, Option, Some, None}
-use Rattle.std.specs.Prelude.{Bool, true, false}
+use Rattle.std.specs.Prelude.{Contains}
+use Rattle.std.specs.Prelude.{true}
 use Rattle.hex.specs.Hex.{encode_lower}
 use Rattle.bundle_doc.specs.Bundle.{Bundle, doc_id_of}
 use Rattle.fed_config.specs.Configuration.{AreDomains}
@@ -99,28 +100,54 @@ pub record ShowsEdge (m : Meaning) (r : Receipt) (line : List ℕ) : Type 0 wher
   pub is_status : IsStatusOf m r status
   pub is : line ≡ edge_line r status
 
+-- ---- what is shown of other domains
+
+-- A receipt that is shown names the document with this id as the one that vouches for it.
+pub record IsShownVoucher (m : Meaning) (chosen : Option (List ℕ)) (id : List ℕ) : Type 0 where
+  pub receipt : Receipt
+  pub held : Contains m.held receipt
+  pub shown : IsReceiptOfOther chosen receipt → ⊥
+  pub is : receipt.voucher.0 ≡ id
+
+-- The document is of another domain than the chosen one, and vouches for no receipt that is shown.
+pub record IsPassedDocument (m : Meaning) (chosen : Option (List ℕ)) (domain : List ℕ)
+    (d : Bundle) : Type 0 where
+  pub other : is_left_aside chosen domain ≡ true
+  pub unnamed : IsShownVoucher m chosen (doc_id_of domain d) → ⊥
+
+abbrev pub IsPassedReceipt : Meaning → Option (List ℕ) → Receipt → Type 0
+IsPassedReceipt m chosen r = IsPassedDocument m chosen r.domain r.document
+
+abbrev pub IsPassedSeed : Meaning → Option (List ℕ) → Seed → Type 0
+IsPassedSeed m chosen s = IsPassedDocument m chosen s.domain s.document
+
+-- It is another domain than the chosen one, and its current document, if there is one, vouches for
+-- no receipt that is shown.
+pub record IsPassedDomain (m : Meaning) (chosen : Option (List ℕ)) (domain : List ℕ)
+    : Type 0 where
+  pub other : is_left_aside chosen domain ≡ true
+  pub unnamed : (d : Bundle) → IsCurrent m domain (Some d)
+      → IsShownVoucher m chosen (doc_id_of domain d) → ⊥
+
 -- ---- the whole
 
-abbrev pub IsSeedOfOther : Option (List ℕ) → Seed → Type 0
-IsSeedOfOther chosen s = is_left_aside chosen s.domain ≡ true
-
-abbrev pub IsOtherDomain : Option (List ℕ) → List ℕ → Type 0
-IsOtherDomain chosen domain = is_left_aside chosen domain ≡ true
-
--- all documents that vouch for held receipts, or that these brought, the configured documents, the
--- current ones, and the receipts; or what of it is of one domain
+-- All receipts, the documents that vouch for them and that they brought, the configured documents
+-- and the current ones. With a domain: the receipts that brought a document of it, and, of the
+-- documents that are of it or vouch for one of these receipts, which a held receipt brought, which
+-- are configured and which are current.
 pub record AreGraphLines (m : Meaning) (chosen : Option (List ℕ))
     (lines : List (List ℕ)) : Type 0 where
   pub vouchers : List (List ℕ)
   pub each_voucher : AreLinesFor (IsReceiptOfOther chosen) ShowsVoucher m.held vouchers
   pub brought : List (List ℕ)
-  pub each_brought : AreLinesFor (IsReceiptOfOther chosen) ShowsBrought m.held brought
+  pub each_brought : AreLinesFor (IsPassedReceipt m chosen) ShowsBrought m.held brought
   pub configured : List (List ℕ)
-  pub each_configured : AreLinesFor (IsSeedOfOther chosen) ShowsConfigured m.config.seeds configured
+  pub each_configured : AreLinesFor (IsPassedSeed m chosen) ShowsConfigured m.config.seeds
+      configured
   pub domains : List (List ℕ)
   pub are_domains : AreDomains m.config domains
   pub currents : List (List ℕ)
-  pub each_current : AreLinesFor (IsOtherDomain chosen) (ShowsCurrent m) domains currents
+  pub each_current : AreLinesFor (IsPassedDomain m chosen) (ShowsCurrent m) domains currents
   pub edges : List (List ℕ)
   pub each_edge : AreLinesFor (IsReceiptOfOther chosen) (ShowsEdge m) m.held edges
   pub are : lines ≡ vouchers ++ (brought ++ (configured ++ (currents ++ edges)))

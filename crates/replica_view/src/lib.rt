@@ -9,6 +9,7 @@ mod listing;
 mod offered;
 mod receipt_json;
 mod receipt_status;
+mod shown_vouchers;
 mod trust_graph;
 
 pub use comparing::write_held_difference;

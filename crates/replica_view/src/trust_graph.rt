@@ -4,17 +4,21 @@ ghost use Rattle.byte_lines.specs.Device.{is_source_fault};
 ghost use Rattle.byte_lines.specs.declared.error.DeviceError.TheVariants.{Io, NoMemory};
 ghost use Rattle.text_lines.specs.TextLines.{BeginsSome, WritesSome};
 ghost use Rattle.replica_view.specs.HeldTexts.{IsReceiptOfOther};
-ghost use Rattle.replica_view.specs.TrustGraph.{AreGraphLines, IsGraphText, IsOtherDomain};
-ghost use Rattle.replica_view.specs.TrustGraph.{IsSeedOfOther, ShowsConfigured, ShowsCurrent};
-ghost use Rattle.replica_view.specs.TrustGraph.{ShowsEdge, graph_head};
-ghost use Rattle.replica_view.specs.Inside.GraphParts.{IsWholeGraph, ShowsPart};
+ghost use Rattle.replica_view.specs.TrustGraph.{AreGraphLines, IsGraphText};
+ghost use Rattle.replica_view.specs.TrustGraph.{IsPassedReceipt, IsPassedSeed, ShowsBrought};
+ghost use Rattle.replica_view.specs.TrustGraph.{ShowsConfigured, ShowsCurrent, ShowsEdge};
+ghost use Rattle.replica_view.specs.TrustGraph.{graph_head};
+ghost use Rattle.replica_view.specs.Inside.GraphParts.{AddsCurrents, IsWholeGraph, ShowsPart};
 ghost use Rattle.replica_view.specs.Inside.MadeLines.{AddsLinesFor, PushesLine};
 ghost use Rattle.replica_view.specs.Inside.Offered.{IsOfferSet};
+ghost use Rattle.replica_view.specs.Inside.ShownVouchers.{IsVoucherSet};
 
 use crate::graph_lines::{brought_line, configured_line, current_line, edge_line, voucher_line};
 use crate::listing::is_left_aside;
 use crate::offered::offer_set;
 use crate::receipt_status::status_of;
+use crate::shown_vouchers::{is_domain_passed, is_receipt_passed, is_seed_passed, voucher_set};
+use bundle_doc::DocId;
 use bundle_view::current;
 use byte_lines::{DeviceError, Sink};
 use closure_core::Closure;
@@ -30,15 +34,14 @@ use text_lines::{TextLine, write_lines};
 pub(crate) enum GraphPart {
     /// The document that vouches for it.
     Voucher,
-    /// The document that it brought.
-    Brought,
-    /// From the one to the other.
+    /// From that one to the document that it brought.
     Edge,
 }
 
 /// Writes which document vouches for which, as a graph in Graphviz's language DOT. With a domain it
-/// has the receipts that brought a document of it, and the configured documents and the current one
-/// of it.
+/// has the receipts that brought a document of it, the documents that vouch for these receipts, and
+/// the configured documents and the current one of the domain. Each document that it has is shown
+/// as what it is, also one of another domain.
 ///
 /// | In the graph | What it is |
 /// |---|---|
@@ -116,6 +119,7 @@ fn graph_lines_of<C: Closure>(
         (option_copied chosen.entry) lines.items) }
 {
     let offered = offer_set(alloc, closure)?;
+    let vouchers = voucher_set(alloc, closure, chosen)?;
     let mut lines = Vec::new(alloc);
     push_part(
         alloc,
@@ -125,22 +129,9 @@ fn graph_lines_of<C: Closure>(
         GraphPart::Voucher,
         &mut lines,
     )?;
-    push_part(
-        alloc,
-        closure,
-        &offered,
-        chosen,
-        GraphPart::Brought,
-        &mut lines,
-    )?;
-    push_configured(alloc, closure.config().seeds(), chosen, &mut lines)?;
-    push_currents(
-        alloc,
-        closure,
-        closure.config().domains(),
-        chosen,
-        &mut lines,
-    )?;
+    push_brought(alloc, closure, chosen, &vouchers, &mut lines)?;
+    push_configured(alloc, closure, chosen, &vouchers, &mut lines)?;
+    push_currents(alloc, closure, chosen, &vouchers, &mut lines)?;
     push_part(
         alloc,
         closure,
@@ -204,7 +195,6 @@ fn part_line<C: Closure>(
 {
     match part {
         GraphPart::Voucher => voucher_line(alloc, receipt),
-        GraphPart::Brought => brought_line(alloc, receipt),
         GraphPart::Edge => edge_of(alloc, closure, offered, receipt),
     }
 }
@@ -223,17 +213,55 @@ fn edge_of<C: Closure>(
     Ok(edge_line(alloc, receipt, status)?)
 }
 
-fn push_configured(
+fn push_brought<C: Closure>(
     alloc: Global,
-    seeds: &[Seed],
+    closure: &C,
     chosen: Option<&TrustDomain>,
+    vouchers: &BTreeSet<DocId>,
     lines: &mut Vec<TextLine>,
 ) -> Result<(), AllocError>
-    ensures { OnOk result (AddsLinesFor (IsSeedOfOther (option_copied chosen.entry))
-        ShowsConfigured seeds.now lines.old.items lines.new.items) }
+    requires { IsVoucherSet (C.state closure.now).meaning (option_copied chosen)
+        vouchers.now }
+    ensures { OnOk result (AddsLinesFor
+        (IsPassedReceipt (C.state closure.now).meaning (option_copied chosen.entry)) ShowsBrought
+        (C.state closure.now).meaning.held lines.old.items lines.new.items) }
 {
-    for seed in seeds {
-        if is_left_aside(chosen, &seed.domain) {
+    for receipt in closure.receipts() {
+        if is_receipt_passed(chosen, vouchers, receipt) {
+            continue;
+        }
+        push_brought_line(alloc, receipt, lines)?;
+    }
+    Ok(())
+}
+
+fn push_brought_line(
+    alloc: Global,
+    receipt: &Receipt,
+    lines: &mut Vec<TextLine>,
+) -> Result<(), AllocError>
+    ensures { OnOk result (PushesLine (ShowsBrought receipt.now) lines.old.items
+        lines.new.items) }
+{
+    lines.push(brought_line(alloc, receipt)?)?;
+    Ok(())
+}
+
+fn push_configured<C: Closure>(
+    alloc: Global,
+    closure: &C,
+    chosen: Option<&TrustDomain>,
+    vouchers: &BTreeSet<DocId>,
+    lines: &mut Vec<TextLine>,
+) -> Result<(), AllocError>
+    requires { IsVoucherSet (C.state closure.now).meaning (option_copied chosen)
+        vouchers.now }
+    ensures { OnOk result (AddsLinesFor
+        (IsPassedSeed (C.state closure.now).meaning (option_copied chosen.entry)) ShowsConfigured
+        (C.state closure.now).meaning.config.seeds lines.old.items lines.new.items) }
+{
+    for seed in closure.config().seeds() {
+        if is_seed_passed(chosen, vouchers, seed) {
             continue;
         }
         push_configured_line(alloc, seed, lines)?;
@@ -256,16 +284,17 @@ fn push_configured_line(
 fn push_currents<C: Closure>(
     alloc: Global,
     closure: &C,
-    domains: &[TrustDomain],
     chosen: Option<&TrustDomain>,
+    vouchers: &BTreeSet<DocId>,
     lines: &mut Vec<TextLine>,
 ) -> Result<(), AllocError>
-    ensures { OnOk result (AddsLinesFor (IsOtherDomain (option_copied chosen.entry))
-        (ShowsCurrent (C.state closure.now).meaning) domains.now lines.old.items
-        lines.new.items) }
+    requires { IsVoucherSet (C.state closure.now).meaning (option_copied chosen)
+        vouchers.now }
+    ensures { OnOk result (AddsCurrents (C.state closure.now).meaning
+        (option_copied chosen.entry) lines.old.items lines.new.items) }
 {
-    for domain in domains {
-        if is_left_aside(chosen, domain) {
+    for domain in closure.config().domains() {
+        if is_domain_passed(closure, chosen, vouchers, domain) {
             continue;
         }
         push_current(alloc, closure, domain, lines)?;
