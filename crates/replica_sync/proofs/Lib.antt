@@ -1,4 +1,3 @@
-mod GiveTakingFacts
 mod ServingFacts
 mod TakingFacts
 pub mod PullingFacts
@@ -15,4 +14,5 @@ mod NewEntryFacts
 mod PulledPieceFacts
 mod PullStepFacts
 mod PullLawFacts
+mod AnswerTakingFacts
 mod StandardFacts

@@ -1,5 +1,6 @@
 -- The steps of sessions, and how pieces are taken
+pub mod NextLines
+pub mod AnswerSteps
 pub mod Taking
 pub mod Serving
 pub mod ServingSteps
-pub mod AnswerSteps

@@ -3,7 +3,7 @@ ghost use Rattle.std.specs.Prelude.{◌≡◌, ◌+◌, ◌-◌, ◌<◌, ◌≤
 ghost use Rattle.std.specs.Prelude.{MatchOption, Some, length};
 ghost use Rattle.replica_texts.specs.FirstLines.{RefusesGiveLine};
 ghost use Rattle.replica_texts.specs.Gives.{Heads};
-ghost use Rattle.replica_sync.specs.Inside.Taking.{IsNextOf};
+ghost use Rattle.replica_sync.specs.Inside.NextLines.{IsNextOf};
 ghost use Rattle.replica_sync.specs.PulledPieces.{Journals};
 
 use crate::new_entry::take_new;

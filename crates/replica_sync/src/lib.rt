@@ -6,9 +6,8 @@
 //! the answers that come so: `answer_lines` takes their lines, and `new_entry` what one of them
 //! says.
 //!
-//! `serving` and `pulling` are whole sessions over a source and a sink; `taking` reads an answer,
-//! line by line. Lines are numbered by how many were read. That number and the bytes that may still
-//! come are below 2^64 together, so no number can pass its type.
+//! `serving` and `pulling` are whole sessions over a source and a sink. `pulling` gives the lines
+//! of its source to the same `answer_lines`.
 #![tactic(auto)]
 
 mod answer_lines;
@@ -19,7 +18,6 @@ mod piece_pulling;
 mod piece_serving;
 mod pulling;
 mod serving;
-mod taking;
 mod text_sink;
 
 pub use line_part::{LinePart, PieceEnd};

@@ -15,8 +15,8 @@ use Rattle.replica_core.specs.declared.error.SyncError.TheVariants.{Refused, NoM
 use Rattle.replica_texts.specs.Entries.{IsNextEntry}
 use Rattle.replica_texts.specs.FirstLines.{RefusesGiveLine}
 use Rattle.replica_texts.specs.Gives.{Heads}
-use Rattle.replica_sync.specs.Inside.Taking.{IsNextOf, RefusesHere}
 use Rattle.replica_texts.specs.Messages.{have_text}
+use Rattle.replica_sync.specs.Inside.NextLines.{IsNextOf, RefusesHere}
 use Rattle.replica_texts.specs.declared.entry_line.Wanted.{Wanted}
 use Rattle.replica_sync.specs.Pieces.{EndsLine, GoesOn, IsOverlong, piece_run}
 use Rattle.replica_sync.specs.declared.answer_lines.AnswerLines.{AnswerLines}
