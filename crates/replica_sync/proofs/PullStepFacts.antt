@@ -26,7 +26,7 @@ use Rattle.replica_sync.proofs.TakingFacts.{wants}
 use Rattle.replica_sync.specs.Pieces.{EndsLine, piece_run}
 use Rattle.replica_sync.specs.PulledPieces.{IsPulledGive, PulledGive, PulledGives, PulledPiece, bytes_pulled, lines_pulled, receipts_pulled}
 use Rattle.replica_sync.specs.PullSessions.{GoesOnPulling, HasLinesOf, HasNoLineOf, HasPartOf, PullsPieces, StopsAnswer}
-use Rattle.replica_sync.specs.PullSessions.{StopsAsking, StopsInGive, refused_where}
+use Rattle.replica_sync.specs.PullSessions.{EndsInFeed, StopsAsking, StopsInGive, refused_where}
 use Rattle.replica_sync.specs.Inside.AnswerSteps.{Asks, EndsAnswer, FailsPulled, LineLeft, PullState, RefusesAnswerLine, RefusesAsking, RefusesEnded}
 use Rattle.replica_sync.specs.Inside.AnswerSteps.{RefusesLong, RefusesPulled, StaysWithin, TakesAnswerLine, TakesPulled, WaitsOn}
 use Rattle.replica_sync.specs.Inside.NextLines.{IsNextOf, RefusesHere}
@@ -665,3 +665,30 @@ memory_refuses true m lines text is some =
 pub no_number : (m : Meaning) (lines : AnswerLines) (text : List ℕ)
     → (lines.is_begun ≡ true → 0 < lines.due.receipts + lines.due.records) → RefusesAnswerLine m lines text NoMemory
 no_number m lines text some = memory_refuses lines.is_begun m lines text refl some
+
+-- ---- which bytes are taken
+
+-- A beginning and then these bytes end in a line feed, so these do.
+feed_last : (old bytes text : List ℕ) → 0 < length bytes → old ++ bytes ≡ text ++ (10 ∷ []) → EndsInFeed bytes
+feed_last [] bytes text some is = (text, is)
+feed_last (b ∷ old) [] text some is = absurd (omega (arith, some))
+feed_last (b ∷ old) (c ∷ bytes) [] some is = absurd (let none = length-append old (c ∷ bytes) in let all = ap length is in omega (arith, none, all))
+feed_last (b ∷ old) (c ∷ bytes) (t ∷ text) some is = feed_last old (c ∷ bytes) text some (cc)
+
+-- all bytes that are taken, or those up to the end of a line
+pub record TakesUpToFeed (piece : List ℕ) (used : ℕ) : Type 0 where
+  pub within : used ≤ length piece
+  pub fewer : used < length piece → EndsInFeed (take used piece)
+
+-- A step takes such bytes.
+pub takes_up_to_feed : (old new : PullState) (piece due : List ℕ) (used : ℕ) → TakesPulled old piece used new due → TakesUpToFeed piece used
+takes_up_to_feed old new piece due used (inl stays) =
+    let all = stays.all in
+    record { within = omega (arith, all); fewer = λ few. absurd (omega (arith, all, few)) }
+takes_up_to_feed old new piece due used (inr ended) =
+    let within = ended.ends.within in
+    let some = ended.ends.some in
+    record {
+      within = within;
+      fewer = λ few. feed_last old.kept (take used piece) ended.text (some_taken used piece some within) ended.ends.parts;
+    }

@@ -1,7 +1,7 @@
 -- A session in which a replica asks about each bucket, and the answers come in pieces; what is held
 -- may change between two of them.
 use Rattle.std.specs.Prelude.{◌≡◌, ◌≢◌, ℕ, ◌+◌, ◌<◌, ◌⊎◌, List, [], ◌∷◌, ◌++◌, length, flat_map}
-use Rattle.std.specs.Prelude.{drop, Option, None, Some, true, false}
+use Rattle.std.specs.Prelude.{◌≤◌, take, drop, Option, None, Some, true, false}
 use Rattle.fed_config.specs.Configuration.{Configuration}
 use Rattle.receipt_core.specs.Acceptance.{Meaning}
 use Rattle.replica_core.specs.Absorbing.{entries_of}
@@ -157,6 +157,21 @@ count_of_pulling pulling = pulling.lines.taken
 -- the last answer was taken to its end
 abbrev pub IsOverPulling : Pulling → Type 0
 IsOverPulling pulling = pulling.lines.bucket ≡ 256
+
+-- their last one is a line feed
+abbrev pub EndsInFeed : List ℕ → Type 0
+EndsInFeed bytes = (before : List ℕ) × (bytes ≡ before ++ (10 ∷ []))
+
+-- why no more bytes are taken: those before end a line, or a have is to be written, or the session
+-- is over
+abbrev pub TakesNoMore : List ℕ → Pulling → Type 0
+TakesNoMore bytes pulling = EndsInFeed bytes
+    ⊎ ((0 < length (due_have pulling)) ⊎ IsOverPulling pulling)
+
+-- So many bytes of the piece are taken: all of them, or no more for such a reason.
+pub record TakesBytes (piece : List ℕ) (new : Pulling) (used : ℕ) : Type 0 where
+  pub within : used ≤ length piece
+  pub fewer : used < length piece → TakesNoMore (take used piece) new
 
 abbrev pub PullsPieces : Option SyncError → AnswerLines → Meaning → List PulledPiece → List ℕ
     → List ℕ → Type 0

@@ -46,7 +46,7 @@ pub struct Pulling {
 impl Pulling {
     ghost use Rattle.replica_sync.specs.PullSessions.{HasPulledPieces, IsOverPulling};
     ghost use Rattle.replica_sync.specs.PullSessions.{count_of_pulling, due_have, kept_answer};
-    ghost use Rattle.replica_sync.specs.PullSessions.{fault_of_pulling};
+    ghost use Rattle.replica_sync.specs.PullSessions.{fault_of_pulling, TakesBytes};
     ghost use Rattle.replica_sync.specs.Inside.AnswerSteps.{Asks, FailsPulled, TakesPulled};
 
     /// The beginning of a session: the have about the first bucket is to be written.
@@ -105,9 +105,7 @@ impl Pulling {
             (C.state closure.new).meaning result ∷ []) written }
         ensures journals { Journals (C.state closure.old).meaning (C.state closure.new).meaning
             journal.old.items journal.new.items }
-        ensures taken { IfOk result (λ used. (used ≤ length piece.now)
-            × ((used ≡ length piece.now) ⊎ ((0 < used)
-            ⊎ ((0 < length (due_have self.new)) ⊎ IsOverPulling self.new)))) }
+        ensures taken { IfOk result (TakesBytes piece.now self.new) }
         ensures waits { 0 < length (due_have self.old) → self.new ≡ self.old }
         ensures fault { MatchResult result (λ _. fault_of_pulling self.new ≡ None)
             (λ e. fault_of_pulling self.new ≡ Some e) }

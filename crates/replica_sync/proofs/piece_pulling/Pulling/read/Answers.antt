@@ -1,4 +1,4 @@
-use Rattle.std.proofs.Common.{◌≡◌, ◌++◌, ◌∙◌, List, ℕ, [], sym, ap, length, refl, take}
+use Rattle.std.proofs.Common.{◌≡◌, ◌++◌, ◌∙◌, inl, List, ℕ, [], sym, ap, length, refl, take}
 use Rattle.std.specs.Prelude.{◌==◌}
 use Rattle.receipt_core.specs.Acceptance.{Meaning}
 use Rattle.replica_sync.specs.PulledPieces.{PulledPiece}
@@ -7,6 +7,7 @@ use Rattle.replica_sync.specs.Inside.AnswerSteps.{PullState}
 use Rattle.replica_sync.specs.declared.piece_pulling.Pulling.{Pulling}
 use Rattle.replica_sync.proofs.ServedPieceFacts.{empty_text, no_fault}
 use Rattle.replica_sync.proofs.PullStepFacts.{below_last, piece_at, pulled_nothing, pulled_still, read_stopped, read_took, taken_more, taken_same}
+use Rattle.replica_sync.proofs.PullStepFacts.{takes_up_to_feed}
 use Rattle.replica_sync.proofs.piece_pulling.Pulling.read.Goals as goal
 
 -- what a call leaves that takes nothing
@@ -83,3 +84,12 @@ returns-in-Err-clause-pulls g c start came written own h =
       taken = taken_more (count_of_pulling self) (count_of_pulling then) came (piece_at c.args.piece.now old new) h.taken c.in-Err.ensures.taken;
       idle = λ stopped. c.in-Err.ensures.quiet;
     }
+
+pub returns-in-Ok-clause-taken : goal.returns-in-Ok-clause-taken
+returns-in-Ok-clause-taken g c =
+    let self = c.args.self.now in
+    let then = c.advance.new.self in
+    let old = state_at (g.C.Closure.state c.args.closure.now).meaning self in
+    let new = state_at (g.C.Closure.state c.advance.new.closure).meaning then in
+    let up_to = takes_up_to_feed old new c.args.piece.now (due_have then) c.in-Ok.used c.in-Ok.ensures.ok in
+    record { within = up_to.within; fewer = λ few. inl (up_to.fewer few) }
