@@ -9,8 +9,9 @@ ghost use Rattle.replica_sync.specs.PulledPieces.{Journals};
 use crate::new_entry::take_new;
 use closure_core::Closure;
 use fed_config::Config;
+use receipt_core::KnownParts;
 use replica_core::SyncError;
-use replica_texts::{Wanted, next_entry, read_give_line};
+use replica_texts::{Wanted, next_entry_with, read_give_line};
 use std::alloc::{AllocError, Global};
 
 /// How many receipts and how many records are still to come of an answer.
@@ -31,6 +32,8 @@ pub(crate) struct AnswerLines {
     due: DueLines,
     // Its last line that is not the first; empty where there is none.
     last: Vec<u8>,
+    // What is known of its lines, and of those of the answers before it.
+    known: KnownParts,
     // How many lines were read, and how many receipts were new.
     read: u64,
     taken: u64,
@@ -65,6 +68,7 @@ impl AnswerLines {
                 records: 0,
             },
             last: Vec::new(alloc),
+            known: KnownParts::new(alloc),
             read: 0,
             taken: 0,
         }
@@ -217,7 +221,14 @@ impl AnswerLines {
             journal.old.items journal.new.items }
     {
         let (wanted, due) = next_of(self.due);
-        let entry = next_entry(alloc, wanted, self.last.as_slice(), number, text)?;
+        let entry = next_entry_with(
+            alloc,
+            &mut self.known,
+            wanted,
+            self.last.as_slice(),
+            number,
+            text,
+        )?;
         let last = text.to_vec(alloc)?;
         let new = take_new(alloc, closure, number, entry, journal)?;
         self.last = last;
