@@ -11,6 +11,8 @@ mod CutFacts
 mod ServedPieceFacts
 mod ServeLawFacts
 mod NewEntryFacts
+mod NewsFacts
+mod PullLinesFacts
 mod PulledPieceFacts
 mod PullStepFacts
 mod PullLawFacts

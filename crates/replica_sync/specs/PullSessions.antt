@@ -17,7 +17,8 @@ use Rattle.replica_sync.specs.Pulling.{FailsFirst, IsGiveAbout}
 use Rattle.replica_texts.specs.Snapshots.{last_of}
 use Rattle.replica_texts.specs.declared.entry_line.Wanted.{Wanted}
 use Rattle.replica_sync.specs.Pieces.{kept_part}
-use Rattle.replica_sync.specs.PulledPieces.{PulledPiece, PulledGive, PulledGives, TakesInTurn}
+use Rattle.replica_sync.specs.PulledPieces.{AreAlone, PulledPiece, PulledGive, PulledGives}
+use Rattle.replica_sync.specs.PulledPieces.{TakesInTurn}
 use Rattle.replica_sync.specs.PulledPieces.{bytes_pulled, haves_asked, haves_pulled}
 use Rattle.replica_sync.specs.PulledPieces.{lines_pulled, receipts_pulled}
 use Rattle.replica_sync.specs.declared.answer_lines.AnswerLines.{AnswerLines}
@@ -168,6 +169,12 @@ abbrev pub TakesNoMore : List ℕ → Pulling → Type 0
 TakesNoMore bytes pulling = EndsInFeed bytes
     ⊎ ((0 < length (due_have pulling)) ⊎ IsOverPulling pulling)
 
+-- So many bytes of the piece are taken: all of them, or those up to the end of an answer, after
+-- which a have is to be written or the session is over.
+pub record TakesLines (piece : List ℕ) (new : Pulling) (used : ℕ) : Type 0 where
+  pub within : used ≤ length piece
+  pub fewer : used < length piece → (0 < length (due_have new)) ⊎ IsOverPulling new
+
 -- So many bytes of the piece are taken: all of them, or no more for such a reason.
 pub record TakesBytes (piece : List ℕ) (new : Pulling) (used : ℕ) : Type 0 where
   pub within : used ≤ length piece
@@ -188,3 +195,14 @@ pub record HasPulledPieces (pulling : Pulling) (start : Meaning) (came : List Pu
       (kept_answer pulling) (written ++ due_have pulling)
   pub taken : count_of_pulling pulling ≡ receipts_pulled came
   pub idle : fault_of_pulling pulling ≢ None → due_have pulling ≡ []
+
+-- The lines of these bytes are taken one after another, as by as many calls, between which nothing
+-- changes: the first began where `old` was held, and after the last one `new` is.
+pub record PullsLines (before : Pulling) (old : Meaning) (bytes : List ℕ) (after : Pulling)
+    (new : Meaning) : Type 0 where
+  pub pieces : List PulledPiece
+  pub whole : bytes_pulled pieces ≡ bytes
+  pub alone : AreAlone old pieces new
+  pub pulls : (start : Meaning) (came : List PulledPiece) (written : List ℕ)
+      → old.config ≡ start.config → HasPulledPieces before start came written
+      → HasPulledPieces after start (came ++ pieces) written

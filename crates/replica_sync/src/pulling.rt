@@ -10,9 +10,11 @@ ghost use Rattle.replica_sync.specs.SessionRun.{session_run, IsWritten};
 ghost use Rattle.replica_sync.specs.Pulling.{Pulls, PullsAll, PullsUpTo, is_pull_io};
 ghost use Rattle.replica_sync.specs.Inside.Taking.{IsBeforeNext, RefusesNextLine, StopsGive};
 ghost use Rattle.replica_sync.specs.Inside.Taking.{TakesGive, TakesNextLine};
+ghost use Rattle.replica_sync.specs.Inside.Waiting.{Waits, held_with};
 ghost use Rattle.replica_core.specs.declared.error.SyncError.TheVariants.{Io, NoMemory};
 
 use crate::answer_lines::AnswerLines;
+use crate::news::News;
 use byte_lines::{Line, LineBuf, Sink, Source};
 use closure_core::Closure;
 use replica_core::{SyncError, have};
@@ -34,8 +36,10 @@ pub struct PullFault {
 /// many receipts are held now that were not.
 ///
 /// Each have has the ids that are held when it is asked. It is written whole before its answer
-/// is read, and what follows the last answer is not taken. Beside what is held, memory is taken for
-/// one have and for a few lines, and never for a number that the other side says.
+/// is read, and what follows the last answer is not taken. The records of distrust of an answer are
+/// taken together, by one merge, where the answer ends. Besides what is held, memory is taken for
+/// one have, for a few lines and for the records of one answer, and never for a number that the
+/// other side says.
 ///
 /// # Errors
 /// What the lines before the fault say stays held, and [`PullFault::taken`] says how many receipts
@@ -149,7 +153,8 @@ fn pull_bucket<C: Closure, R: Source, W: Sink>(
     take_answer(alloc, closure, answers, lines, source)
 }
 
-// Takes the lines of the answer that the stream is to have next, until it ends.
+// Takes the answer that the stream is to have next, until it ends. The records of distrust that it
+// says are taken together.
 fn take_answer<C: Closure, R: Source>(
     alloc: Global,
     closure: &mut C,
@@ -170,47 +175,82 @@ fn take_answer<C: Closure, R: Source>(
     ensures io { IsErrOf result Io → R.has_failed source.new ≡ true }
     ensures fault { R.has_failed source.new ≡ (is_io result || R.has_failed source.old) }
 {
-    let mut new = Vec::new(alloc);
-    'lines: while !take_next(alloc, closure, answers, &mut new, lines, source)? {}
+    let _valid = closure.config();
+    let mut news = News::new(Vec::new(alloc));
+    let taken = take_lines(alloc, closure, answers, &mut news, lines, source);
+    news.settle(closure);
+    taken
+}
+
+// Takes the lines of the answer, until it ends.
+fn take_lines<C: Closure, R: Source>(
+    alloc: Global,
+    closure: &mut C,
+    answers: &mut AnswerLines,
+    news: &mut News,
+    lines: &mut LineBuf,
+    source: &mut R,
+) -> Result<(), SyncError>
+    requires few { answers.old.bucket < 256 }
+    requires none { answers.old.is_begun ≡ false }
+    requires waits { Waits (C.state closure.old).meaning news.old }
+    ensures ok { OnOk result
+        (TakesGive (held_with news.old (C.state closure.old).meaning) answers.old.bucket
+        (stream_of R.remaining lines.old source.old) answers.old.read
+        (held_with news.new (C.state closure.new).meaning)
+        (stream_of R.remaining lines.new source.new) answers.new.read) }
+    ensures refused { IfErr result
+        (StopsGive (held_with news.old (C.state closure.old).meaning) answers.old.bucket
+        (answers.old.read + 1) (stream_of R.remaining lines.old source.old)
+        (held_with news.new (C.state closure.new).meaning)) }
+    ensures next { OnOk result (IsBeforeNext answers.old answers.new) }
+    ensures waits { Waits (C.state closure.new).meaning news.new }
+    ensures io { IsErrOf result Io → R.has_failed source.new ≡ true }
+    ensures fault { R.has_failed source.new ≡ (is_io result || R.has_failed source.old) }
+{
+    'lines: while !take_next(alloc, closure, answers, news, lines, source)? {}
     Ok(())
 }
 
-// Takes the next line, and returns whether its answer ends with it. The lines that are new are put
-// into `new`, which nobody reads here.
+// Takes the next line, and returns whether its answer ends with it. Nobody reads the journal here,
+// so it is emptied.
 fn take_next<C: Closure, R: Source>(
     alloc: Global,
     closure: &mut C,
     answers: &mut AnswerLines,
-    new: &mut Vec<u8>,
+    news: &mut News,
     lines: &mut LineBuf,
     source: &mut R,
 ) -> Result<bool, SyncError>
     requires few { answers.old.bucket < 256 }
+    requires waits { Waits (C.state closure.old).meaning news.old }
     ensures ok { IfOk result (λ whole. TakesNextLine (record {
-      held = (C.state closure.old).meaning;
+      held = held_with news.old (C.state closure.old).meaning;
       lines = answers.old;
       left = stream_of R.remaining lines.old source.old;
     }) (record {
-      held = (C.state closure.new).meaning;
+      held = held_with news.new (C.state closure.new).meaning;
       lines = answers.new;
       left = stream_of R.remaining lines.new source.new;
     }) whole) }
     ensures refused { IfErr result (λ e. RefusesNextLine (record {
-      held = (C.state closure.old).meaning;
+      held = held_with news.old (C.state closure.old).meaning;
       lines = answers.old;
       left = stream_of R.remaining lines.old source.old;
     }) e) }
     ensures same { OnErr result
-        ((C.state closure.new).meaning ≡ (C.state closure.old).meaning) }
+        (held_with news.new (C.state closure.new).meaning
+        ≡ held_with news.old (C.state closure.old).meaning) }
+    ensures waits { Waits (C.state closure.new).meaning news.new }
     ensures falls { IfOk result
         (λ whole. left_of R.budget lines.new source.new
         < left_of R.budget lines.old source.old) }
     ensures io { IsErrOf result Io → R.has_failed source.new ≡ true }
     ensures fault { R.has_failed source.new ≡ (is_io result || R.has_failed source.old) }
 {
-    new.clear();
+    news.empty_journal();
     match lines.next_line(source)? {
-        Line::Text(text) => answers.take(alloc, closure, text, new),
+        Line::Text(text) => answers.take(alloc, closure, text, news),
         Line::TooLong => Err(answers.overlong(alloc)),
         Line::Cut => Err(SyncError::Truncated),
         Line::End => Err(SyncError::Truncated),
