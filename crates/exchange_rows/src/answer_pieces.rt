@@ -58,7 +58,8 @@ fn take_pieces<C: Closure, R: Source, W: Sink>(
     Err(SyncError::Io)
 }
 
-// Each turn but the last takes a line's end, so there are no more turns than bytes.
+// Each turn but the last takes a line's end, so there are no more turns than bytes. Every second
+// turn takes as many lines as it may.
 fn take_piece<C: Closure, W: Sink>(
     alloc: Global,
     closure: &mut C,
@@ -68,8 +69,12 @@ fn take_piece<C: Closure, W: Sink>(
     journal: &mut Vec<u8>,
 ) -> Result<(), SyncError> {
     let mut rest = piece;
-    for _ in 0..piece.len() {
-        let used = pulling.read(alloc, closure, rest, journal)?;
+    for turn in 0..piece.len() {
+        let used = if turn % 2 == 0 {
+            pulling.read(alloc, closure, rest, journal)?
+        } else {
+            pulling.read_lines(alloc, closure, rest, journal)?
+        };
         write_due(pulling, sink)?;
         rest = rest.get(used..).unwrap_or(b"");
     }

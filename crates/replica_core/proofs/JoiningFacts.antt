@@ -1,13 +1,16 @@
 -- What is welcome is taken.
-use Rattle.std.proofs.Common.{◌≡◌, ℕ, zero, suc, ◌+◌, ◌<◌, ◌≤◌, List, [], ◌∷◌, length, get_or, take, drop, refl, sym, ap, ◌∙◌, subst, arith}
+use Rattle.std.proofs.Common.{◌≡◌, inl, inr, ℕ, zero, suc, ◌+◌, ◌<◌, ◌≤◌, List, [], ◌∷◌, length, get_or, take, drop, refl, sym, ap, ◌∙◌, subst, arith}
 use Rattle.std.specs.Prelude.{Contains, Result, Ok, Err, ◌-◌}
+use Rattle.std.specs.List.Sorted.{IsStrictlySortedBy}
+use Rattle.fed_config.specs.Configuration.{Configuration}
 use Rattle.receipt_core.specs.declared.distrust.Distrust.{Distrust}
 use Rattle.receipt_core.specs.Receipt.{Receipt, IsReceipt, receipt_cmp, distrust_cmp, offers_of, pair_of}
 use Rattle.receipt_core.specs.Rising.{with_item, with_items}
 use Rattle.receipt_core.specs.Sets.{AreSets, Always}
 use Rattle.receipt_core.specs.Acceptance.{Meaning, IsMeaning}
 use Rattle.closure_core.specs.Changes.{HeldAndRoom as ClosureState, Takes, TakesDistrust, TakesOk, Distrusts}
-use Rattle.closure_core.specs.Refusals.{offers_count, IsRoomier, RefusesDistrust, RefusesReceipt}
+use Rattle.closure_core.specs.Changes.{HasMergedInRoom}
+use Rattle.closure_core.specs.Refusals.{offers_count, Room, IsRoomier, RefusesDistrust, RefusesReceipt}
 use Rattle.closure_core.specs.declared.error.TakeError.{TakeError}
 use Rattle.closure_core.specs.declared.error.TakeError.TheVariants.{UnknownDomain, WrongEndpoint, Full, NoMemory as NoTakeMemory, ConfigDiffers as OtherConfig}
 use Rattle.closure_core.specs.declared.outcome.Refused.{Refused}
@@ -16,9 +19,11 @@ use Rattle.closure_core.specs.declared.outcome.Taken.TheVariants.{New as TakenNe
 use Rattle.closure_core.specs.declared.outcome.Distrusted.{Distrusted}
 use Rattle.closure_core.specs.declared.outcome.Distrusted.TheVariants.{New as DistrustedNew, Already as DistrustedAlready}
 use Rattle.replica_core.specs.Absorbing.{with_entry, AreWelcome, IsWelcome, of_receipts, of_records, room_for}
+use Rattle.replica_core.specs.Inside.RecordsToo.{HasRecordsToo, only_records}
 use Rattle.replica_core.specs.declared.entry.Entry.TheVariants.{Record, Receipt as AReceipt}
+use Rattle.replica_core.proofs.ContainsFacts.{contains-none}
 use Rattle.replica_core.proofs.JudgeFacts.{take-next, with_items-push}
-use Rattle.replica_core.proofs.PlaceFacts.{with_items-grows}
+use Rattle.replica_core.proofs.PlaceFacts.{always, with_items-grows}
 use Rattle.replica_core.proofs.RoomFacts.{offers-new, offers-grow}
 
 -- What is left from a place on is the item there and what is left after it.
@@ -87,6 +92,73 @@ IsDistrusting-next start now new all i x result sets is so l e room h =
       room = room ∙ so.room;
       welcome = subst (λ (m : Meaning). AreWelcome m (of_records (drop (i + 1) all))) (sym held) welcome.1;
     }
+
+-- ---- records in a closure of their own
+
+-- Those so far are held there, and nothing else is.
+abbrev pub IsCollected : Configuration → Meaning → List Distrust → ℕ → Type 0
+IsCollected c now all i = now ≡ only_records c (take i all)
+
+-- The step of the loop that collects.
+pub IsCollected-next : (c : Configuration) (now new : Meaning) (all : List Distrust) (i : ℕ) (x : Distrust) (done : Distrusted)
+    → AreSets Always distrust_cmp → IsMeaning now → IsCollected c now all i → i < length all → get_or all i x ≡ x
+    → Distrusts now x new done → IsCollected c new all (i + 1)
+IsCollected-next c now new all i x done sets is so l e h =
+    distrusts-held now new x done sets is h ∙ ap (with_entry (Record x)) so
+    ∙ (λ j. record {
+      config = c;
+      held = [];
+      records = sym (ap (λ (xs : List Distrust). with_items distrust_cmp xs []) (take-next all i x l e)
+          ∙ with_items-push distrust_cmp (take i all) [] x) j;
+    })
+
+-- A set with the items of a set of these items is the set with the items.
+twice : (xs set : List Distrust) → AreSets Always distrust_cmp → IsStrictlySortedBy distrust_cmp set
+    → with_items distrust_cmp (with_items distrust_cmp xs []) set ≡ with_items distrust_cmp xs set
+twice xs set sets rises =
+    let own : List Distrust = with_items distrust_cmp xs [] in
+    sets.equal (with_items distrust_cmp own set) (with_items distrust_cmp xs set)
+    (sets.all_rise own set rises) (sets.all_rise xs set rises)
+    (λ a. (
+      λ h. elim ((sets.all_members own set a (always own) (always set)).0 h) [
+        | inl mine ↦ elim ((sets.all_members xs [] a (always xs) tt).0 mine) [
+          | inl has ↦ (sets.all_members xs set a (always xs) (always set)).1 (inl has)
+          | inr none ↦ absurd (contains-none a none)
+        ]
+        | inr old ↦ (sets.all_members xs set a (always xs) (always set)).1 (inr old)
+      ],
+      λ h. elim ((sets.all_members xs set a (always xs) (always set)).0 h) [
+        | inl has ↦ (sets.all_members own set a (always own) (always set)).1
+            (inl ((sets.all_members xs [] a (always xs) tt).1 (inl has)))
+        | inr old ↦ (sets.all_members own set a (always own) (always set)).1 (inr old)
+      ],
+    ))
+
+-- A merge with such a closure holds its records besides.
+pub merged-records : (old new : ClosureState) (other : Meaning) (records : List Distrust) (n : ℕ) → AreSets Always distrust_cmp
+    → IsMeaning old.meaning → other ≡ only_records old.meaning.config records → HasMergedInRoom old other new n
+    → HasRecordsToo old records new
+merged-records old new other records n sets is only h =
+    let both : HasMergedInRoom old (only_records old.meaning.config records) new n =
+    subst (λ (m : Meaning). HasMergedInRoom old m new n) only h in
+    let count : length old.meaning.held ≡ length old.meaning.held + n = both.merged.count in
+    let receipts = both.receipts in
+    let offers = both.offers in
+    record {
+      meaning = both.merged.meaning ∙ (λ j. record old.meaning {
+        records = twice records old.meaning.records sets is.records_rising j;
+      });
+      room = record { receipts = omega (arith, receipts, count); offers = omega (arith, offers) };
+    }
+
+-- Room that has grown since is enough for what there was room for before.
+pub still-roomy : (wanted old new : Room) → IsRoomier wanted old → IsRoomier old new → IsRoomier wanted new
+still-roomy wanted old new before grown =
+    let b = before.receipts in
+    let g = grown.receipts in
+    let c = before.offers in
+    let h = grown.offers in
+    record { receipts = omega (arith, b, g); offers = omega (arith, c, h) }
 
 -- ---- one receipt
 

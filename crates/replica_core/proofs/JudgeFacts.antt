@@ -83,7 +83,7 @@ unknown c domain None at e = at
 unknown c domain (Some n) at e = absurd (cc)
 
 -- A record of a known domain is welcome where it is held or there is a place.
-record-welcome : (m : Meaning) (x : Distrust) → HasDomain m.config x.domain
+pub record-welcome : (m : Meaning) (x : Distrust) → HasDomain m.config x.domain
     → Contains m.records x ⊎ (length m.records < 4096) → (why : TakeError) → why ≢ NoTakeMemory
     → RefusesEntry m (Record x) why → ⊥
 record-welcome m x domain place UnknownDomain ample h = h domain

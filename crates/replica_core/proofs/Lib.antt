@@ -16,9 +16,9 @@ mod Settling
 mod HaveFacts
 mod IdFacts
 mod LentGiveFacts
-mod PlaceFacts
+pub mod PlaceFacts
 mod EarlierFacts
-mod JudgeFacts
+pub mod JudgeFacts
 mod RoomFacts
 mod JoiningFacts
 mod AbsorbFacts

@@ -161,7 +161,8 @@ fn take_whole<C: Closure>(closure: &mut C, give: Give) -> usize
         ≡ length (C.state closure.old).meaning.held + result }
 {
     let held = closure.receipt_count();
-    distrust_all(closure, give.distrusts());
+    let alloc = *give.receipts.allocator();
+    distrust_all(alloc, closure, give.distrusts());
     take_all(closure, give.receipts);
     closure.receipt_count() - held
 }

@@ -33,5 +33,6 @@ pub use error::SyncError;
 pub use event::Event;
 pub use give::Give;
 pub use have_message::Have;
+pub use joining::distrust_all;
 pub use lent_answer::{Answer, Lacking};
 pub use world::run_world;

@@ -1,11 +1,12 @@
 //! Journals, written.
-ghost use Rattle.std.specs.Prelude.{◌≡◌, ◌++◌, IfOk, OnOk, OnErr};
-ghost use Rattle.replica_texts.specs.Entries.{entry_line};
+ghost use Rattle.std.specs.Prelude.{◌≡◌, ◌++◌, OnOk, OnErr};
+ghost use Rattle.replica_core.specs.declared.entry.Entry.TheVariants.{Record};
 ghost use Rattle.replica_texts.specs.Snapshots.{ended};
 ghost use Rattle.replica_texts.specs.SoleLines.{written_header};
 ghost use Rattle.replica_journal.specs.Journal.{entry_text};
 
 use fed_config::Config;
+use receipt_core::Distrust;
 use replica_core::Entry;
 use replica_texts::write_first_line;
 use std::alloc::{AllocError, Global};
@@ -30,17 +31,21 @@ pub fn push_entry(alloc: Global, entry: &Entry, out: &mut Vec<u8>) -> Result<(),
     ensures ok { OnOk result (out.new.items ≡ out.old.items ++ entry_text entry.now) }
     ensures refused { OnErr result (out.new.items ≡ out.old.items) }
 {
-    let text = line_of(alloc, entry)?;
-    push_ended(out, text)
+    match entry {
+        Entry::Record(distrust) => push_record(alloc, distrust, out),
+        Entry::Receipt(receipt) => push_ended(out, receipt.write_line(alloc)?),
+    }
 }
 
-fn line_of(alloc: Global, entry: &Entry) -> Result<Vec<u8>, AllocError>
-    ensures { IfOk result (λ text. text.items ≡ entry_line entry.now) }
+/// Appends the line of a record of distrust, with its line feed.
+///
+/// # Errors
+/// Memory ran out. Nothing is appended.
+pub fn push_record(alloc: Global, distrust: &Distrust, out: &mut Vec<u8>) -> Result<(), AllocError>
+    ensures ok { OnOk result (out.new.items ≡ out.old.items ++ entry_text (Record distrust.now)) }
+    ensures refused { OnErr result (out.new.items ≡ out.old.items) }
 {
-    match entry {
-        Entry::Record(distrust) => distrust.write_line(alloc),
-        Entry::Receipt(receipt) => receipt.write_line(alloc),
-    }
+    push_ended(out, distrust.write_line(alloc)?)
 }
 
 // Appends the text and a line feed, or nothing.

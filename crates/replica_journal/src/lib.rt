@@ -7,4 +7,4 @@ mod journal_writer;
 pub mod laws;
 
 pub use journal_reader::read_journal;
-pub use journal_writer::{begin_journal, push_entry};
+pub use journal_writer::{begin_journal, push_entry, push_record};

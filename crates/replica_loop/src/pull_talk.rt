@@ -6,9 +6,6 @@ use closure_core::Closure;
 use replica_sync::{Pulling, SyncError};
 use std::alloc::{AllocError, Global};
 
-/// How many lines are taken at most in one turn: no more can come in one read.
-const MOST_LINES: usize = 65_536;
-
 /// A connection on which this replica asks, and takes what is answered.
 #[derive(Drop)]
 pub(crate) struct PullTalk {
@@ -60,17 +57,15 @@ impl PullTalk {
         self.rest.keep(&piece[..room])
     }
 
-    /// Takes what is left of the bytes that came, up to the end of an answer.
+    /// Takes what is left of the bytes that came, up to the end of an answer. Records of distrust
+    /// among them are taken together.
     pub(crate) fn go_on<C: Closure>(
         &mut self,
         alloc: Global,
         held: &mut HeldState<C>,
     ) -> Result<(), Ending> {
-        for _ in 0..MOST_LINES {
-            if self.rest.is_empty() || !self.can_take() {
-                break;
-            }
-            self.take_line(alloc, held)?;
+        if !self.rest.is_empty() && self.can_take() {
+            self.take_lines(alloc, held)?;
         }
         if self.has_too_many {
             return Err(Ending::TooManyBytes);
@@ -78,7 +73,7 @@ impl PullTalk {
         Ok(())
     }
 
-    fn take_line<C: Closure>(
+    fn take_lines<C: Closure>(
         &mut self,
         alloc: Global,
         held: &mut HeldState<C>,
@@ -86,7 +81,7 @@ impl PullTalk {
         let piece = self.rest.left();
         let used = self
             .pulling
-            .read(alloc, &mut held.closure, piece, &mut held.fresh)?;
+            .read_lines(alloc, &mut held.closure, piece, &mut held.fresh)?;
         self.rest.took(used);
         Ok(())
     }

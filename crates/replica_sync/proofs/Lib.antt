@@ -1,4 +1,3 @@
-mod GiveTakingFacts
 mod ServingFacts
 mod TakingFacts
 pub mod PullingFacts
@@ -12,7 +11,10 @@ mod CutFacts
 mod ServedPieceFacts
 mod ServeLawFacts
 mod NewEntryFacts
+mod NewsFacts
+mod PullLinesFacts
 mod PulledPieceFacts
 mod PullStepFacts
 mod PullLawFacts
+mod AnswerTakingFacts
 mod StandardFacts

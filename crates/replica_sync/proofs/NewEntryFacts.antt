@@ -18,7 +18,7 @@ use Rattle.replica_texts.specs.Entries.{IsNextEntry}
 use Rattle.replica_texts.specs.SoleLines.{IsWellFormed}
 use Rattle.replica_texts.specs.declared.entry_line.Wanted.{Wanted}
 use Rattle.replica_texts.specs.declared.entry_line.Wanted.TheVariants.{Records, Receipts, Either}
-use Rattle.replica_sync.specs.Inside.AnswerSteps.{IsHeldEntry, IsNamed, RefusesUnheld}
+use Rattle.replica_sync.specs.Inside.NewEntries.{IsHeldEntry, IsNamed, RefusesUnheld}
 
 -- What is held already changes nothing.
 pub held_entry : (m : Meaning) (entry : Entry) → AreSets IsReceipt receipt_cmp → AreSets Always distrust_cmp → IsMeaning m

@@ -18,7 +18,6 @@ use Rattle.replica_texts.specs.Entries.{RefusesEntryLine, placed_line}
 use Rattle.replica_texts.specs.FirstLines.{Expected, RefusesGiveLine}
 use Rattle.replica_sync.specs.Pulling.{IsGiveAbout}
 use Rattle.replica_texts.specs.Gives.{GiveBegins, Heads, RefusesHead, RefusesNextEntry, Wants, content_lines, next_entry_number}
-use Rattle.replica_sync.specs.Inside.Taking.{IsNextOf, RefusesHere}
 use Rattle.replica_texts.specs.Messages.{have_text}
 use Rattle.replica_texts.specs.Snapshots.{ended, last_of, text_of_lines}
 use Rattle.replica_texts.specs.declared.entry_line.Wanted.{Wanted}
@@ -27,9 +26,10 @@ use Rattle.replica_sync.proofs.TakingFacts.{wants}
 use Rattle.replica_sync.specs.Pieces.{EndsLine, piece_run}
 use Rattle.replica_sync.specs.PulledPieces.{IsPulledGive, PulledGive, PulledGives, PulledPiece, bytes_pulled, lines_pulled, receipts_pulled}
 use Rattle.replica_sync.specs.PullSessions.{GoesOnPulling, HasLinesOf, HasNoLineOf, HasPartOf, PullsPieces, StopsAnswer}
-use Rattle.replica_sync.specs.PullSessions.{StopsAsking, StopsInGive, refused_where}
+use Rattle.replica_sync.specs.PullSessions.{EndsInFeed, StopsAsking, StopsInGive, refused_where}
 use Rattle.replica_sync.specs.Inside.AnswerSteps.{Asks, EndsAnswer, FailsPulled, LineLeft, PullState, RefusesAnswerLine, RefusesAsking, RefusesEnded}
 use Rattle.replica_sync.specs.Inside.AnswerSteps.{RefusesLong, RefusesPulled, StaysWithin, TakesAnswerLine, TakesPulled, WaitsOn}
+use Rattle.replica_sync.specs.Inside.NextLines.{IsNextOf, RefusesHere}
 use Rattle.replica_sync.specs.declared.answer_lines.AnswerLines.{AnswerLines}
 use Rattle.replica_sync.proofs.CutFacts.{ended_split}
 use Rattle.replica_sync.proofs.ServedPieceFacts.{overlong_line}
@@ -300,18 +300,18 @@ abbrev pub wish_of : Meaning → ℕ → Option Expected
 wish_of m bucket = Some (record { config = m.config; bucket = bucket })
 
 -- A fault of the first line is why the answer is not read.
-first_fault : (m : Meaning) (bucket : ℕ) (bytes rest text : List ℕ) (e : SyncError) → HasLine (Some bytes) (Some rest) text → length text ≤ line_limit
-    → RefusesGiveLine (wish_of m bucket) text e → RefusesHead (wish_of m bucket) (Some bytes) (Some rest) e
-first_fault m bucket bytes rest text BadHeader is short why = record { text = text; is = is; cause = inr (short, why) }
-first_fault m bucket bytes rest text ConfigDiffers is short why = record { text = text; is = is; cause = inr (short, why) }
-first_fault m bucket bytes rest text VersionDiffers is short why = record { text = text; is = is; cause = inr (short, why) }
-first_fault m bucket bytes rest text (NotCanonical n) is short why = absurd why
-first_fault m bucket bytes rest text (NotRising n) is short why = absurd why
-first_fault m bucket bytes rest text BadCount is short why = absurd why
-first_fault m bucket bytes rest text Truncated is short why = absurd why
-first_fault m bucket bytes rest text (Refused n cause) is short why = absurd why
-first_fault m bucket bytes rest text Io is short why = absurd why
-first_fault m bucket bytes rest text NoMemory is short why = tt
+pub first_fault : (m : Meaning) (bucket : ℕ) (stream after : Option (List ℕ)) (text : List ℕ) (e : SyncError) → HasLine stream after text
+    → length text ≤ line_limit → RefusesGiveLine (wish_of m bucket) text e → RefusesHead (wish_of m bucket) stream after e
+first_fault m bucket stream after text BadHeader is short why = record { text = text; is = is; cause = inr (short, why) }
+first_fault m bucket stream after text ConfigDiffers is short why = record { text = text; is = is; cause = inr (short, why) }
+first_fault m bucket stream after text VersionDiffers is short why = record { text = text; is = is; cause = inr (short, why) }
+first_fault m bucket stream after text (NotCanonical n) is short why = absurd why
+first_fault m bucket stream after text (NotRising n) is short why = absurd why
+first_fault m bucket stream after text BadCount is short why = absurd why
+first_fault m bucket stream after text Truncated is short why = absurd why
+first_fault m bucket stream after text (Refused n cause) is short why = absurd why
+first_fault m bucket stream after text Io is short why = absurd why
+first_fault m bucket stream after text NoMemory is short why = tt
 
 -- what is wrong with a line of an answer of which this content was taken
 abbrev pub RefusesAt : Meaning → ℕ → State → Wanted → List ℕ → SyncError → Type 0
@@ -336,7 +336,7 @@ later_fault m first count distrusts content wanted further after text Io w is h 
 later_fault m first count distrusts content wanted further after text NoMemory w is h = tt
 
 -- The same where memory may have run out besides.
-here_fault : (m : Meaning) (first count distrusts : ℕ) (content : State) (wanted : Wanted) (further after : Option (List ℕ)) (last text : List ℕ)
+pub here_fault : (m : Meaning) (first count distrusts : ℕ) (content : State) (wanted : Wanted) (further after : Option (List ℕ)) (last text : List ℕ)
     (number : ℕ) (e : SyncError) → Wants count distrusts content wanted → HasLine further after text → last ≡ last_of (content_lines content)
     → number ≡ next_entry_number first content → RefusesHere wanted m last number text e
     → RefusesNextEntry (refused_where m first content) count distrusts content further after e
@@ -434,7 +434,7 @@ none_stops old config before later piece more after e none (inr (inr ended)) =
           ∙ ended_split ended.used old.kept piece (more ++ (10 ∷ after)) ended.text ended.ends.parts in
           inl (record {
             after = Some rest;
-            cause = first_fault old.held old.lines.bucket (stream_at (bytes_pulled later) piece more after) rest ended.text e
+            cause = first_fault old.held old.lines.bucket (Some (stream_at (bytes_pulled later) piece more after)) (Some rest) ended.text e
                 (ended.ends.plain, parts) ended.ends.short first.cause;
             none = refl;
           })
@@ -665,3 +665,30 @@ memory_refuses true m lines text is some =
 pub no_number : (m : Meaning) (lines : AnswerLines) (text : List ℕ)
     → (lines.is_begun ≡ true → 0 < lines.due.receipts + lines.due.records) → RefusesAnswerLine m lines text NoMemory
 no_number m lines text some = memory_refuses lines.is_begun m lines text refl some
+
+-- ---- which bytes are taken
+
+-- A beginning and then these bytes end in a line feed, so these do.
+feed_last : (old bytes text : List ℕ) → 0 < length bytes → old ++ bytes ≡ text ++ (10 ∷ []) → EndsInFeed bytes
+feed_last [] bytes text some is = (text, is)
+feed_last (b ∷ old) [] text some is = absurd (omega (arith, some))
+feed_last (b ∷ old) (c ∷ bytes) [] some is = absurd (let none = length-append old (c ∷ bytes) in let all = ap length is in omega (arith, none, all))
+feed_last (b ∷ old) (c ∷ bytes) (t ∷ text) some is = feed_last old (c ∷ bytes) text some (cc)
+
+-- all bytes that are taken, or those up to the end of a line
+pub record TakesUpToFeed (piece : List ℕ) (used : ℕ) : Type 0 where
+  pub within : used ≤ length piece
+  pub fewer : used < length piece → EndsInFeed (take used piece)
+
+-- A step takes such bytes.
+pub takes_up_to_feed : (old new : PullState) (piece due : List ℕ) (used : ℕ) → TakesPulled old piece used new due → TakesUpToFeed piece used
+takes_up_to_feed old new piece due used (inl stays) =
+    let all = stays.all in
+    record { within = omega (arith, all); fewer = λ few. absurd (omega (arith, all, few)) }
+takes_up_to_feed old new piece due used (inr ended) =
+    let within = ended.ends.within in
+    let some = ended.ends.some in
+    record {
+      within = within;
+      fewer = λ few. feed_last old.kept (take used piece) ended.text (some_taken used piece some within) ended.ends.parts;
+    }

@@ -1,5 +1,5 @@
 -- Pieces of a session that pulls.
-use Rattle.std.proofs.Common.{◌≡◌, ℕ, ◌+◌, ◌-◌, inl, inr, List, [], ◌∷◌, ◌++◌, length, map}
+use Rattle.std.proofs.Common.{◌≡◌, ℕ, ◌+◌, ◌-◌, inl, inr, List, [], ◌∷◌, ◌++◌, length}
 use Rattle.std.proofs.Common.{Some, refl, sym, ap, ◌∙◌, subst, append_assoc, append-nil, length-append, arith}
 use Rattle.std.specs.List.{flat_map}
 use Rattle.std.proofs.lemmas.Grind.{flat_map-append}
@@ -14,7 +14,7 @@ use Rattle.replica_core.specs.declared.entry.Entry.TheVariants.{Record, Receipt 
 use Rattle.replica_texts.specs.Messages.{give_header_of, give_header_text, give_text, have_text}
 use Rattle.replica_texts.specs.FirstLines.{IsGiveHeader}
 use Rattle.replica_texts.specs.Entries.{IsNextEntry}
-use Rattle.replica_texts.specs.Gives.{GiveBegins, Heads, content_lines}
+use Rattle.replica_texts.specs.Gives.{GiveBegins, Heads, IsBegun, content_lines}
 use Rattle.replica_texts.specs.Inside.Gathering.{pushed}
 use Rattle.replica_sync.specs.Pulling.{IsGiveAbout}
 use Rattle.replica_texts.specs.Snapshots.{ended, last_of, text_of_lines}
@@ -160,7 +160,7 @@ part_within config lines before later rest c quiet (inr some) = inr (record {
 -- ---- a line ends
 
 -- One line more, with its line feed, ends the text.
-text_pushed : (lines : List (List ℕ)) (text : List ℕ) → text_of_lines (lines ++ text ∷ []) ≡ text_of_lines lines ++ ended text
+pub text_pushed : (lines : List (List ℕ)) (text : List ℕ) → text_of_lines (lines ++ text ∷ []) ≡ text_of_lines lines ++ ended text
 text_pushed lines text =
     flat_map-append ended lines (text ∷ []) ∙ ap (λ (t : List ℕ). text_of_lines lines ++ t) (append-nil (ended text))
 
@@ -281,6 +281,27 @@ header_is config bucket first count distrusts content h receipts records =
     let number = sym h.records ∙ ap Some (sym records) in
     λ i. record { bucket = h.wanted.about i; config = h.own i; count = counts i; distrusts = number i; format = h.supported.0 i; buckets = h.supported.1 i }
 
+-- A first line, and the lines of the content that it announces, are an answer.
+pub give_whole : (config : Configuration) (bucket : ℕ) (first : List ℕ) (count distrusts : ℕ) (content : State)
+    → Heads (Some (record { config = config; bucket = bucket })) first count distrusts → IsBegun count distrusts content
+    → length content.held ≡ count → length content.records ≡ distrusts
+    → IsGiveAbout config bucket (give_with config bucket content)
+    × (ended first ++ text_of_lines (content_lines content) ≡ give_text (give_with config bucket content))
+give_whole config bucket first count distrusts content heads begun receipts records =
+    let same = header_is config bucket first count distrusts content heads receipts records in (
+      record {
+        own = refl;
+        about = refl;
+        form = record {
+          header = subst IsGiveHeader same heads.wanted.line.is;
+          valid = begun.valid;
+          rising = begun.rising;
+        };
+      },
+      ap (λ (t : List ℕ). ended t ++ text_of_lines (content_lines content)) (heads.wanted.line.spelt ∙ ap give_header_text same)
+          ∙ ap (λ (t : List ℕ). ended (give_header_text (give_header_of (give_with config bucket content))) ++ t) (text_of_content content),
+    )
+
 -- All lines that the first one announces are the answer.
 pub answer_whole : (config : Configuration) (bucket before : ℕ) (left : LineLeft) (number : ℕ) (bytes : List ℕ) (pieces : List PulledPiece)
     → (came : LinesCame config bucket before left number bytes pieces) → left.receipts ≡ 0 → left.records ≡ 0
@@ -292,18 +313,5 @@ answer_whole config bucket before left number bytes pieces came none no_records 
     let records_due = came.records in
     let receipts : length content.held ≡ came.count = omega (arith, due, none) in
     let records : length content.records ≡ came.distrusts = omega (arith, records_due, no_records) in
-    let same = header_is config bucket first came.count came.distrusts content came.begins.heads receipts records in (
-      record {
-        own = refl;
-        about = refl;
-        form = record {
-          header = subst IsGiveHeader same came.begins.heads.wanted.line.is;
-          valid = came.begins.begun.valid;
-          rising = came.begins.begun.rising;
-        };
-      },
-      came.begins.text
-          ∙ append-nil (ended first ++ text_of_lines (content_lines content))
-          ∙ ap (λ (t : List ℕ). ended t ++ text_of_lines (content_lines content)) (came.begins.heads.wanted.line.spelt ∙ ap give_header_text same)
-          ∙ ap (λ (t : List ℕ). ended (give_header_text (give_header_of (give_with config bucket content))) ++ t) (text_of_content content),
-    )
+    let is = give_whole config bucket first came.count came.distrusts content came.begins.heads came.begins.begun receipts records in
+    (is.0, came.begins.text ∙ append-nil (ended first ++ text_of_lines (content_lines content)) ∙ is.1)

@@ -1,10 +1,10 @@
 -- The answers of a session, one after another.
-use Rattle.std.proofs.Common.{◌≡◌, ◌∙◌, ℕ, ◌+◌, ◌<◌, ◌≤◌, List, [], ◌∷◌, ◌++◌, length, refl, sym, ap, subst, arith}
-use Rattle.std.proofs.Common.{append-nil, length-append, Option, None, Some}
+use Rattle.std.proofs.Common.{◌≡◌, ◌∙◌, ℕ, ◌+◌, ◌<◌, ◌≤◌, List, [], ◌∷◌, ◌++◌, length, sym, ap, subst, arith}
+use Rattle.std.proofs.Common.{append-nil, length-append, Option}
 use Rattle.std.specs.Prelude.{IfErr, OnOk, Result, Ok, Err}
 use Rattle.std.specs.List.{flat_map}
 use Rattle.std.specs.Io.KnownBytes.{Appends, Consumes}
-use Rattle.std.proofs.KnownBytes.{Appends-trans, Consumes-nil}
+use Rattle.std.proofs.KnownBytes.{Appends-trans}
 use Rattle.std.proofs.lemmas.Grind.{flat_map-append}
 use Rattle.std.proofs.lemmas.List.{take_all}
 use Rattle.std.proofs.lemmas.List.Sums.{fold-append}
@@ -23,7 +23,7 @@ use Rattle.replica_core.specs.declared.error.SyncError.TheVariants.{Refused, Io,
 use Rattle.replica_sync.specs.SessionRun.{session_run, IsWritten}
 use Rattle.replica_texts.proofs.SnapshotFacts.{consumes_both}
 use Rattle.replica_texts.specs.Messages.{have_text, give_text}
-use Rattle.replica_sync.specs.Pulling.{AreGives, IsGiveAbout, PullsAll, PullsUpTo, Session, after_gives, line_count, have_in, haves_of}
+use Rattle.replica_sync.specs.Pulling.{AreGives, IsGiveAbout, PullsAll, PullsUpTo, after_gives, line_count, have_in, haves_of}
 use Rattle.replica_sync.specs.Inside.Taking.{AskedUpTo, StopsGive, TakesGive}
 use Rattle.replica_texts.proofs.WrittenPieceFacts.{begins-second}
 

@@ -1,32 +1,24 @@
 -- The lines of an answer, taken one by one.
-use Rattle.std.proofs.Common.{◌≡◌, ℕ, ◌+◌, List, [], ◌∷◌, ◌++◌, length, refl, sym, ap, ◌∙◌, subst, arith, length-append, Option, None, Some}
-use Rattle.std.specs.Io.KnownBytes.{Consumes}
+use Rattle.std.proofs.Common.{◌≡◌, ℕ, ◌+◌, List, [], ◌∷◌, ◌++◌, length, refl, sym, ap, ◌∙◌, subst, arith, length-append}
 use Rattle.std.specs.List.Sorted.{IsStrictlySortedBy}
 use Rattle.receipt_core.specs.Receipt.{IsReceipt, IsDistrust, receipt_cmp, distrust_cmp}
 use Rattle.receipt_core.specs.Rising.{with_items}
 use Rattle.receipt_core.specs.Acceptance.{Meaning}
-use Rattle.byte_lines.specs.Lines.{HasLine}
 use Rattle.replica_core.specs.State.{State, no_state, meaning_of_state}
-use Rattle.replica_core.specs.Session.{state_of}
-use Rattle.std.proofs.KnownBytes.{Consumes-nil}
 use Rattle.replica_core.proofs.RisingListFacts.{rising_nil}
-use Rattle.replica_texts.specs.Snapshots.{last_of, text_of_lines}
-use Rattle.replica_texts.specs.Entries.{IsNextEntry, IsWanted, RefusesEntryLine, entry_line, placed_line}
-use Rattle.replica_texts.specs.Inside.EntrySteps.{TakesEntryText}
+use Rattle.replica_texts.specs.Snapshots.{last_of}
+use Rattle.replica_texts.specs.Entries.{IsNextEntry, IsWanted}
 use Rattle.replica_core.specs.Absorbing.{with_entry}
 use Rattle.replica_core.specs.declared.entry.Entry.{Entry}
 use Rattle.replica_core.specs.declared.entry.Entry.TheVariants.{Record, Receipt as AReceipt}
 use Rattle.replica_texts.specs.declared.entry_line.Wanted.{Wanted}
 use Rattle.replica_texts.specs.declared.entry_line.Wanted.TheVariants.{Records, Receipts, Either}
-use Rattle.replica_core.specs.declared.error.SyncError.{SyncError}
-use Rattle.replica_core.specs.declared.error.SyncError.TheVariants.{BadHeader, ConfigDiffers, VersionDiffers, NotCanonical, NotRising, BadCount, Truncated}
-use Rattle.replica_core.specs.declared.error.SyncError.TheVariants.{Refused, Io, NoMemory}
 use Rattle.replica_texts.proofs.HeldFacts.{text_cmp, last_pushed}
-use Rattle.replica_texts.specs.Gives.{content_lines, IsBegun, IsContent, RefusesNextEntry, Wants, next_entry_number}
+use Rattle.replica_texts.specs.Gives.{content_lines, IsBegun, IsContent, Wants}
 use Rattle.replica_texts.specs.Inside.Gathering.{pushed}
-use Rattle.replica_sync.specs.Pulling.{refused_line}
-use Rattle.replica_sync.specs.Inside.Taking.{meaning_gained, HasNotTaken, HasTakenPart, IsNextOf, RefusesTakingLine, StopsWithin, TakenSoFar, TakesNext}
-use Rattle.replica_texts.proofs.ContentFacts.{HasPlace, all_pushed, consumes_one, joined_one, lines_pushed, rising_pushed}
+use Rattle.replica_sync.specs.Inside.Taking.{meaning_gained}
+use Rattle.replica_sync.specs.Inside.NextLines.{IsNextOf}
+use Rattle.replica_texts.proofs.ContentFacts.{HasPlace, all_pushed, joined_one, lines_pushed, rising_pushed}
 
 -- ---- what is held
 
@@ -45,28 +37,6 @@ gained_pushed old content (AReceipt r) =
     })) (sym (joined_one receipt_cmp content.held old.held r))
 
 -- ---- so much of an answer
-
--- Before the first line nothing is taken.
-pub so_far_none : (old : Meaning) (stream : Option (List ℕ)) (count distrusts first : ℕ) (last : List ℕ) → last ≡ []
-    → TakenSoFar old stream count distrusts first count distrusts old stream last first
-so_far_none old stream count distrusts first last none = record {
-  content = no_state;
-  taken = record {
-    begun = record {
-      valid = record { receipts = tt; records = tt };
-      records = omega arith;
-      receipts = omega arith;
-      order = λ h. refl;
-      rising = rising_nil text_cmp;
-    };
-    meaning = refl;
-    text = Consumes-nil stream;
-  };
-  last_is = none;
-  receipts_due = omega arith;
-  records_due = omega arith;
-  read_is = omega arith;
-}
 
 -- The line that comes next by the numbers is the one that is wanted.
 pub wants : (wanted : Wanted) (count distrusts : ℕ) (content : State) (receipts records receipts_then records_then : ℕ)
@@ -147,65 +117,6 @@ counted Receipts (AReceipt r) content receipts records receipts_then records_the
     record { held = omega (arith, longer); records_held = omega arith; one_more = omega (arith, longer) }
 counted Either entry content receipts records receipts_then records_then is h = absurd h
 
--- One line more that says an entry makes one entry more that is taken.
-taken_pushed : (wanted : Wanted) (old : Meaning) (stream : Option (List ℕ)) (count distrusts : ℕ) (content : State)
-    (now new : Meaning) (left after : Option (List ℕ)) (text : List ℕ) (number : ℕ)
-    → HasTakenPart old stream count distrusts content now left → Wants count distrusts content wanted
-    → HasLine left after text
-    → (taken : TakesEntryText wanted now (last_of (content_lines content)) text new number)
-    → HasTakenPart old stream count distrusts (pushed taken.entry content) new after
-taken_pushed wanted old stream count distrusts content now new left after text number so_far w is taken =
-    let place = has_place wanted taken.entry count distrusts content taken.next.is.is so_far.begun w in
-    let lines : content_lines (pushed taken.entry content) ≡ content_lines content ++ text ∷ [] =
-    lines_pushed taken.entry content place ∙ ap (λ (t : List ℕ). content_lines content ++ t ∷ []) (sym taken.next.is.spelt) in
-    let rising : IsStrictlySortedBy text_cmp (content_lines (pushed taken.entry content)) =
-    subst (IsStrictlySortedBy text_cmp) (sym lines) (rising_pushed (content_lines content) text so_far.begun.rising taken.next.above) in
-    record {
-      begun = begun_pushed wanted taken.entry count distrusts content taken.next.is.is so_far.begun w rising;
-      meaning = taken.taken.meaning ∙ ap (with_entry taken.entry) so_far.meaning ∙ gained_pushed old content taken.entry;
-      text = subst (λ (ls : List (List ℕ)). Consumes stream after (text_of_lines ls)) (sym lines)
-          (consumes_one stream left after (content_lines content) text so_far.text is);
-    }
-
--- That line is now the last one.
-last_taken : (wanted : Wanted) (count distrusts : ℕ) (content : State) (now new : Meaning) (text : List ℕ) (number : ℕ)
-    → IsBegun count distrusts content → Wants count distrusts content wanted
-    → (taken : TakesEntryText wanted now (last_of (content_lines content)) text new number) → text ≡ last_of (content_lines (pushed taken.entry content))
-last_taken wanted count distrusts content now new text number begun w taken =
-    let place = has_place wanted taken.entry count distrusts content taken.next.is.is begun w in
-    taken.next.is.spelt ∙ sym (ap last_of (lines_pushed taken.entry content place) ∙ last_pushed (content_lines content) (entry_line taken.entry))
-
--- The step of the loop over lines.
-pub so_far_more : (wanted : Wanted) (old : Meaning) (stream : Option (List ℕ))
-    (count distrusts first receipts records receipts_then records_then : ℕ) (now new : Meaning)
-    (left after : Option (List ℕ)) (last text : List ℕ) (read then : ℕ)
-    → TakenSoFar old stream count distrusts first receipts records now left last read
-    → IsNextOf receipts records wanted receipts_then records_then → TakesNext wanted now last left new text after
-    → then ≡ read + 1
-    → TakenSoFar old stream count distrusts first receipts_then records_then new after text then
-so_far_more wanted old stream count distrusts first receipts records receipts_then records_then now new left after last
-    text read then so_far next takes is_then =
-    let content = so_far.content in
-    let w = wants wanted count distrusts content receipts records receipts_then records_then next so_far.receipts_due so_far.records_due in
-    let number = takes.taken.0 in
-    let taken : TakesEntryText wanted now (last_of (content_lines content)) text new number =
-    subst (λ (l : List ℕ). TakesEntryText wanted now l text new number) so_far.last_is takes.taken.1 in
-    let c = counted wanted taken.entry content receipts records receipts_then records_then taken.next.is.is next in
-    let c_held = c.held in
-    let c_records = c.records_held in
-    let c_more = c.one_more in
-    let due = so_far.receipts_due in
-    let records_due = so_far.records_due in
-    let before = so_far.read_is in
-    record {
-      content = pushed taken.entry content;
-      taken = taken_pushed wanted old stream count distrusts content now new left after text number so_far.taken w takes.is taken;
-      last_is = last_taken wanted count distrusts content now new text number so_far.taken.begun w taken;
-      receipts_due = c_held ∙ due;
-      records_due = c_records ∙ records_due;
-      read_is = omega (arith, c_more, before, is_then);
-    }
-
 -- Nothing is a beginning of every answer.
 pub begun_none : (count distrusts : ℕ) → IsBegun count distrusts no_state
 begun_none count distrusts = record {
@@ -247,80 +158,4 @@ begun_more wanted count distrusts content receipts records receipts_then records
       receipts_due = c.held ∙ due;
       records_due = c.records_held ∙ records_due;
       one_more = c.one_more;
-    }
-
--- ---- why it stops
-
--- The cause of a refusal, for an equal meaning, last line and number.
-cause_at : (wanted : Wanted) (m now : Meaning) (before last : List ℕ) (next number : ℕ) (text : List ℕ) (e : SyncError)
-    → now ≡ m → last ≡ before → number ≡ next → RefusesEntryLine now (placed_line wanted last number text) e
-    → RefusesEntryLine m (placed_line wanted before next text) e
-cause_at wanted m now before last next number text e p q r h =
-    subst (λ (x : Meaning). RefusesEntryLine x (placed_line wanted before next text) e) p
-    (subst (λ (l : List ℕ). RefusesEntryLine now (placed_line wanted l next text) e) q
-    (subst (λ (n : ℕ). RefusesEntryLine now (placed_line wanted last n text) e) r h))
-
--- Why the next line is not taken is why the answer is not read on.
-bad_next : (wanted : Wanted) (old : Meaning) (first count distrusts : ℕ) (content : State) (now : Meaning)
-    (last : List ℕ) (number : ℕ) (left after : Option (List ℕ)) (e : SyncError) → Wants count distrusts content wanted
-    → now ≡ meaning_gained old content → last ≡ last_of (content_lines content)
-    → number ≡ next_entry_number first content → RefusesTakingLine wanted now last number left after e
-    → RefusesNextEntry (refused_line old.config (state_of old) first content) count distrusts content left after e
-bad_next wanted old first count distrusts content now last number left after BadHeader w m l n h = absurd h
-bad_next wanted old first count distrusts content now last number left after ConfigDiffers w m l n h = absurd h
-bad_next wanted old first count distrusts content now last number left after VersionDiffers w m l n h = absurd h
-bad_next wanted old first count distrusts content now last number left after (NotCanonical k) w m l n h =
-    record {
-      wanted = wanted;
-      wants = w;
-      text = h.text;
-      is = h.is;
-      cause =
-          cause_at wanted (meaning_gained old content) now (last_of (content_lines content)) last
-          (next_entry_number first content) number h.text (NotCanonical k) m l n h.cause;
-    }
-bad_next wanted old first count distrusts content now last number left after (NotRising k) w m l n h =
-    record {
-      wanted = wanted;
-      wants = w;
-      text = h.text;
-      is = h.is;
-      cause =
-          cause_at wanted (meaning_gained old content) now (last_of (content_lines content)) last
-          (next_entry_number first content) number h.text (NotRising k) m l n h.cause;
-    }
-bad_next wanted old first count distrusts content now last number left after BadCount w m l n h = absurd h
-bad_next wanted old first count distrusts content now last number left after Truncated w m l n h = record { wanted = wanted; wants = w; ends = h }
-bad_next wanted old first count distrusts content now last number left after (Refused k why) w m l n h =
-    record {
-      wanted = wanted;
-      wants = w;
-      text = h.text;
-      is = h.is;
-      cause =
-          cause_at wanted (meaning_gained old content) now (last_of (content_lines content)) last
-          (next_entry_number first content) number h.text (Refused k why) m l n h.cause;
-    }
-bad_next wanted old first count distrusts content now last number left after Io w m l n h = tt
-bad_next wanted old first count distrusts content now last number left after NoMemory w m l n h = tt
-
--- The exit of the loop: a fault of the next line stops the answer there.
-pub so_far_fails : (wanted : Wanted) (old : Meaning) (stream : Option (List ℕ))
-    (count distrusts first receipts records receipts_then records_then : ℕ) (now new : Meaning)
-    (left after : Option (List ℕ)) (last : List ℕ) (read : ℕ) (e : SyncError)
-    → TakenSoFar old stream count distrusts first receipts records now left last read
-    → IsNextOf receipts records wanted receipts_then records_then
-    → HasNotTaken wanted now last (read + 1) left new after e
-    → StopsWithin old stream count distrusts first new e
-so_far_fails wanted old stream count distrusts first receipts records receipts_then records_then now new left after last read e so_far next fails =
-    let content = so_far.content in
-    let before = so_far.read_is in
-    record {
-      content = content;
-      left = left;
-      after = after;
-      taken = subst (λ (m : Meaning). HasTakenPart old stream count distrusts content m left) (sym fails.same) so_far.taken;
-      cause = bad_next wanted old first count distrusts content now last (read + 1) left after e
-          (wants wanted count distrusts content receipts records receipts_then records_then next so_far.receipts_due so_far.records_due)
-          so_far.taken.meaning so_far.last_is (omega (arith, before)) fails.cause;
     }

@@ -15,7 +15,7 @@ use Rattle.receipt_core.proofs.LineFacts.{one_line, one_record}
 use Rattle.receipt_core.specs.Acceptance.{Meaning, IsMeaning}
 use Rattle.replica_core.specs.State.{State, first_of, ids_held, is_within_limits, joined, meaning_of_state, no_state}
 use Rattle.replica_core.specs.Session.{HaveMessage, GiveMessage, give_of, state_of}
-use Rattle.replica_core.specs.World.{Message, Rules, World, give_sent, apply, gained, happens, have_sent, sends_give, rules_of, run_from}
+use Rattle.replica_core.specs.World.{Message, Rules, World, give_sent, apply, gained, happens, have_sent, rules_of, run_from}
 use Rattle.replica_core.specs.World.{takes_part, where_so, with_state}
 use Rattle.replica_core.specs.declared.event.Event.TheVariants.{Ask, Answer, Absorb, Part}
 use Rattle.replica_core.proofs.ContainsFacts.{get-new}

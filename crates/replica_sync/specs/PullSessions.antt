@@ -1,7 +1,7 @@
 -- A session in which a replica asks about each bucket, and the answers come in pieces; what is held
 -- may change between two of them.
 use Rattle.std.specs.Prelude.{◌≡◌, ◌≢◌, ℕ, ◌+◌, ◌<◌, ◌⊎◌, List, [], ◌∷◌, ◌++◌, length, flat_map}
-use Rattle.std.specs.Prelude.{drop, Option, None, Some, true, false}
+use Rattle.std.specs.Prelude.{◌≤◌, take, drop, Option, None, Some, true, false}
 use Rattle.fed_config.specs.Configuration.{Configuration}
 use Rattle.receipt_core.specs.Acceptance.{Meaning}
 use Rattle.replica_core.specs.Absorbing.{entries_of}
@@ -17,7 +17,8 @@ use Rattle.replica_sync.specs.Pulling.{FailsFirst, IsGiveAbout}
 use Rattle.replica_texts.specs.Snapshots.{last_of}
 use Rattle.replica_texts.specs.declared.entry_line.Wanted.{Wanted}
 use Rattle.replica_sync.specs.Pieces.{kept_part}
-use Rattle.replica_sync.specs.PulledPieces.{PulledPiece, PulledGive, PulledGives, TakesInTurn}
+use Rattle.replica_sync.specs.PulledPieces.{AreAlone, PulledPiece, PulledGive, PulledGives}
+use Rattle.replica_sync.specs.PulledPieces.{TakesInTurn}
 use Rattle.replica_sync.specs.PulledPieces.{bytes_pulled, haves_asked, haves_pulled}
 use Rattle.replica_sync.specs.PulledPieces.{lines_pulled, receipts_pulled}
 use Rattle.replica_sync.specs.declared.answer_lines.AnswerLines.{AnswerLines}
@@ -158,6 +159,27 @@ count_of_pulling pulling = pulling.lines.taken
 abbrev pub IsOverPulling : Pulling → Type 0
 IsOverPulling pulling = pulling.lines.bucket ≡ 256
 
+-- their last one is a line feed
+abbrev pub EndsInFeed : List ℕ → Type 0
+EndsInFeed bytes = (before : List ℕ) × (bytes ≡ before ++ (10 ∷ []))
+
+-- why no more bytes are taken: those before end a line, or a have is to be written, or the session
+-- is over
+abbrev pub TakesNoMore : List ℕ → Pulling → Type 0
+TakesNoMore bytes pulling = EndsInFeed bytes
+    ⊎ ((0 < length (due_have pulling)) ⊎ IsOverPulling pulling)
+
+-- So many bytes of the piece are taken: all of them, or those up to the end of an answer, after
+-- which a have is to be written or the session is over.
+pub record TakesLines (piece : List ℕ) (new : Pulling) (used : ℕ) : Type 0 where
+  pub within : used ≤ length piece
+  pub fewer : used < length piece → (0 < length (due_have new)) ⊎ IsOverPulling new
+
+-- So many bytes of the piece are taken: all of them, or no more for such a reason.
+pub record TakesBytes (piece : List ℕ) (new : Pulling) (used : ℕ) : Type 0 where
+  pub within : used ≤ length piece
+  pub fewer : used < length piece → TakesNoMore (take used piece) new
+
 abbrev pub PullsPieces : Option SyncError → AnswerLines → Meaning → List PulledPiece → List ℕ
     → List ℕ → Type 0
 PullsPieces None lines start came rest output = GoesOnPulling lines start came rest output
@@ -173,3 +195,14 @@ pub record HasPulledPieces (pulling : Pulling) (start : Meaning) (came : List Pu
       (kept_answer pulling) (written ++ due_have pulling)
   pub taken : count_of_pulling pulling ≡ receipts_pulled came
   pub idle : fault_of_pulling pulling ≢ None → due_have pulling ≡ []
+
+-- The lines of these bytes are taken one after another, as by as many calls, between which nothing
+-- changes: the first began where `old` was held, and after the last one `new` is.
+pub record PullsLines (before : Pulling) (old : Meaning) (bytes : List ℕ) (after : Pulling)
+    (new : Meaning) : Type 0 where
+  pub pieces : List PulledPiece
+  pub whole : bytes_pulled pieces ≡ bytes
+  pub alone : AreAlone old pieces new
+  pub pulls : (start : Meaning) (came : List PulledPiece) (written : List ℕ)
+      → old.config ≡ start.config → HasPulledPieces before start came written
+      → HasPulledPieces after start (came ++ pieces) written

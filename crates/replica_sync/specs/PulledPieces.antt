@@ -4,14 +4,14 @@ use Rattle.std.specs.Prelude.{◌≡◌, ◌≢◌, ℕ, ◌+◌, ◌-◌, ◌<�
 use Rattle.std.specs.Prelude.{flat_map, take, Result, Ok, Err}
 use Rattle.fed_config.specs.Configuration.{Configuration}
 use Rattle.receipt_core.specs.Acceptance.{Meaning}
-use Rattle.replica_core.specs.Absorbing.{entries_of, with_entry}
+use Rattle.replica_core.specs.Absorbing.{entries_of, with_entries, with_entry}
 use Rattle.replica_core.specs.Session.{GiveMessage, HaveMessage, have_of}
 use Rattle.replica_core.specs.declared.entry.Entry.{Entry}
 use Rattle.replica_core.specs.declared.error.SyncError.{SyncError}
 use Rattle.replica_texts.specs.Messages.{give_text}
 use Rattle.replica_sync.specs.Pulling.{IsGiveAbout, line_count}
 use Rattle.replica_texts.specs.SoleLines.{IsWellFormed}
-use Rattle.replica_journal.specs.Journal.{entry_text}
+use Rattle.replica_journal.specs.Journal.{AreWellFormed, entry_text}
 
 -- ---- one call
 
@@ -28,6 +28,19 @@ abbrev pub Journals : Meaning → Meaning → List ℕ → List ℕ → Type 0
 Journals old new before after = ((new ≡ old) × (after ≡ before))
     ⊎ JournalsEntry old new before after
 
+-- Each was not held where those before it are held.
+abbrev pub AreNewInTurn : Meaning → List Entry → Type 0
+AreNewInTurn m [] = Unit {0}
+AreNewInTurn m (entry ∷ entries) = (with_entry entry m ≢ m) × AreNewInTurn (with_entry entry m) entries
+
+-- All that changes is appended to the journal, in order.
+pub record JournalsAll (old new : Meaning) (before after : List ℕ) : Type 0 where
+  pub entries : List Entry
+  pub forms : AreWellFormed entries
+  pub meaning : new ≡ with_entries entries old
+  pub changed : AreNewInTurn old entries
+  pub text : after ≡ before ++ flat_map entry_text entries
+
 -- bytes that a call took, and what was held before and after it
 pub record PulledPiece : Type 0 where
   pub bytes : List ℕ
@@ -38,6 +51,11 @@ pub record PulledPiece : Type 0 where
 abbrev pub piece_pulled : List ℕ → Meaning → Meaning → Result ℕ SyncError → PulledPiece
 piece_pulled piece old new (Ok used) = record { bytes = take used piece; old = old; new = new }
 piece_pulled piece old new (Err e) = record { bytes = piece; old = old; new = new }
+
+-- the bytes that came by a call: those that it took; or all, where there is a fault among them
+abbrev pub bytes_read : List ℕ → Result ℕ SyncError → List ℕ
+bytes_read piece (Ok used) = take used piece
+bytes_read piece (Err e) = piece
 
 -- ---- all calls
 

@@ -3,14 +3,16 @@ ghost use Rattle.std.specs.Prelude.{◌≡◌, ◌+◌, ◌-◌, ◌<◌, ◌≤
 ghost use Rattle.std.specs.Prelude.{MatchOption, Some, length};
 ghost use Rattle.replica_texts.specs.FirstLines.{RefusesGiveLine};
 ghost use Rattle.replica_texts.specs.Gives.{Heads};
-ghost use Rattle.replica_sync.specs.Inside.Taking.{IsNextOf};
+ghost use Rattle.replica_sync.specs.Inside.NextLines.{IsNextOf};
+ghost use Rattle.replica_sync.specs.Inside.Waiting.{Waits, held_with};
 ghost use Rattle.replica_sync.specs.PulledPieces.{Journals};
 
-use crate::new_entry::take_new;
+use crate::news::News;
 use closure_core::Closure;
 use fed_config::Config;
+use receipt_core::KnownParts;
 use replica_core::SyncError;
-use replica_texts::{Wanted, next_entry, read_give_line};
+use replica_texts::{Wanted, next_entry_with, read_give_line};
 use std::alloc::{AllocError, Global};
 
 /// How many receipts and how many records are still to come of an answer.
@@ -31,6 +33,8 @@ pub(crate) struct AnswerLines {
     due: DueLines,
     // Its last line that is not the first; empty where there is none.
     last: Vec<u8>,
+    // What is known of its lines, and of those of the answers before it.
+    known: KnownParts,
     // How many lines were read, and how many receipts were new.
     read: u64,
     taken: u64,
@@ -65,6 +69,7 @@ impl AnswerLines {
                 records: 0,
             },
             last: Vec::new(alloc),
+            known: KnownParts::new(alloc),
             read: 0,
             taken: 0,
         }
@@ -103,30 +108,33 @@ impl AnswerLines {
         }
     }
 
-    /// Takes the next line, which is one of an answer. Where it says what was not held, it is
-    /// appended to the journal. Returns whether the answer ends with it.
+    /// Takes the next line, which is one of an answer. What it says that was not held is taken, or
+    /// waits in `news`. Returns whether the answer ends with the line.
     pub(crate) fn take<C: Closure>(
         &mut self,
         alloc: Global,
         closure: &mut C,
         text: &[u8],
-        journal: &mut Vec<u8>,
+        news: &mut News,
     ) -> Result<bool, SyncError>
-        requires { self.old.bucket < 256 }
-        ensures ok { IfOk result (TakesAnswerLine (C.state closure.old).meaning self.old text.now
-            (C.state closure.new).meaning self.new) }
+        requires few { self.old.bucket < 256 }
+        requires waits { Waits (C.state closure.old).meaning news.old }
+        ensures ok { IfOk result (TakesAnswerLine (held_with news.old (C.state closure.old).meaning) self.old text.now
+            (held_with news.new (C.state closure.new).meaning) self.new) }
         ensures refused { IfErr result
-            (RefusesAnswerLine (C.state closure.old).meaning self.old text.now) }
+            (RefusesAnswerLine (held_with news.old (C.state closure.old).meaning) self.old text.now) }
         ensures same { OnErr result
-            ((C.state closure.new).meaning ≡ (C.state closure.old).meaning) }
+            (held_with news.new (C.state closure.new).meaning
+            ≡ held_with news.old (C.state closure.old).meaning) }
         ensures taken { self.new.taken ≡ self.old.taken
             + (length (C.state closure.new).meaning.held
             - length (C.state closure.old).meaning.held) }
-        ensures journals { Journals (C.state closure.old).meaning (C.state closure.new).meaning
-            journal.old.items journal.new.items }
+        ensures waits { Waits (C.state closure.new).meaning news.new }
+        ensures journals { Journals (held_with news.old (C.state closure.old).meaning) (held_with news.new (C.state closure.new).meaning)
+            news.old.journal.items news.new.journal.items }
     {
         let number = next_number(alloc, self.read)?;
-        let step = self.step(alloc, closure, number, text, journal)?;
+        let step = self.step(alloc, closure, number, text, news)?;
         self.read = number;
         self.taken += step.new;
         Ok(self.move_on(step.due))
@@ -139,12 +147,13 @@ impl AnswerLines {
         closure: &mut C,
         number: u64,
         text: &[u8],
-        journal: &mut Vec<u8>,
+        news: &mut News,
     ) -> Result<LineStep, SyncError>
         requires bucket { self.old.bucket < 256 }
         requires number { number ≡ self.old.read + 1 }
-        ensures ok { IfOk result (λ s. StepsLine (C.state closure.old).meaning self.old text.now
-            (C.state closure.new).meaning (record {
+        requires waits { Waits (C.state closure.old).meaning news.old }
+        ensures ok { IfOk result (λ s. StepsLine (held_with news.old (C.state closure.old).meaning) self.old text.now
+            (held_with news.new (C.state closure.new).meaning) (record {
               receipts = s.due.receipts;
               records = s.due.records;
               last = self.new.last.items;
@@ -153,15 +162,17 @@ impl AnswerLines {
             × (length (C.state closure.new).meaning.held
             ≡ length (C.state closure.old).meaning.held + s.new)) }
         ensures refused { IfErr result
-            (RefusesAnswerLine (C.state closure.old).meaning self.old text.now) }
+            (RefusesAnswerLine (held_with news.old (C.state closure.old).meaning) self.old text.now) }
         ensures same { OnErr result
-            ((C.state closure.new).meaning ≡ (C.state closure.old).meaning) }
+            (held_with news.new (C.state closure.new).meaning
+            ≡ held_with news.old (C.state closure.old).meaning) }
         ensures counts { HasSameCounts self.old self.new }
-        ensures journals { Journals (C.state closure.old).meaning (C.state closure.new).meaning
-            journal.old.items journal.new.items }
+        ensures waits { Waits (C.state closure.new).meaning news.new }
+        ensures journals { Journals (held_with news.old (C.state closure.old).meaning) (held_with news.new (C.state closure.new).meaning)
+            news.old.journal.items news.new.journal.items }
     {
         if self.is_begun {
-            self.take_entry(alloc, closure, number, text, journal)
+            self.take_entry(alloc, closure, number, text, news)
         } else {
             self.begin(alloc, closure.config(), text)
         }
@@ -195,12 +206,13 @@ impl AnswerLines {
         closure: &mut C,
         number: u64,
         text: &[u8],
-        journal: &mut Vec<u8>,
+        news: &mut News,
     ) -> Result<LineStep, SyncError>
         requires begun { self.old.is_begun ≡ true }
         requires number { number ≡ self.old.read + 1 }
-        ensures ok { IfOk result (λ s. StepsEntry (C.state closure.old).meaning self.old text.now
-            (C.state closure.new).meaning (record {
+        requires waits { Waits (C.state closure.old).meaning news.old }
+        ensures ok { IfOk result (λ s. StepsEntry (held_with news.old (C.state closure.old).meaning) self.old text.now
+            (held_with news.new (C.state closure.new).meaning) (record {
               receipts = s.due.receipts;
               records = s.due.records;
               last = self.new.last.items;
@@ -209,17 +221,26 @@ impl AnswerLines {
             × (length (C.state closure.new).meaning.held
             ≡ length (C.state closure.old).meaning.held + s.new)) }
         ensures refused { IfErr result
-            (RefusesLater (C.state closure.old).meaning self.old text.now) }
+            (RefusesLater (held_with news.old (C.state closure.old).meaning) self.old text.now) }
         ensures same { OnErr result
-            ((C.state closure.new).meaning ≡ (C.state closure.old).meaning) }
+            (held_with news.new (C.state closure.new).meaning
+            ≡ held_with news.old (C.state closure.old).meaning) }
         ensures counts { HasSameCounts self.old self.new }
-        ensures journals { Journals (C.state closure.old).meaning (C.state closure.new).meaning
-            journal.old.items journal.new.items }
+        ensures waits { Waits (C.state closure.new).meaning news.new }
+        ensures journals { Journals (held_with news.old (C.state closure.old).meaning) (held_with news.new (C.state closure.new).meaning)
+            news.old.journal.items news.new.journal.items }
     {
         let (wanted, due) = next_of(self.due);
-        let entry = next_entry(alloc, wanted, self.last.as_slice(), number, text)?;
+        let entry = next_entry_with(
+            alloc,
+            &mut self.known,
+            wanted,
+            self.last.as_slice(),
+            number,
+            text,
+        )?;
         let last = text.to_vec(alloc)?;
-        let new = take_new(alloc, closure, number, entry, journal)?;
+        let new = news.take(closure, number, entry)?;
         self.last = last;
         Ok(LineStep { due, new })
     }

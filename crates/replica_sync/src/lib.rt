@@ -3,23 +3,22 @@
 //! A session is a machine without a socket, a file or a clock: bytes go in, as the pieces in which
 //! they come, and bytes go out. `line_part` makes whole lines out of pieces. `piece_serving`
 //! answers the haves that come so, and `text_sink` keeps an answer. `piece_pulling` asks, and takes
-//! the answers that come so: `answer_lines` takes their lines, and `new_entry` what one of them
-//! says.
+//! the answers that come so: `answer_lines` takes their lines, and `news` what they say:
+//! `new_entry` at once, or records of distrust together.
 //!
-//! `serving` and `pulling` are whole sessions over a source and a sink; `taking` reads an answer,
-//! line by line. Lines are numbered by how many were read. That number and the bytes that may still
-//! come are below 2^64 together, so no number can pass its type.
+//! `serving` and `pulling` are whole sessions over a source and a sink. `pulling` gives the lines
+//! of its source to the same `answer_lines`.
 #![tactic(auto)]
 
 mod answer_lines;
 pub mod laws;
 mod line_part;
 mod new_entry;
+mod news;
 mod piece_pulling;
 mod piece_serving;
 mod pulling;
 mod serving;
-mod taking;
 mod text_sink;
 
 pub use line_part::{LinePart, PieceEnd};

@@ -3,7 +3,7 @@ ghost use Rattle.std.specs.Prelude.{◌≤◌, ◌↔◌, IsTrue, IfOk, MatchRes
 ghost use Rattle.replica_texts.specs.SoleLines.{IsWellFormed};
 ghost use Rattle.replica_texts.specs.Inside.EntrySteps.{HasRefusedEntry, TakesEntry};
 ghost use Rattle.replica_sync.specs.PulledPieces.{Journals};
-ghost use Rattle.replica_sync.specs.Inside.AnswerSteps.{HasRefusedNew, IsHeldEntry, IsNamed};
+ghost use Rattle.replica_sync.specs.Inside.NewEntries.{HasRefusedNew, IsHeldEntry, IsNamed};
 
 use closure_core::{Closure, Distrusted, TakeError, Taken};
 use receipt_core::{Distrust, Receipt};

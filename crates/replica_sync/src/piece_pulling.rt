@@ -8,15 +8,19 @@ ghost use Rattle.replica_core.specs.declared.error.SyncError.TheVariants.{NoMemo
 ghost use Rattle.replica_texts.specs.Messages.{have_text};
 ghost use Rattle.byte_lines.specs.Limits.{line_limit};
 ghost use Rattle.replica_sync.specs.Pieces.{longest};
-ghost use Rattle.replica_sync.specs.PulledPieces.{Journals, PulledPiece, piece_pulled};
+ghost use Rattle.replica_sync.specs.PulledPieces.{Journals, JournalsAll, PulledPiece};
+ghost use Rattle.replica_sync.specs.PulledPieces.{bytes_read, piece_pulled};
+ghost use Rattle.replica_sync.specs.Inside.Waiting.{Waits, held_with};
 
 use crate::answer_lines::AnswerLines;
 use crate::line_part::{LinePart, PieceEnd};
+use crate::news::News;
 use crate::text_sink::TextSink;
 use closure_core::Closure;
 use replica_core::{Have, SyncError, have};
 use replica_texts::write_have;
 use std::alloc::{AllocError, Global};
+use std::mem;
 
 // The most bytes that a line of an answer has, without its line feed.
 const LONGEST_LINE: usize = 8_388_608;
@@ -45,8 +49,9 @@ pub struct Pulling {
 
 impl Pulling {
     ghost use Rattle.replica_sync.specs.PullSessions.{HasPulledPieces, IsOverPulling};
+    ghost use Rattle.replica_sync.specs.PullSessions.{PullsLines};
     ghost use Rattle.replica_sync.specs.PullSessions.{count_of_pulling, due_have, kept_answer};
-    ghost use Rattle.replica_sync.specs.PullSessions.{fault_of_pulling};
+    ghost use Rattle.replica_sync.specs.PullSessions.{fault_of_pulling, TakesBytes, TakesLines};
     ghost use Rattle.replica_sync.specs.Inside.AnswerSteps.{Asks, FailsPulled, TakesPulled};
 
     /// The beginning of a session: the have about the first bucket is to be written.
@@ -105,9 +110,106 @@ impl Pulling {
             (C.state closure.new).meaning result ∷ []) written }
         ensures journals { Journals (C.state closure.old).meaning (C.state closure.new).meaning
             journal.old.items journal.new.items }
-        ensures taken { IfOk result (λ used. (used ≤ length piece.now)
-            × ((used ≡ length piece.now) ⊎ ((0 < used)
-            ⊎ ((0 < length (due_have self.new)) ⊎ IsOverPulling self.new)))) }
+        ensures taken { IfOk result (TakesBytes piece.now self.new) }
+        ensures waits { 0 < length (due_have self.old) → self.new ≡ self.old }
+        ensures fault { MatchResult result (λ _. fault_of_pulling self.new ≡ None)
+            (λ e. fault_of_pulling self.new ≡ Some e) }
+    {
+        let _valid = closure.config();
+        let mut news = News::new(mem::replace(journal, Vec::new(alloc)));
+        let read = self.read_line(alloc, closure, piece, &mut news);
+        news.settle(closure);
+        *journal = news.into_journal();
+        read
+    }
+
+    /// Takes the next bytes of the stream, up to the end of an answer at most, and returns how many
+    /// were taken: as [`Pulling::read`] does, given the same piece again and again. Records of
+    /// distrust that come in one piece are taken together, by one merge: what rests on them is
+    /// looked at once for all of them.
+    ///
+    /// What the lines say that was not held is held afterwards, and is appended to the journal, in
+    /// the order of the lines. This may be so also where a fault is returned. Besides what `read`
+    /// takes, memory is taken for the records that come in the piece, and for a closure of them.
+    ///
+    /// # Errors
+    /// Those of [`Pulling::read`], of the first line that has one.
+    pub fn read_lines<C: Closure>(
+        &mut self,
+        alloc: Global,
+        closure: &mut C,
+        piece: &[u8],
+        journal: &mut Vec<u8>,
+    ) -> Result<usize, SyncError>
+        ensures pulls { PullsLines self.old (C.state closure.old).meaning
+            (bytes_read piece.now result) self.new (C.state closure.new).meaning }
+        ensures journals { JournalsAll (C.state closure.old).meaning (C.state closure.new).meaning
+            journal.old.items journal.new.items }
+        ensures taken { IfOk result (TakesLines piece.now self.new) }
+        ensures fault { MatchResult result (λ _. fault_of_pulling self.new ≡ None)
+            (λ e. fault_of_pulling self.new ≡ Some e) }
+    {
+        let _valid = closure.config();
+        let mut news = News::new(mem::replace(journal, Vec::new(alloc)));
+        let read = self.take_lines(alloc, closure, piece, &mut news);
+        news.settle(closure);
+        *journal = news.into_journal();
+        read
+    }
+
+    // Takes the next bytes, up to the end of an answer at most.
+    fn take_lines<C: Closure>(
+        &mut self,
+        alloc: Global,
+        closure: &mut C,
+        piece: &[u8],
+        news: &mut News,
+    ) -> Result<usize, SyncError>
+        requires waits { Waits (C.state closure.old).meaning news.old }
+        ensures pulls { PullsLines self.old (held_with news.old (C.state closure.old).meaning)
+            (bytes_read piece.now result) self.new
+            (held_with news.new (C.state closure.new).meaning) }
+        ensures journals { JournalsAll (held_with news.old (C.state closure.old).meaning)
+            (held_with news.new (C.state closure.new).meaning)
+            news.old.journal.items news.new.journal.items }
+        ensures waits { Waits (C.state closure.new).meaning news.new }
+        ensures taken { IfOk result (TakesLines piece.now self.new) }
+        ensures fault { MatchResult result (λ _. fault_of_pulling self.new ≡ None)
+            (λ e. fault_of_pulling self.new ≡ Some e) }
+    {
+        let mut used: usize = 0;
+        'lines: loop {
+            match self.read_line(alloc, closure, &piece[used..], news) {
+                Ok(more) => {
+                    used += more;
+                    if more == 0 || used == piece.len() {
+                        return Ok(used);
+                    }
+                }
+                Err(why) => return Err(why),
+            }
+        }
+    }
+
+    // Takes the next bytes, up to the end of a line at most.
+    fn read_line<C: Closure>(
+        &mut self,
+        alloc: Global,
+        closure: &mut C,
+        piece: &[u8],
+        news: &mut News,
+    ) -> Result<usize, SyncError>
+        requires waits { Waits (C.state closure.old).meaning news.old }
+        ensures pulls { (start : Meaning) (came : List PulledPiece) (written : List ℕ)
+            → (C.state closure.old).meaning.config ≡ start.config
+            → HasPulledPieces self.old start came written → HasPulledPieces self.new start
+            (came ++ piece_pulled piece.now (held_with news.old (C.state closure.old).meaning)
+            (held_with news.new (C.state closure.new).meaning) result ∷ []) written }
+        ensures journals { Journals (held_with news.old (C.state closure.old).meaning)
+            (held_with news.new (C.state closure.new).meaning)
+            news.old.journal.items news.new.journal.items }
+        ensures waiting { Waits (C.state closure.new).meaning news.new }
+        ensures taken { IfOk result (TakesBytes piece.now self.new) }
         ensures waits { 0 < length (due_have self.old) → self.new ≡ self.old }
         ensures fault { MatchResult result (λ _. fault_of_pulling self.new ≡ None)
             (λ e. fault_of_pulling self.new ≡ Some e) }
@@ -121,7 +223,7 @@ impl Pulling {
         if !self.output().is_empty() {
             return Ok(0);
         }
-        match self.advance(alloc, closure, piece, journal) {
+        match self.advance(alloc, closure, piece, news) {
             Ok(used) => Ok(used),
             Err(why) => {
                 self.fault = Some(why);
@@ -136,25 +238,26 @@ impl Pulling {
         alloc: Global,
         closure: &mut C,
         piece: &[u8],
-        journal: &mut Vec<u8>,
+        news: &mut News,
     ) -> Result<usize, SyncError>
         requires idle { due_have self.old ≡ [] }
         requires more { self.old.lines.bucket < 256 }
+        requires waits { Waits (C.state closure.old).meaning news.old }
         ensures ok { IfOk result (λ used. TakesPulled (record {
-          held = (C.state closure.old).meaning;
+          held = held_with news.old (C.state closure.old).meaning;
           lines = self.old.lines;
           kept = kept_answer self.old;
         }) piece.now used (record {
-          held = (C.state closure.new).meaning;
+          held = held_with news.new (C.state closure.new).meaning;
           lines = self.new.lines;
           kept = kept_answer self.new;
         }) (due_have self.new)) }
         ensures refused { IfErr result (FailsPulled (record {
-          held = (C.state closure.old).meaning;
+          held = held_with news.old (C.state closure.old).meaning;
           lines = self.old.lines;
           kept = kept_answer self.old;
         }) piece.now (record {
-          held = (C.state closure.new).meaning;
+          held = held_with news.new (C.state closure.new).meaning;
           lines = self.new.lines;
           kept = kept_answer self.new;
         })) }
@@ -163,14 +266,16 @@ impl Pulling {
         ensures taken { self.new.lines.taken ≡ self.old.lines.taken
             + (length (C.state closure.new).meaning.held
             - length (C.state closure.old).meaning.held) }
-        ensures journals { Journals (C.state closure.old).meaning (C.state closure.new).meaning
-            journal.old.items journal.new.items }
+        ensures waits { Waits (C.state closure.new).meaning news.new }
+        ensures journals { Journals (held_with news.old (C.state closure.old).meaning)
+            (held_with news.new (C.state closure.new).meaning)
+            news.old.journal.items news.new.journal.items }
     {
         match self.part.take(piece)? {
             PieceEnd::Within => Ok(piece.len()),
             PieceEnd::TooLong => Err(self.lines.overlong(alloc)),
             PieceEnd::Line(used) => {
-                if self.lines.take(alloc, closure, self.part.line(), journal)? {
+                if self.lines.take(alloc, closure, self.part.line(), news)? {
                     self.ask(alloc, closure)?;
                 }
                 Ok(used)

@@ -1,5 +1,5 @@
 //! Sessions in which a replica asks.
-ghost use Rattle.std.specs.Prelude.{◌≡◌, ◌+◌, ◌<◌, ◌≤◌, ◌^◌, ◌⊎◌, ◌||◌, IfErr, IsErrOf, OnOk};
+ghost use Rattle.std.specs.Prelude.{◌≡◌, ◌+◌, ◌<◌, ◌⊎◌, ◌||◌, IfOk, IfErr, IsErrOf, OnOk, OnErr};
 ghost use Rattle.std.specs.Prelude.{true, false};
 ghost use Rattle.std.specs.Io.KnownBytes.{Appends};
 ghost use Rattle.byte_lines.specs.Streams.{stream_of, left_of};
@@ -8,13 +8,15 @@ ghost use Rattle.replica_texts.specs.Messages.{have_text, WritesText};
 ghost use Rattle.replica_texts.specs.Snapshots.{is_io};
 ghost use Rattle.replica_sync.specs.SessionRun.{session_run, IsWritten};
 ghost use Rattle.replica_sync.specs.Pulling.{Pulls, PullsAll, PullsUpTo, is_pull_io};
-ghost use Rattle.replica_sync.specs.Inside.Taking.{TakesGive, StopsGive};
+ghost use Rattle.replica_sync.specs.Inside.Taking.{IsBeforeNext, RefusesNextLine, StopsGive};
+ghost use Rattle.replica_sync.specs.Inside.Taking.{TakesGive, TakesNextLine};
+ghost use Rattle.replica_sync.specs.Inside.Waiting.{Waits, held_with};
 ghost use Rattle.replica_core.specs.declared.error.SyncError.TheVariants.{Io, NoMemory};
 
-use crate::taking::{Place, take_give};
-use byte_lines::{LineBuf, Sink, Source};
+use crate::answer_lines::AnswerLines;
+use crate::news::News;
+use byte_lines::{Line, LineBuf, Sink, Source};
 use closure_core::Closure;
-use receipt_core::KnownParts;
 use replica_core::{SyncError, have};
 use replica_texts::write_have;
 use std::alloc::Global;
@@ -34,8 +36,10 @@ pub struct PullFault {
 /// many receipts are held now that were not.
 ///
 /// Each have has the ids that are held when it is asked. It is written whole before its answer
-/// is read, and what follows the last answer is not taken. Beside what is held, memory is taken for
-/// one have and for a few lines, and never for a number that the other side says.
+/// is read, and what follows the last answer is not taken. The records of distrust of an answer are
+/// taken together, by one merge, where the answer ends. Besides what is held, memory is taken for
+/// one have, for a few lines and for the records of one answer, and never for a number that the
+/// other side says.
 ///
 /// # Errors
 /// What the lines before the fault say stays held, and [`PullFault::taken`] says how many receipts
@@ -98,17 +102,13 @@ fn pull_all<C: Closure, R: Source, W: Sink>(
         × (W.has_failed sink.new ≡ W.has_failed sink.old) }
 {
     let mut lines = LineBuf::new(alloc);
-    let mut place = Place {
-        read: 0,
-        last: Vec::new(alloc),
-        known: KnownParts::new(alloc),
-    };
+    let mut answers = AnswerLines::new(alloc);
     'buckets: for bucket in 0..256u16 {
         pull_bucket(
             alloc,
             closure,
             bucket as u8,
-            &mut place,
+            &mut answers,
             &mut lines,
             source,
             sink,
@@ -122,28 +122,27 @@ fn pull_bucket<C: Closure, R: Source, W: Sink>(
     alloc: Global,
     closure: &mut C,
     bucket: u8,
-    place: &mut Place,
+    answers: &mut AnswerLines,
     lines: &mut LineBuf,
     source: &mut R,
     sink: &mut W,
 ) -> Result<(), SyncError>
-    requires counted { place.old.read + left_of R.budget lines.old source.old < 2 ^ 64 }
+    requires about { answers.old.bucket ≡ bucket }
+    requires none { answers.old.is_begun ≡ false }
     ensures ok { OnOk result
         (TakesGive (C.state closure.old).meaning bucket
-        (stream_of R.remaining lines.old source.old) place.old.read (C.state closure.new).meaning
-        (stream_of R.remaining lines.new source.new) place.new.read) }
+        (stream_of R.remaining lines.old source.old) answers.old.read (C.state closure.new).meaning
+        (stream_of R.remaining lines.new source.new) answers.new.read) }
     ensures refused { IfErr result
-        (StopsGive (C.state closure.old).meaning bucket (place.old.read + 1)
+        (StopsGive (C.state closure.old).meaning bucket (answers.old.read + 1)
         (stream_of R.remaining lines.old source.old) (C.state closure.new).meaning) }
+    ensures next { OnOk result (IsBeforeNext answers.old answers.new) }
     ensures asked { OnOk result
         (Appends (W.contents sink.old) (W.contents sink.new)
         (have_text (have_of (C.state closure.old).meaning bucket))) }
     ensures asks { IfErr result
         (λ e. IsWritten e (W.contents sink.old) (W.contents sink.new)
         (have_text (have_of (C.state closure.old).meaning bucket))) }
-    ensures counted { OnOk result
-        (place.new.read + left_of R.budget lines.new source.new
-        ≤ place.old.read + left_of R.budget lines.old source.old) }
     ensures io { IsErrOf result Io
         → (R.has_failed source.new ≡ true) ⊎ (W.has_failed sink.new ≡ true) }
     ensures fault { is_io result ≡ false
@@ -151,7 +150,111 @@ fn pull_bucket<C: Closure, R: Source, W: Sink>(
         × (W.has_failed sink.new ≡ W.has_failed sink.old) }
 {
     ask(alloc, closure, bucket, sink)?;
-    take_give(alloc, closure, bucket, place, lines, source)
+    take_answer(alloc, closure, answers, lines, source)
+}
+
+// Takes the answer that the stream is to have next, until it ends. The records of distrust that it
+// says are taken together.
+fn take_answer<C: Closure, R: Source>(
+    alloc: Global,
+    closure: &mut C,
+    answers: &mut AnswerLines,
+    lines: &mut LineBuf,
+    source: &mut R,
+) -> Result<(), SyncError>
+    requires few { answers.old.bucket < 256 }
+    requires none { answers.old.is_begun ≡ false }
+    ensures ok { OnOk result
+        (TakesGive (C.state closure.old).meaning answers.old.bucket
+        (stream_of R.remaining lines.old source.old) answers.old.read (C.state closure.new).meaning
+        (stream_of R.remaining lines.new source.new) answers.new.read) }
+    ensures refused { IfErr result
+        (StopsGive (C.state closure.old).meaning answers.old.bucket (answers.old.read + 1)
+        (stream_of R.remaining lines.old source.old) (C.state closure.new).meaning) }
+    ensures next { OnOk result (IsBeforeNext answers.old answers.new) }
+    ensures io { IsErrOf result Io → R.has_failed source.new ≡ true }
+    ensures fault { R.has_failed source.new ≡ (is_io result || R.has_failed source.old) }
+{
+    let _valid = closure.config();
+    let mut news = News::new(Vec::new(alloc));
+    let taken = take_lines(alloc, closure, answers, &mut news, lines, source);
+    news.settle(closure);
+    taken
+}
+
+// Takes the lines of the answer, until it ends.
+fn take_lines<C: Closure, R: Source>(
+    alloc: Global,
+    closure: &mut C,
+    answers: &mut AnswerLines,
+    news: &mut News,
+    lines: &mut LineBuf,
+    source: &mut R,
+) -> Result<(), SyncError>
+    requires few { answers.old.bucket < 256 }
+    requires none { answers.old.is_begun ≡ false }
+    requires waits { Waits (C.state closure.old).meaning news.old }
+    ensures ok { OnOk result
+        (TakesGive (held_with news.old (C.state closure.old).meaning) answers.old.bucket
+        (stream_of R.remaining lines.old source.old) answers.old.read
+        (held_with news.new (C.state closure.new).meaning)
+        (stream_of R.remaining lines.new source.new) answers.new.read) }
+    ensures refused { IfErr result
+        (StopsGive (held_with news.old (C.state closure.old).meaning) answers.old.bucket
+        (answers.old.read + 1) (stream_of R.remaining lines.old source.old)
+        (held_with news.new (C.state closure.new).meaning)) }
+    ensures next { OnOk result (IsBeforeNext answers.old answers.new) }
+    ensures waits { Waits (C.state closure.new).meaning news.new }
+    ensures io { IsErrOf result Io → R.has_failed source.new ≡ true }
+    ensures fault { R.has_failed source.new ≡ (is_io result || R.has_failed source.old) }
+{
+    'lines: while !take_next(alloc, closure, answers, news, lines, source)? {}
+    Ok(())
+}
+
+// Takes the next line, and returns whether its answer ends with it. Nobody reads the journal here,
+// so it is emptied.
+fn take_next<C: Closure, R: Source>(
+    alloc: Global,
+    closure: &mut C,
+    answers: &mut AnswerLines,
+    news: &mut News,
+    lines: &mut LineBuf,
+    source: &mut R,
+) -> Result<bool, SyncError>
+    requires few { answers.old.bucket < 256 }
+    requires waits { Waits (C.state closure.old).meaning news.old }
+    ensures ok { IfOk result (λ whole. TakesNextLine (record {
+      held = held_with news.old (C.state closure.old).meaning;
+      lines = answers.old;
+      left = stream_of R.remaining lines.old source.old;
+    }) (record {
+      held = held_with news.new (C.state closure.new).meaning;
+      lines = answers.new;
+      left = stream_of R.remaining lines.new source.new;
+    }) whole) }
+    ensures refused { IfErr result (λ e. RefusesNextLine (record {
+      held = held_with news.old (C.state closure.old).meaning;
+      lines = answers.old;
+      left = stream_of R.remaining lines.old source.old;
+    }) e) }
+    ensures same { OnErr result
+        (held_with news.new (C.state closure.new).meaning
+        ≡ held_with news.old (C.state closure.old).meaning) }
+    ensures waits { Waits (C.state closure.new).meaning news.new }
+    ensures falls { IfOk result
+        (λ whole. left_of R.budget lines.new source.new
+        < left_of R.budget lines.old source.old) }
+    ensures io { IsErrOf result Io → R.has_failed source.new ≡ true }
+    ensures fault { R.has_failed source.new ≡ (is_io result || R.has_failed source.old) }
+{
+    news.empty_journal();
+    match lines.next_line(source)? {
+        Line::Text(text) => answers.take(alloc, closure, text, news),
+        Line::TooLong => Err(answers.overlong(alloc)),
+        Line::Cut => Err(SyncError::Truncated),
+        Line::End => Err(SyncError::Truncated),
+    }
 }
 
 // Asks about the bucket.

@@ -27,11 +27,7 @@ pub enum Wanted {
 /// Reads the line with this number, where `last` is the line before it, which is empty for the
 /// first, and digests are known, and takes what it says. Returns how many receipts are held now and
 /// were not.
-///
-/// # Errors
-/// Nothing is taken. They name the line by this number. Those of [`next_entry`], and
-/// [`SyncError::Refused`]: a receipt or a record is not of the configuration, or is one too many.
-pub fn take_line<C: Closure>(
+pub(crate) fn take_line<C: Closure>(
     alloc: Global,
     closure: &mut C,
     known: &mut KnownParts,
@@ -83,8 +79,11 @@ pub fn next_entry(
     )
 }
 
-/// The same, where digests are known.
-pub(crate) fn next_entry_with(
+/// The same, for those who read many lines: `known` is what is known of the lines before.
+///
+/// # Errors
+/// Those of [`next_entry`].
+pub fn next_entry_with(
     alloc: Global,
     known: &mut KnownParts,
     wanted: Wanted,

@@ -1,7 +1,7 @@
 //! The first lines of answers, read: what the line says is guessed, written again by `spelling` and
 //! compared with the line. So a line is read exactly where it has the one spelling.
 ghost use Rattle.std.specs.Prelude.{◌≡◌, ◌++◌, ◌<◌, ◌^◌, ◌↔◌, ◌||◌, ℕ, List, Option, IsTrue, IfOk};
-ghost use Rattle.std.specs.Prelude.{IfErr, IfSome, OnOk, MatchOption, codes};
+ghost use Rattle.std.specs.Prelude.{IfErr, IfSome, None, OnOk, MatchOption, codes};
 ghost use Rattle.byte_lines.specs.Streams.{stream_of, left_of};
 ghost use Rattle.replica_texts.specs.Snapshots.{is_io};
 ghost use Rattle.replica_texts.specs.Messages.{GiveHeader, distrusts_part, give_header_text};
@@ -21,56 +21,41 @@ use std::alloc::{AllocError, Global};
 
 /// What a session wants of an answer: that it is of this configuration, and about this bucket.
 #[derive(Clone, Copy)]
-pub struct Expected<'a> {
-    /// The configuration.
-    pub config: &'a Config,
-    /// The bucket.
-    pub bucket: u8,
+pub(crate) struct Expected<'a> {
+    pub(crate) config: &'a Config,
+    pub(crate) bucket: u8,
 }
 
 /// What the first line of an answer says, of format 2 with 256 buckets.
 #[derive(Clone, Copy, Debug)]
-pub struct Head {
-    /// About which bucket it is.
-    pub bucket: u8,
-    /// The digest of its configuration.
-    pub config: ConfigId,
+pub(crate) struct Head {
+    pub(crate) bucket: u8,
+    pub(crate) config: ConfigId,
     /// The number of receipts.
-    pub count: u64,
+    pub(crate) count: u64,
     /// The number of records.
-    pub distrusts: u64,
+    pub(crate) distrusts: u64,
 }
 
-/// Reads the next line as the first of an answer. The line is used up.
-///
-/// # Errors
-/// Of these the first that holds:
-/// - [`SyncError::Truncated`]: the source ends before the line does,
-/// - [`SyncError::BadHeader`]: it is no answer's first, of whatever format and number of buckets,
-///   or is about another bucket than is wanted, or has more than 8,388,608 bytes,
-/// - [`SyncError::ConfigDiffers`]: it is of another configuration than is wanted,
-/// - [`SyncError::VersionDiffers`]: it has another format than 2, or another number of buckets than
-///   256,
-/// - [`SyncError::Io`]: the source failed,
-/// - [`SyncError::NoMemory`]: memory ran out.
-pub fn next_head<R: Source>(
+/// Reads the next line as the first of an answer, of any configuration and about any bucket. The
+/// line is used up.
+pub(crate) fn next_head<R: Source>(
     alloc: Global,
-    expected: Option<Expected<'_>>,
     lines: &mut LineBuf,
     source: &mut R,
 ) -> Result<Head, SyncError>
     ensures ok { IfOk result
-        (HasHead (expected_by expected.entry) (stream_of R.remaining lines.old source.old)
+        (HasHead None (stream_of R.remaining lines.old source.old)
         (stream_of R.remaining lines.new source.new)) }
     ensures refused { IfErr result
-        (RefusesHead (expected_by expected.entry) (stream_of R.remaining lines.old source.old)
+        (RefusesHead None (stream_of R.remaining lines.old source.old)
         (stream_of R.remaining lines.new source.new)) }
     ensures fault { R.has_failed source.new ≡ (is_io result || R.has_failed source.old) }
     ensures falls { OnOk result
         (left_of R.budget lines.new source.new < left_of R.budget lines.old source.old) }
 {
     match lines.next_line(source)? {
-        Line::Text(text) => read_head(alloc, expected, text),
+        Line::Text(text) => read_head(alloc, None, text),
         Line::TooLong => Err(SyncError::BadHeader),
         Line::Cut => Err(SyncError::Truncated),
         Line::End => Err(SyncError::Truncated),

@@ -53,7 +53,7 @@ pub fn read_give<R: Source>(
         (stream_of R.remaining lines.new source.new)) }
     ensures fault { R.has_failed source.new ≡ (is_io result || R.has_failed source.old) }
 {
-    let head = next_head(alloc, None, lines, source)?;
+    let head = next_head(alloc, lines, source)?;
     let content = read_content(alloc, &head, lines, source)?;
     Ok(to_give(&head, content))
 }

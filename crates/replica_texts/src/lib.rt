@@ -27,8 +27,7 @@ mod snapshot_writer;
 mod sole_line;
 mod spelling;
 
-pub use entry_line::{Wanted, next_entry, take_line};
-pub use give_header_reader::{Expected, Head, next_head};
+pub use entry_line::{Wanted, next_entry, next_entry_with};
 pub use give_reader::read_give;
 pub use give_writer::write_answer;
 pub use have_reader::{next_own, read_have};

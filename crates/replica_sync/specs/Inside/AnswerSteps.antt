@@ -1,50 +1,22 @@
 -- How one line of an answer, and one piece of a session that pulls, is taken.
-use Rattle.std.specs.Prelude.{◌≡◌, ◌≢◌, ℕ, ◌+◌, ◌<◌, ◌⊎◌, ◌++◌, List, [], length, Contains}
+use Rattle.std.specs.Prelude.{◌≡◌, ℕ, ◌+◌, ◌<◌, ◌⊎◌, ◌++◌, List, [], length}
 use Rattle.std.specs.Prelude.{Bool, true, false, Some}
 use Rattle.receipt_core.specs.Acceptance.{Meaning}
 use Rattle.byte_lines.specs.Limits.{line_limit}
-use Rattle.closure_core.specs.declared.error.TakeError.{TakeError}
-use Rattle.closure_core.specs.declared.error.TakeError.TheVariants.{NoMemory as NoTakeMemory}
-use Rattle.replica_core.specs.Absorbing.{RefusesEntry, with_entry}
+use Rattle.replica_core.specs.Absorbing.{with_entry}
 use Rattle.replica_core.specs.Session.{have_of}
 use Rattle.replica_core.specs.declared.entry.Entry.{Entry}
-use Rattle.replica_core.specs.declared.entry.Entry.TheVariants.{Record, Receipt as AReceipt}
 use Rattle.replica_core.specs.declared.error.SyncError.{SyncError}
 use Rattle.replica_core.specs.declared.error.SyncError.TheVariants.{BadHeader, NotCanonical}
-use Rattle.replica_core.specs.declared.error.SyncError.TheVariants.{Refused, NoMemory}
+use Rattle.replica_core.specs.declared.error.SyncError.TheVariants.{NoMemory}
 use Rattle.replica_texts.specs.Entries.{IsNextEntry}
 use Rattle.replica_texts.specs.FirstLines.{RefusesGiveLine}
 use Rattle.replica_texts.specs.Gives.{Heads}
-use Rattle.replica_sync.specs.Inside.Taking.{IsNextOf, RefusesHere}
 use Rattle.replica_texts.specs.Messages.{have_text}
+use Rattle.replica_sync.specs.Inside.NextLines.{IsNextOf, RefusesHere}
 use Rattle.replica_texts.specs.declared.entry_line.Wanted.{Wanted}
 use Rattle.replica_sync.specs.Pieces.{EndsLine, GoesOn, IsOverlong, piece_run}
 use Rattle.replica_sync.specs.declared.answer_lines.AnswerLines.{AnswerLines}
-
--- ---- a receipt or a record
-
-abbrev pub IsHeldEntry : Meaning → Entry → Type 0
-IsHeldEntry m (Record x) = Contains m.records x
-IsHeldEntry m (AReceipt r) = Contains m.held r
-
--- why what the line with this number says is not taken
-abbrev pub RefusesUnheld : Meaning → ℕ → Entry → SyncError → Type 0
-RefusesUnheld m number entry (Refused n why) = (n ≡ number) × (why ≢ NoTakeMemory)
-    × RefusesEntry m entry why
-RefusesUnheld m number entry NoMemory = Unit {0}
-RefusesUnheld m number entry _ = ⊥
-
--- how a refusal names the line with this number
-abbrev pub IsNamed : ℕ → TakeError → SyncError → Type 0
-IsNamed number why (Refused n cause) = (n ≡ number) × (cause ≡ why) × (why ≢ NoTakeMemory)
-IsNamed number why NoMemory = why ≡ NoTakeMemory
-IsNamed number why _ = ⊥
-
--- Nothing has changed.
-pub record HasRefusedNew (old : Meaning) (number : ℕ) (entry : Entry) (new : Meaning)
-    (e : SyncError) : Type 0 where
-  pub cause : RefusesUnheld old number entry e
-  pub same : new ≡ old
 
 -- ---- a line
 

@@ -1,23 +1,21 @@
--- How one answer is taken, line by line.
-use Rattle.std.specs.Prelude.{◌≡◌, ℕ, ◌+◌, ◌⊎◌, List, length, flat_map, Option}
+-- How answers are taken from a stream, line by line.
+use Rattle.std.specs.Prelude.{◌≡◌, ℕ, ◌+◌, ◌<◌, ◌≤◌, ◌⊎◌, Bool, true, false, List, length}
+use Rattle.std.specs.Prelude.{flat_map, Option, Some}
 use Rattle.std.specs.Io.KnownBytes.{Appends, Consumes}
 use Rattle.receipt_core.specs.Acceptance.{Meaning}
+use Rattle.byte_lines.specs.Limits.{line_limit}
 use Rattle.byte_lines.specs.Lines.{HasLine, HasNoLine}
 use Rattle.replica_core.specs.State.{State, joined, meaning_of_state}
 use Rattle.replica_core.specs.Session.{GiveMessage, state_of}
-use Rattle.replica_texts.specs.Snapshots.{last_of, text_of_lines}
-use Rattle.replica_texts.specs.Inside.EntrySteps.{TakesEntryText}
-use Rattle.replica_texts.specs.Entries.{RefusesEntryLine, placed_line}
-use Rattle.replica_texts.specs.declared.entry_line.Wanted.{Wanted}
-use Rattle.replica_texts.specs.declared.entry_line.Wanted.TheVariants.{Records, Receipts, Either}
+use Rattle.replica_texts.specs.Gives.{GiveBegins, content_lines}
 use Rattle.replica_texts.specs.Messages.{have_text, give_text}
-use Rattle.replica_texts.specs.Gives.{content_lines, IsBegun, RefusesNextEntry}
+use Rattle.replica_texts.specs.Snapshots.{last_of}
 use Rattle.replica_sync.specs.Pulling.{IsGiveAbout, RefusesGiveAbout, Session, after_gives}
-use Rattle.replica_sync.specs.Pulling.{haves_of, line_count, refused_line}
+use Rattle.replica_sync.specs.Pulling.{haves_of, line_count}
+use Rattle.replica_sync.specs.Inside.AnswerSteps.{IsLongFault, RefusesAnswerLine, TakesAnswerLine}
+use Rattle.replica_sync.specs.declared.answer_lines.AnswerLines.{AnswerLines}
 use Rattle.replica_core.specs.declared.error.SyncError.{SyncError}
-use Rattle.replica_core.specs.declared.error.SyncError.TheVariants.{NotCanonical}
-use Rattle.replica_core.specs.declared.error.SyncError.TheVariants.{NotRising, Truncated}
-use Rattle.replica_core.specs.declared.error.SyncError.TheVariants.{Refused, Io, NoMemory}
+use Rattle.replica_core.specs.declared.error.SyncError.TheVariants.{Truncated, Io, NoMemory}
 
 -- what is held with what was gained
 abbrev pub meaning_gained : Meaning → State → Meaning
@@ -25,104 +23,64 @@ meaning_gained m content = meaning_of_state m.config (joined (state_of m) conten
 
 -- ---- one line
 
--- what the text says is held
-abbrev pub TakesHere : Wanted → Meaning → List ℕ → List ℕ → Meaning → Type 0
-TakesHere wanted old last text new = ((count : ℕ) × TakesEntryText wanted old last text new count)
+-- what is held, how far the answers came, and what is left of the stream
+pub record TakingPlace : Type 0 where
+  pub held : Meaning
+  pub lines : AnswerLines
+  pub left : Option (List ℕ)
 
--- The text is the next line, and what it says is held.
-pub record TakesNext (wanted : Wanted) (old : Meaning) (last : List ℕ) (stream : Option (List ℕ))
-    (new : Meaning) (text : List ℕ) (left : Option (List ℕ)) : Type 0 where
-  pub is : HasLine stream left text
-  pub taken : TakesHere wanted old last text new
-
--- what is wrong with the text where a line with this number is wanted; memory is wanted for it
--- besides
-abbrev pub RefusesHere : Wanted → Meaning → List ℕ → ℕ → List ℕ → SyncError → Type 0
-RefusesHere wanted m last number text e = (e ≡ NoMemory)
-    ⊎ RefusesEntryLine m (placed_line wanted last number text) e
-
--- The line has this fault, and nothing has changed.
-pub record HasRefusedHere (wanted : Wanted) (old : Meaning) (last : List ℕ) (number : ℕ)
-    (text : List ℕ) (new : Meaning) (e : SyncError) : Type 0 where
-  pub cause : RefusesHere wanted old last number text e
-  pub same : new ≡ old
-
--- There is a line, and it has this fault.
-pub record HasBadEntryLine (wanted : Wanted) (m : Meaning) (last : List ℕ) (number : ℕ)
-    (stream left : Option (List ℕ)) (e : SyncError) : Type 0 where
+-- The stream's next line is one of an answer, and is taken.
+pub record TakesNextLine (old new : TakingPlace) (whole : Bool) : Type 0 where
   pub text : List ℕ
-  pub is : HasLine stream left text
-  pub cause : RefusesEntryLine m (placed_line wanted last number text) e
+  pub is : HasLine old.left new.left text
+  pub takes : TakesAnswerLine old.held old.lines text new.held new.lines whole
 
--- why no line is taken where one is wanted
-abbrev pub RefusesTakingLine : Wanted → Meaning → List ℕ → ℕ → Option (List ℕ) → Option (List ℕ)
-    → SyncError → Type 0
-RefusesTakingLine wanted m last number stream left (NotCanonical n) = HasBadEntryLine wanted m last
-    number stream left (NotCanonical n)
-RefusesTakingLine wanted m last number stream left (NotRising n) = HasBadEntryLine wanted m last
-    number stream left (NotRising n)
-RefusesTakingLine wanted m last number stream left Truncated = HasNoLine stream
-RefusesTakingLine wanted m last number stream left (Refused n why) = HasBadEntryLine wanted m last
-    number stream left (Refused n why)
-RefusesTakingLine wanted m last number stream left Io = Unit {0}
-RefusesTakingLine wanted m last number stream left NoMemory = Unit {0}
-RefusesTakingLine wanted m last number stream left _ = ⊥
+-- The stream's next line has this fault.
+pub record HasFaultyLine (place : TakingPlace) (e : SyncError) : Type 0 where
+  pub text : List ℕ
+  pub after : Option (List ℕ)
+  pub is : HasLine place.left after text
+  pub cause : ((line_limit < length text) × IsLongFault place.lines e)
+      ⊎ ((length text ≤ line_limit) × RefusesAnswerLine place.held place.lines text e)
 
--- No line is taken, and nothing has changed.
-pub record HasNotTaken (wanted : Wanted) (old : Meaning) (last : List ℕ) (number : ℕ)
-    (stream : Option (List ℕ)) (new : Meaning) (left : Option (List ℕ))
-    (e : SyncError) : Type 0 where
-  pub cause : RefusesTakingLine wanted old last number stream left e
-  pub same : new ≡ old
+-- why no line is taken: the source failed or memory ran out, or no line comes, or it has a fault
+abbrev pub RefusesNextLine : TakingPlace → SyncError → Type 0
+RefusesNextLine place e = ((e ≡ Io) ⊎ (e ≡ NoMemory))
+    ⊎ (((e ≡ Truncated) × HasNoLine place.left) ⊎ HasFaultyLine place e)
 
 -- ---- the lines of an answer
 
--- which line comes next, where so many receipts and records are still to come, and how many then
--- are
-abbrev pub IsNextOf : ℕ → ℕ → Wanted → ℕ → ℕ → Type 0
-IsNextOf receipts records Records receipts_then records_then = (records ≡ records_then + 1)
-    × (receipts ≡ receipts_then)
-IsNextOf receipts records Receipts receipts_then records_then = (records ≡ 0) × (records_then ≡ 0)
-    × (receipts ≡ receipts_then + 1)
-IsNextOf receipts records Either receipts_then records_then = ⊥
+-- No line of the answer is taken yet.
+pub record HasNoneTaken (start now : TakingPlace) : Type 0 where
+  pub none : now.lines.is_begun ≡ false
+  pub read : now.lines.read ≡ start.lines.read
+  pub held : now.held ≡ start.held
+  pub left : now.left ≡ start.left
 
--- After the first line of an answer with so many receipts and records: so much was taken.
-pub record HasTakenPart (old : Meaning) (stream : Option (List ℕ)) (count distrusts : ℕ)
-    (content : State) (new : Meaning) (left : Option (List ℕ)) : Type 0 where
-  pub begun : IsBegun count distrusts content
-  pub meaning : new ≡ meaning_gained old content
-  pub text : Consumes stream left (text_of_lines (content_lines content))
-
--- This part of the answer is taken, these numbers of lines are still to come, and the last line and
--- the number of lines so far are known.
-pub record TakenSoFar (old : Meaning) (stream : Option (List ℕ))
-    (count distrusts first receipts records : ℕ) (now : Meaning) (left : Option (List ℕ))
-    (last : List ℕ) (read : ℕ) : Type 0 where
+-- Its first line is taken, and so much of what it has.
+pub record HasSomeTaken (start now : TakingPlace) : Type 0 where
+  pub begun : now.lines.is_begun ≡ true
+  pub count : ℕ
+  pub distrusts : ℕ
   pub content : State
-  pub taken : HasTakenPart old stream count distrusts content now left
-  pub last_is : last ≡ last_of (content_lines content)
-  pub receipts_due : length content.held + receipts ≡ count
-  pub records_due : length content.records + records ≡ distrusts
-  pub read_is : read ≡ first + length content.records + length content.held
+  pub begins : GiveBegins
+      (Some (record { config = start.held.config; bucket = start.lines.bucket })) start.left count
+      distrusts content now.left
+  pub meaning : now.held ≡ meaning_gained start.held content
+  pub receipts : length content.held + now.lines.due.receipts ≡ count
+  pub records : length content.records + now.lines.due.records ≡ distrusts
+  pub last : now.lines.last.items ≡ last_of (content_lines content)
+  pub read : now.lines.read ≡ start.lines.read + 1 + length content.records + length content.held
 
--- All is taken; `first` is the number of the first line, and `read` that of the last one.
-pub record TakesLines (old : Meaning) (stream : Option (List ℕ)) (count distrusts first : ℕ)
-    (new : Meaning) (left : Option (List ℕ)) (read : ℕ) : Type 0 where
-  pub content : State
-  pub taken : HasTakenPart old stream count distrusts content new left
-  pub receipts : length content.held ≡ count
-  pub records : length content.records ≡ distrusts
-  pub read_is : read ≡ first + length content.records + length content.held
+-- A part of the answer that is next at the start is taken.
+pub record HasTakenPart (start now : TakingPlace) : Type 0 where
+  pub bucket : now.lines.bucket ≡ start.lines.bucket
+  pub part : HasNoneTaken start now ⊎ HasSomeTaken start now
 
--- So much is taken, and after it is this fault.
-pub record StopsWithin (old : Meaning) (stream : Option (List ℕ)) (count distrusts first : ℕ)
-    (new : Meaning) (e : SyncError) : Type 0 where
-  pub content : State
-  pub left : Option (List ℕ)
-  pub after : Option (List ℕ)
-  pub taken : HasTakenPart old stream count distrusts content new left
-  pub cause : RefusesNextEntry (refused_line old.config (state_of old) first content) count
-      distrusts content left after e
+-- All of it is taken.
+pub record IsBeforeNext (old new : AnswerLines) : Type 0 where
+  pub bucket : new.bucket ≡ old.bucket + 1
+  pub none : new.is_begun ≡ false
 
 -- ---- an answer
 

@@ -4,10 +4,11 @@ use Rattle.receipt_core.specs.declared.distrust.Distrust.{Distrust}
 use Rattle.receipt_core.specs.Receipt.{Receipt, receipt_cmp, distrust_cmp}
 use Rattle.receipt_core.specs.Rising.{with_items}
 use Rattle.receipt_core.specs.Acceptance.{Meaning}
-use Rattle.closure_core.specs.Refusals.{Room, IsRoomier}
+use Rattle.closure_core.specs.Refusals.{IsRoomier}
 use Rattle.replica_core.specs.Absorbing.{AreWelcome, of_receipts, of_records, room_for}
 use Rattle.replica_core.specs.Session.{GiveMessage}
 use Rattle.replica_core.proofs.AbsorbFacts.{welcome-front, receipts-welcome}
+use Rattle.replica_core.proofs.JoiningFacts.{still-roomy}
 use Rattle.replica_core.proofs.PlaceFacts.{with_items-grows}
 use Rattle.replica_core.proofs.absorbing.take_whole.Goals as goal
 
@@ -37,7 +38,8 @@ take_all-requires-clause-room g c =
     let now = g.C.Closure.state c.distrust_all.new.closure in
     subst (λ (rs : List Receipt). IsRoomier (room_for now.meaning rs) now.room) (sym held)
     (subst (λ (k : Meaning). IsRoomier (room_for k content.held) now.room) (sym c.distrust_all.ensures.meaning)
-    (subst (λ (r : Room). IsRoomier (room_for m content.held) r) (sym c.distrust_all.ensures.room) c.requires.room))
+    (still-roomy (room_for m content.held) (g.C.Closure.state c.args.closure.now).room now.room c.requires.room
+    c.distrust_all.ensures.room))
 
 pub overflow_sub-result : goal.overflow_sub-result
 overflow_sub-result g c =

@@ -1,4 +1,4 @@
-use Rattle.std.proofs.Common.{◌∙◌, refl, arith}
+use Rattle.std.proofs.Common.{◌∙◌, ◌+◌, ℕ, ap, refl}
 use Rattle.replica_sync.specs.SessionRun.{session_run}
 use Rattle.replica_texts.proofs.SnapshotFacts.{refused_by}
 use Rattle.replica_sync.specs.Pulling.{PullsUpTo}
@@ -19,11 +19,10 @@ returns-in_err-pull_bucket-clause-refused g c =
 
 pub buckets-preserved : goal.buckets-preserved
 buckets-preserved g c =
-    let spent = c.in_ok-pull_bucket.ensures.counted in
-    let few = c.buckets.invariant.counted in
     record {
       asked = asked_more _ _ _ c.buckets.bucket _ _ _ _ _ _ _ _ c.buckets.invariant.asked c.in_ok-pull_bucket.ensures.ok c.in_ok-pull_bucket.ensures.asked;
-      counted = omega (arith, spent, few);
+      about = c.in_ok-pull_bucket.ensures.next.bucket ∙ ap (λ (b : ℕ). b + 1) c.buckets.invariant.about;
+      none = c.in_ok-pull_bucket.ensures.next.none;
       source = (c.in_ok-pull_bucket.ensures.fault refl).0 ∙ c.buckets.invariant.source;
       sink = (c.in_ok-pull_bucket.ensures.fault refl).1 ∙ c.buckets.invariant.sink;
     }

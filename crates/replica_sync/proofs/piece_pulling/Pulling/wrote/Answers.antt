@@ -1,4 +1,4 @@
-use Rattle.std.proofs.Common.{drop, sym, drop-drop}
+use Rattle.std.proofs.Common.{sym, drop-drop}
 use Rattle.replica_sync.specs.PullSessions.{due_have}
 use Rattle.replica_sync.proofs.PullStepFacts.{none_left, wrote_have}
 use Rattle.replica_sync.proofs.piece_pulling.Pulling.wrote.Goals as goal

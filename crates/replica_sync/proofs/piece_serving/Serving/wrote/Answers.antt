@@ -1,4 +1,4 @@
-use Rattle.std.proofs.Common.{drop, sym, drop-drop}
+use Rattle.std.proofs.Common.{sym, drop-drop}
 use Rattle.replica_sync.specs.ServedPieces.{due_give}
 use Rattle.replica_sync.proofs.ServedPieceFacts.{wrote_some}
 use Rattle.replica_sync.proofs.piece_serving.Serving.wrote.Goals as goal

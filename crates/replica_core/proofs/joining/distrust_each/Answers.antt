@@ -1,7 +1,7 @@
 -- One more is held.
 use Rattle.std.proofs.Common.{sym}
 use Rattle.replica_core.proofs.JoiningFacts.{IsDistrusting-next}
-use Rattle.replica_core.proofs.joining.distrust_all.Goals as goal
+use Rattle.replica_core.proofs.joining.distrust_each.Goals as goal
 
 pub loop-record-preserved : goal.loop-record-preserved
 loop-record-preserved g c =

@@ -1,0 +1,159 @@
+-- Several lines, taken by one call.
+use Rattle.std.proofs.Common.{◌≡◌, ◌≢◌, ℕ, zero, suc, ◌+◌, ◌-◌, ◌<◌, ◌≤◌, ◌⊎◌, inl, inr, List, [], ◌∷◌, ◌++◌, length, take, drop}
+use Rattle.std.proofs.Common.{refl, sym, ap, ◌∙◌, subst, append_assoc, append-nil, length-append, length-drop, take-append-drop, arith}
+use Rattle.std.specs.Prelude.{flat_map}
+use Rattle.std.proofs.lemmas.Grind.{flat_map-append}
+use Rattle.std.proofs.lemmas.List.{take_rest}
+use Rattle.std.proofs.lemmas.List.Sums.{fold-append}
+use Rattle.receipt_core.specs.Acceptance.{Meaning}
+use Rattle.replica_core.specs.Absorbing.{with_entries, with_entry}
+use Rattle.replica_core.specs.declared.entry.Entry.{Entry}
+use Rattle.replica_core.specs.declared.entry.Entry.TheVariants.{Record, Receipt as AReceipt}
+use Rattle.replica_core.proofs.JudgeFacts.{all-push}
+use Rattle.replica_texts.specs.SoleLines.{IsWellFormed}
+use Rattle.replica_journal.specs.Journal.{entry_text}
+use Rattle.replica_sync.specs.PulledPieces.{AreAlone, AreNewInTurn, Journals, JournalsAll, JournalsEntry, PulledPiece}
+use Rattle.replica_sync.specs.PullSessions.{EndsInFeed, HasPulledPieces, IsOverPulling, PullsLines, TakesBytes, TakesLines, TakesNoMore, due_have}
+use Rattle.replica_sync.specs.declared.piece_pulling.Pulling.{Pulling}
+use Rattle.replica_sync.proofs.PulledPieceFacts.{bytes_more}
+
+-- ---- the configuration
+
+-- With more entries it is the same.
+pub config_same : (entries : List Entry) (m : Meaning) → (with_entries entries m).config ≡ m.config
+config_same [] m = refl
+config_same (Record x ∷ entries) m = config_same entries (with_entry (Record x) m)
+config_same (AReceipt r ∷ entries) m = config_same entries (with_entry (AReceipt r) m)
+
+-- ---- the journal
+
+-- No line is appended.
+pub journals_none : (m : Meaning) (before : List ℕ) → JournalsAll m m before before
+journals_none m before = record { entries = []; forms = tt; meaning = refl; changed = tt; text = sym (append-nil before) }
+
+-- One more is new after those that are new.
+new_more : (m : Meaning) (entries : List Entry) (entry : Entry) → AreNewInTurn m entries
+    → with_entry entry (with_entries entries m) ≢ with_entries entries m → AreNewInTurn m (entries ++ entry ∷ [])
+new_more m [] entry all one = (one, tt)
+new_more m (first ∷ entries) entry all one = (all.0, new_more (with_entry first m) entries entry all.1 one)
+
+-- One more line is appended.
+entry_more : (old mid new : Meaning) (before then after : List ℕ) → JournalsAll old mid before then → JournalsEntry mid new then after
+    → JournalsAll old new before after
+entry_more old mid new before then after all one =
+    let entry = one.entry in
+    record {
+      entries = all.entries ++ entry ∷ [];
+      forms = all-push IsWellFormed all.entries entry all.forms one.form;
+      meaning = one.meaning ∙ ap (with_entry entry) all.meaning
+          ∙ sym (fold-append (λ (m : Meaning) (e : Entry). with_entry e m) old all.entries (entry ∷ []));
+      changed = new_more old all.entries entry all.changed
+          (λ same. one.changed (one.meaning ∙ ap (with_entry entry) all.meaning ∙ same ∙ sym all.meaning));
+      text = one.text ∙ ap (λ (l : List ℕ). l ++ entry_text entry) all.text
+          ∙ append_assoc before (flat_map entry_text all.entries) (entry_text entry)
+          ∙ ap (λ (l : List ℕ). before ++ l) (sym (flat_map-append entry_text all.entries (entry ∷ [])
+          ∙ ap (λ (l : List ℕ). flat_map entry_text all.entries ++ l) (append-nil (entry_text entry))));
+    }
+
+-- Whatever one more line appends.
+pub journals_more : (old mid new : Meaning) (before then after : List ℕ) → JournalsAll old mid before then → Journals mid new then after
+    → JournalsAll old new before after
+journals_more old mid new before then after all (inl none) =
+    subst (λ (m : Meaning). JournalsAll old m before after) (sym none.0)
+    (subst (λ (l : List ℕ). JournalsAll old mid before l) (sym none.1) all)
+journals_more old mid new before then after all (inr one) = entry_more old mid new before then after all one
+
+-- ---- the pieces
+
+-- One more piece, between which and those before nothing changes.
+alone_more : (before after : Meaning) (came : List PulledPiece) (c : PulledPiece) → AreAlone before came after → c.old ≡ after
+    → AreAlone before (came ++ c ∷ []) c.new
+alone_more before after [] c alone same = (same ∙ alone, refl)
+alone_more before after (first ∷ came) c alone same = (alone.0, alone_more first.new after came c alone.1 same)
+
+-- what one call does to a session, whichever it is
+abbrev pub PullsPiece : Pulling → PulledPiece → Pulling → Type 0
+PullsPiece before c after = (start : Meaning) (came : List PulledPiece) (written : List ℕ) → c.old.config ≡ start.config
+    → HasPulledPieces before start came written → HasPulledPieces after start (came ++ c ∷ []) written
+
+-- No line is taken.
+pub pulls_none : (p : Pulling) (m : Meaning) → PullsLines p m [] p m
+pulls_none p m = record {
+  pieces = [];
+  whole = refl;
+  alone = refl;
+  pulls = λ start came written same h. subst (λ (l : List PulledPiece). HasPulledPieces p start l written) (sym (append-nil came)) h;
+}
+
+-- One more line is taken.
+pub pulls_more : (p then q : Pulling) (old mid : Meaning) (bytes : List ℕ) (c : PulledPiece) → PullsLines p old bytes then mid
+    → c.old ≡ mid → mid.config ≡ old.config → PullsPiece then c q → PullsLines p old (bytes ++ c.bytes) q c.new
+pulls_more p then q old mid bytes c all at same one = record {
+  pieces = all.pieces ++ c ∷ [];
+  whole = bytes_more all.pieces c ∙ ap (λ (l : List ℕ). l ++ c.bytes) all.whole;
+  alone = alone_more old mid all.pieces c all.alone at;
+  pulls = λ start came written own h.
+      subst (λ (l : List PulledPiece). HasPulledPieces q start l written) (append_assoc came all.pieces (c ∷ []))
+      (one start (came ++ all.pieces) written (ap (λ (m : Meaning). m.config) at ∙ same ∙ own) (all.pulls start came written own h));
+}
+
+-- ---- the bytes
+
+-- So many bytes, and so many of those after them.
+pub take_both : (n k : ℕ) (piece : List ℕ) → n ≤ length piece → take n piece ++ take k (drop n piece) ≡ take (n + k) piece
+take_both zero k piece few = let on : k ≡ zero + k = omega arith in ap (λ (m : ℕ). take m piece) on
+take_both (suc n) k [] few = absurd (omega (arith, few))
+take_both (suc n) k (x ∷ piece) few =
+    let on : suc (n + k) ≡ suc n + k = omega arith in
+    ap (λ (l : List ℕ). x ∷ l) (take_both n k piece (omega (arith, few))) ∙ ap (λ (m : ℕ). take m (x ∷ piece)) on
+
+-- No bytes end in a line feed.
+no_feed : EndsInFeed [] → ⊥
+no_feed (before, same) = let longer = ap length same in let parts = length-append before (10 ∷ []) in omega (arith, longer, parts)
+
+-- Why a call took nothing of some bytes.
+why_none : (p : Pulling) → TakesNoMore [] p → (0 < length (due_have p)) ⊎ IsOverPulling p
+why_none p (inl feed) = absurd (no_feed feed)
+why_none p (inr rest) = rest
+
+-- Where the last call took nothing, or came to the end, no more is taken.
+pub takes_all : (piece : List ℕ) (p : Pulling) (used more : ℕ) → used ≤ length piece → TakesBytes (drop used piece) p more
+    → (more ≡ 0) ⊎ (used + more ≡ length piece) → TakesLines piece p (used + more)
+takes_all piece p used more few took (inr all) = record {
+  within = omega (arith, all);
+  fewer = λ less. absurd (omega (arith, less, all));
+}
+takes_all piece p used more few took (inl none) =
+    let left = length-drop used piece in
+    record {
+      within = omega (arith, none, few);
+      fewer = λ less. why_none p
+          (subst (λ (n : ℕ). TakesNoMore (take n (drop used piece)) p) none (took.fewer (omega (arith, less, none, left))));
+    }
+
+-- After the lines so far the configuration is the same.
+pub config_then : (old mid : Meaning) (before then : List ℕ) → JournalsAll old mid before then → mid.config ≡ old.config
+config_then old mid before then all = ap (λ (m : Meaning). m.config) all.meaning ∙ config_same all.entries old
+
+-- what is left of the piece, as a call is given it
+abbrev pub rest_of : List ℕ → ℕ → List ℕ
+rest_of piece used = take (length piece - used) (drop used piece)
+
+-- What a call does that ends with a fault.
+pub pulls_stop : (p then q : Pulling) (old mid new : Meaning) (piece : List ℕ) (used : ℕ) → PullsLines p old (take used piece) then mid
+    → mid.config ≡ old.config → PullsPiece then (record { bytes = rest_of piece used; old = mid; new = new }) q
+    → PullsLines p old piece q new
+pulls_stop p then q old mid new piece used all same one =
+    subst (λ (l : List ℕ). PullsLines p old l q new)
+    (ap (λ (l : List ℕ). take used piece ++ l) (take_rest piece used) ∙ take-append-drop used piece)
+    (pulls_more p then q old mid (take used piece) (record { bytes = rest_of piece used; old = mid; new = new }) all refl same one)
+
+-- What a call does that takes some bytes more.
+pub pulls_on : (p then q : Pulling) (old mid new : Meaning) (piece : List ℕ) (used more : ℕ) → used ≤ length piece
+    → PullsLines p old (take used piece) then mid → mid.config ≡ old.config
+    → PullsPiece then (record { bytes = take more (rest_of piece used); old = mid; new = new }) q
+    → PullsLines p old (take (used + more) piece) q new
+pulls_on p then q old mid new piece used more few all same one =
+    subst (λ (l : List ℕ). PullsLines p old l q new)
+    (ap (λ (l : List ℕ). take used piece ++ take more l) (take_rest piece used) ∙ take_both used more piece few)
+    (pulls_more p then q old mid (take used piece) (record { bytes = take more (rest_of piece used); old = mid; new = new }) all refl same one)

@@ -1,0 +1,96 @@
+use Rattle.std.proofs.Common.{◌≡◌, ◌++◌, ◌∙◌, inl, List, ℕ, [], sym, ap, length, refl, take}
+use Rattle.std.specs.Prelude.{◌==◌}
+use Rattle.receipt_core.specs.Acceptance.{Meaning}
+use Rattle.replica_sync.specs.PulledPieces.{PulledPiece}
+use Rattle.replica_sync.specs.PullSessions.{count_of_pulling, due_have, kept_answer}
+use Rattle.replica_sync.specs.Inside.AnswerSteps.{PullState}
+use Rattle.replica_sync.specs.Inside.Waiting.{held_with}
+use Rattle.replica_sync.specs.declared.piece_pulling.Pulling.{Pulling}
+use Rattle.replica_sync.proofs.ServedPieceFacts.{empty_text, no_fault}
+use Rattle.replica_sync.proofs.PullStepFacts.{below_last, piece_at, pulled_nothing, pulled_still, read_stopped, read_took, taken_more, taken_same}
+use Rattle.replica_sync.proofs.PullStepFacts.{takes_up_to_feed}
+use Rattle.replica_sync.proofs.piece_pulling.Pulling.read_line.Goals as goal
+
+-- what a call leaves that takes nothing
+abbrev quiet_at : List ℕ → Meaning → PulledPiece
+quiet_at bytes m = record { bytes = bytes; old = m; new = m }
+
+-- where a machine is
+abbrev state_at : Meaning → Pulling → PullState
+state_at m p = record { held = m; lines = p.lines; kept = kept_answer p }
+
+pub returns-in-Some-clause-pulls : goal.returns-in-Some-clause-pulls
+returns-in-Some-clause-pulls g c start came written own h =
+    let self = c.args.self.now in
+    let piece = quiet_at c.args.piece.now (held_with c.args.news.now (g.C.Closure.state c.args.closure.now).meaning) in
+    record {
+      pulls = pulled_still self.fault c.in-Some.why self.lines start came (kept_answer self) (written ++ due_have self) piece c.in-Some.is refl h.pulls;
+      taken = taken_same (count_of_pulling self) came piece h.taken refl;
+      idle = h.idle;
+    }
+
+pub returns-then-is_over-clause-pulls : goal.returns-then-is_over-clause-pulls
+returns-then-is_over-clause-pulls g c start came written own h =
+    let self = c.args.self.now in
+    let piece = quiet_at [] (held_with c.args.news.now (g.C.Closure.state c.args.closure.now).meaning) in
+    record {
+      pulls = pulled_nothing self.fault self.lines start came (kept_answer self) (written ++ due_have self) piece
+          (no_fault self.fault c.in_default.not-Some) refl refl h.pulls;
+      taken = taken_same (count_of_pulling self) came piece h.taken refl;
+      idle = h.idle;
+    }
+
+pub returns-then-not-is_empty-clause-pulls : goal.returns-then-not-is_empty-clause-pulls
+returns-then-not-is_empty-clause-pulls g c start came written own h =
+    let self = c.args.self.now in
+    let piece = quiet_at [] (held_with c.args.news.now (g.C.Closure.state c.args.closure.now).meaning) in
+    record {
+      pulls = pulled_nothing self.fault self.lines start came (kept_answer self) (written ++ due_have self) piece
+          (no_fault self.fault c.in_default.not-Some) refl refl h.pulls;
+      taken = taken_same (count_of_pulling self) came piece h.taken refl;
+      idle = h.idle;
+    }
+
+pub returns-in-Ok-clause-pulls : goal.returns-in-Ok-clause-pulls
+returns-in-Ok-clause-pulls g c start came written own h =
+    let self = c.args.self.now in
+    let then = c.advance.new.self in
+    let old = state_at (held_with c.args.news.now (g.C.Closure.state c.args.closure.now).meaning) self in
+    let new = state_at (held_with c.advance.new.news (g.C.Closure.state c.advance.new.closure).meaning) then in
+    let sound = no_fault self.fault c.in_default.not-Some in
+    let idle : due_have self ≡ [] =
+    empty_text (due_have self) (ap (λ (l : List ℕ). length l == 0) (sym c.output.ensures) ∙ sym c.is_empty.ensures ∙ c.if-not-is_empty.false) in
+    let more = below_last c.is_over.result self.lines.bucket c.is_over.ensures c.if-is_over.false self.lines.few in
+    record {
+      pulls = read_took self.fault then.fault start came old new c.args.piece.now c.in-Ok.used (due_have self) (due_have then) written sound
+          c.in-Ok.ensures.fault idle more own c.in-Ok.ensures.ok h.pulls;
+      taken = taken_more (count_of_pulling self) (count_of_pulling then) came (piece_at (take c.in-Ok.used c.args.piece.now) old new) h.taken
+          c.in-Ok.ensures.taken;
+      idle = λ stopped. absurd (stopped (c.in-Ok.ensures.fault ∙ sound));
+    }
+
+pub returns-in-Err-clause-pulls : goal.returns-in-Err-clause-pulls
+returns-in-Err-clause-pulls g c start came written own h =
+    let self = c.args.self.now in
+    let then = c.advance.new.self in
+    let old = state_at (held_with c.args.news.now (g.C.Closure.state c.args.closure.now).meaning) self in
+    let new = state_at (held_with c.advance.new.news (g.C.Closure.state c.advance.new.closure).meaning) then in
+    let sound = no_fault self.fault c.in_default.not-Some in
+    let idle : due_have self ≡ [] =
+    empty_text (due_have self) (ap (λ (l : List ℕ). length l == 0) (sym c.output.ensures) ∙ sym c.is_empty.ensures ∙ c.if-not-is_empty.false) in
+    let more = below_last c.is_over.result self.lines.bucket c.is_over.ensures c.if-is_over.false self.lines.few in
+    record {
+      pulls = read_stopped self.fault c.in-Err.why start came old new c.args.piece.now (kept_answer then) (due_have self) (due_have then) written sound
+          idle c.in-Err.ensures.quiet more own self.lines.some c.in-Err.ensures.refused h.pulls;
+      taken = taken_more (count_of_pulling self) (count_of_pulling then) came (piece_at c.args.piece.now old new) h.taken c.in-Err.ensures.taken;
+      idle = λ stopped. c.in-Err.ensures.quiet;
+    }
+
+pub returns-in-Ok-clause-taken : goal.returns-in-Ok-clause-taken
+returns-in-Ok-clause-taken g c =
+    let self = c.args.self.now in
+    let then = c.advance.new.self in
+    let old = state_at (held_with c.args.news.now (g.C.Closure.state c.args.closure.now).meaning) self in
+    let new = state_at (held_with c.advance.new.news (g.C.Closure.state c.advance.new.closure).meaning) then in
+    let up_to = takes_up_to_feed old new c.args.piece.now (due_have then) c.in-Ok.used c.in-Ok.ensures.ok in
+    record { within = up_to.within; fewer = λ few. inl (up_to.fewer few) }
