@@ -31,7 +31,8 @@ Journals old new before after = ((new ≡ old) × (after ≡ before))
 -- Each was not held where those before it are held.
 abbrev pub AreNewInTurn : Meaning → List Entry → Type 0
 AreNewInTurn m [] = Unit {0}
-AreNewInTurn m (entry ∷ entries) = (with_entry entry m ≢ m) × AreNewInTurn (with_entry entry m) entries
+AreNewInTurn m (entry ∷ entries) = (with_entry entry m ≢ m)
+    × AreNewInTurn (with_entry entry m) entries
 
 -- All that changes is appended to the journal, in order.
 pub record JournalsAll (old new : Meaning) (before after : List ℕ) : Type 0 where

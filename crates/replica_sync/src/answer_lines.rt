@@ -119,10 +119,12 @@ impl AnswerLines {
     ) -> Result<bool, SyncError>
         requires few { self.old.bucket < 256 }
         requires waits { Waits (C.state closure.old).meaning news.old }
-        ensures ok { IfOk result (TakesAnswerLine (held_with news.old (C.state closure.old).meaning) self.old text.now
+        ensures ok { IfOk result (TakesAnswerLine
+            (held_with news.old (C.state closure.old).meaning) self.old text.now
             (held_with news.new (C.state closure.new).meaning) self.new) }
         ensures refused { IfErr result
-            (RefusesAnswerLine (held_with news.old (C.state closure.old).meaning) self.old text.now) }
+            (RefusesAnswerLine (held_with news.old (C.state closure.old).meaning) self.old
+            text.now) }
         ensures same { OnErr result
             (held_with news.new (C.state closure.new).meaning
             ≡ held_with news.old (C.state closure.old).meaning) }
@@ -130,7 +132,8 @@ impl AnswerLines {
             + (length (C.state closure.new).meaning.held
             - length (C.state closure.old).meaning.held) }
         ensures waits { Waits (C.state closure.new).meaning news.new }
-        ensures journals { Journals (held_with news.old (C.state closure.old).meaning) (held_with news.new (C.state closure.new).meaning)
+        ensures journals { Journals (held_with news.old (C.state closure.old).meaning)
+            (held_with news.new (C.state closure.new).meaning)
             news.old.journal.items news.new.journal.items }
     {
         let number = next_number(alloc, self.read)?;
@@ -152,7 +155,8 @@ impl AnswerLines {
         requires bucket { self.old.bucket < 256 }
         requires number { number ≡ self.old.read + 1 }
         requires waits { Waits (C.state closure.old).meaning news.old }
-        ensures ok { IfOk result (λ s. StepsLine (held_with news.old (C.state closure.old).meaning) self.old text.now
+        ensures ok { IfOk result (λ s. StepsLine
+            (held_with news.old (C.state closure.old).meaning) self.old text.now
             (held_with news.new (C.state closure.new).meaning) (record {
               receipts = s.due.receipts;
               records = s.due.records;
@@ -162,13 +166,15 @@ impl AnswerLines {
             × (length (C.state closure.new).meaning.held
             ≡ length (C.state closure.old).meaning.held + s.new)) }
         ensures refused { IfErr result
-            (RefusesAnswerLine (held_with news.old (C.state closure.old).meaning) self.old text.now) }
+            (RefusesAnswerLine (held_with news.old (C.state closure.old).meaning) self.old
+            text.now) }
         ensures same { OnErr result
             (held_with news.new (C.state closure.new).meaning
             ≡ held_with news.old (C.state closure.old).meaning) }
         ensures counts { HasSameCounts self.old self.new }
         ensures waits { Waits (C.state closure.new).meaning news.new }
-        ensures journals { Journals (held_with news.old (C.state closure.old).meaning) (held_with news.new (C.state closure.new).meaning)
+        ensures journals { Journals (held_with news.old (C.state closure.old).meaning)
+            (held_with news.new (C.state closure.new).meaning)
             news.old.journal.items news.new.journal.items }
     {
         if self.is_begun {
@@ -211,7 +217,8 @@ impl AnswerLines {
         requires begun { self.old.is_begun ≡ true }
         requires number { number ≡ self.old.read + 1 }
         requires waits { Waits (C.state closure.old).meaning news.old }
-        ensures ok { IfOk result (λ s. StepsEntry (held_with news.old (C.state closure.old).meaning) self.old text.now
+        ensures ok { IfOk result (λ s. StepsEntry
+            (held_with news.old (C.state closure.old).meaning) self.old text.now
             (held_with news.new (C.state closure.new).meaning) (record {
               receipts = s.due.receipts;
               records = s.due.records;
@@ -227,7 +234,8 @@ impl AnswerLines {
             ≡ held_with news.old (C.state closure.old).meaning) }
         ensures counts { HasSameCounts self.old self.new }
         ensures waits { Waits (C.state closure.new).meaning news.new }
-        ensures journals { Journals (held_with news.old (C.state closure.old).meaning) (held_with news.new (C.state closure.new).meaning)
+        ensures journals { Journals (held_with news.old (C.state closure.old).meaning)
+            (held_with news.new (C.state closure.new).meaning)
             news.old.journal.items news.new.journal.items }
     {
         let (wanted, due) = next_of(self.due);

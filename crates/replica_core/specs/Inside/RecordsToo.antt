@@ -10,7 +10,11 @@ use Rattle.closure_core.specs.Refusals.{IsRoomier}
 
 -- a meaning without receipts, in which these records are held
 abbrev pub only_records : Configuration → List Distrust → Meaning
-only_records c records = record { config = c; held = []; records = with_items distrust_cmp records [] }
+only_records c records = record {
+  config = c;
+  held = [];
+  records = with_items distrust_cmp records [];
+}
 
 -- These records are held besides, and the room is kept or has grown.
 pub record HasRecordsToo (old : HeldAndRoom) (records : List Distrust)

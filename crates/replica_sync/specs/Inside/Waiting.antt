@@ -41,8 +41,8 @@ pub record MayWait (m : Meaning) (news : News) (x : Distrust) : Type 0 where
   pub place : 0 < news.free
 
 -- What a line says is taken or waits, or is refused, and what is new is appended to the journal.
-pub record TakesNews (m : Meaning) (old : News) (number : ℕ) (entry : Entry) (n : Meaning) (new : News)
-    (result : Result ℕ SyncError) : Type 0 where
+pub record TakesNews (m : Meaning) (old : News) (number : ℕ) (entry : Entry) (n : Meaning)
+    (new : News) (result : Result ℕ SyncError) : Type 0 where
   pub takes : MatchResult result (TakesEntry (held_with old m) entry (held_with new n))
       (HasRefusedNew (held_with old m) number entry (held_with new n))
   pub few : IfOk result (λ count. count ≤ 1)
