@@ -76,8 +76,12 @@ abbrev pub PullsPiece : Pulling → PulledPiece → Pulling → Type 0
 PullsPiece before c after = (start : Meaning) (came : List PulledPiece) (written : List ℕ) → c.old.config ≡ start.config
     → HasPulledPieces before start came written → HasPulledPieces after start (came ++ c ∷ []) written
 
+-- the same, by its parts
+abbrev pub Lines : Pulling → Meaning → List ℕ → Pulling → Meaning → Type 0
+Lines before old bytes after new = PullsLines before (record { bytes = bytes; old = old; new = new }) after
+
 -- No line is taken.
-pub pulls_none : (p : Pulling) (m : Meaning) → PullsLines p m [] p m
+pub pulls_none : (p : Pulling) (m : Meaning) → Lines p m [] p m
 pulls_none p m = record {
   pieces = [];
   whole = refl;
@@ -86,8 +90,8 @@ pulls_none p m = record {
 }
 
 -- One more line is taken.
-pub pulls_more : (p then q : Pulling) (old mid : Meaning) (bytes : List ℕ) (c : PulledPiece) → PullsLines p old bytes then mid
-    → c.old ≡ mid → mid.config ≡ old.config → PullsPiece then c q → PullsLines p old (bytes ++ c.bytes) q c.new
+pub pulls_more : (p then q : Pulling) (old mid : Meaning) (bytes : List ℕ) (c : PulledPiece) → Lines p old bytes then mid
+    → c.old ≡ mid → mid.config ≡ old.config → PullsPiece then c q → Lines p old (bytes ++ c.bytes) q c.new
 pulls_more p then q old mid bytes c all at same one = record {
   pieces = all.pieces ++ c ∷ [];
   whole = bytes_more all.pieces c ∙ ap (λ (l : List ℕ). l ++ c.bytes) all.whole;
@@ -140,20 +144,20 @@ abbrev pub rest_of : List ℕ → ℕ → List ℕ
 rest_of piece used = take (length piece - used) (drop used piece)
 
 -- What a call does that ends with a fault.
-pub pulls_stop : (p then q : Pulling) (old mid new : Meaning) (piece : List ℕ) (used : ℕ) → PullsLines p old (take used piece) then mid
+pub pulls_stop : (p then q : Pulling) (old mid new : Meaning) (piece : List ℕ) (used : ℕ) → Lines p old (take used piece) then mid
     → mid.config ≡ old.config → PullsPiece then (record { bytes = rest_of piece used; old = mid; new = new }) q
-    → PullsLines p old piece q new
+    → Lines p old piece q new
 pulls_stop p then q old mid new piece used all same one =
-    subst (λ (l : List ℕ). PullsLines p old l q new)
+    subst (λ (l : List ℕ). Lines p old l q new)
     (ap (λ (l : List ℕ). take used piece ++ l) (take_rest piece used) ∙ take-append-drop used piece)
     (pulls_more p then q old mid (take used piece) (record { bytes = rest_of piece used; old = mid; new = new }) all refl same one)
 
 -- What a call does that takes some bytes more.
 pub pulls_on : (p then q : Pulling) (old mid new : Meaning) (piece : List ℕ) (used more : ℕ) → used ≤ length piece
-    → PullsLines p old (take used piece) then mid → mid.config ≡ old.config
+    → Lines p old (take used piece) then mid → mid.config ≡ old.config
     → PullsPiece then (record { bytes = take more (rest_of piece used); old = mid; new = new }) q
-    → PullsLines p old (take (used + more) piece) q new
+    → Lines p old (take (used + more) piece) q new
 pulls_on p then q old mid new piece used more few all same one =
-    subst (λ (l : List ℕ). PullsLines p old l q new)
+    subst (λ (l : List ℕ). Lines p old l q new)
     (ap (λ (l : List ℕ). take used piece ++ take more l) (take_rest piece used) ∙ take_both used more piece few)
     (pulls_more p then q old mid (take used piece) (record { bytes = take more (rest_of piece used); old = mid; new = new }) all refl same one)

@@ -196,13 +196,12 @@ pub record HasPulledPieces (pulling : Pulling) (start : Meaning) (came : List Pu
   pub taken : count_of_pulling pulling ≡ receipts_pulled came
   pub idle : fault_of_pulling pulling ≢ None → due_have pulling ≡ []
 
--- The lines of these bytes are taken one after another, as by as many calls, between which nothing
--- changes: the first began where `old` was held, and after the last one `new` is.
-pub record PullsLines (before : Pulling) (old : Meaning) (bytes : List ℕ) (after : Pulling)
-    (new : Meaning) : Type 0 where
+-- The lines of the bytes are taken one after another, as by as many calls, between which nothing
+-- changes.
+pub record PullsLines (before : Pulling) (came_now : PulledPiece) (after : Pulling) : Type 0 where
   pub pieces : List PulledPiece
-  pub whole : bytes_pulled pieces ≡ bytes
-  pub alone : AreAlone old pieces new
+  pub whole : bytes_pulled pieces ≡ came_now.bytes
+  pub alone : AreAlone came_now.old pieces came_now.new
   pub pulls : (start : Meaning) (came : List PulledPiece) (written : List ℕ)
-      → old.config ≡ start.config → HasPulledPieces before start came written
+      → came_now.old.config ≡ start.config → HasPulledPieces before start came written
       → HasPulledPieces after start (came ++ pieces) written

@@ -141,8 +141,11 @@ impl Pulling {
         piece: &[u8],
         journal: &mut Vec<u8>,
     ) -> Result<usize, SyncError>
-        ensures pulls { PullsLines self.old (C.state closure.old).meaning
-            (bytes_read piece.now result) self.new (C.state closure.new).meaning }
+        ensures pulls { PullsLines self.old (record {
+          bytes = bytes_read piece.now result;
+          old = (C.state closure.old).meaning;
+          new = (C.state closure.new).meaning;
+        }) self.new }
         ensures journals { JournalsAll (C.state closure.old).meaning (C.state closure.new).meaning
             journal.old.items journal.new.items }
         ensures taken { IfOk result (TakesLines piece.now self.new) }
@@ -166,9 +169,11 @@ impl Pulling {
         news: &mut News,
     ) -> Result<usize, SyncError>
         requires waits { Waits (C.state closure.old).meaning news.old }
-        ensures pulls { PullsLines self.old (held_with news.old (C.state closure.old).meaning)
-            (bytes_read piece.now result) self.new
-            (held_with news.new (C.state closure.new).meaning) }
+        ensures pulls { PullsLines self.old (record {
+          bytes = bytes_read piece.now result;
+          old = held_with news.old (C.state closure.old).meaning;
+          new = held_with news.new (C.state closure.new).meaning;
+        }) self.new }
         ensures journals { JournalsAll (held_with news.old (C.state closure.old).meaning)
             (held_with news.new (C.state closure.new).meaning)
             news.old.journal.items news.new.journal.items }

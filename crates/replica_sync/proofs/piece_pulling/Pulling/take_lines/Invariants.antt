@@ -7,8 +7,11 @@ use Rattle.replica_sync.proofs.piece_pulling.Pulling.take_lines.Given as goal
 
 abbrev pub invariant-lines : goal.invariant-lines
 invariant-lines g l = record {
-  pulls : PullsLines l.fn.self (held_with l.fn.news (g.C.Closure.state l.fn.closure).meaning) (take l.used l.piece) l.self
-      (held_with l.news (g.C.Closure.state l.closure).meaning);
+  pulls : PullsLines l.fn.self (record {
+    bytes = take l.used l.piece;
+    old = held_with l.fn.news (g.C.Closure.state l.fn.closure).meaning;
+    new = held_with l.news (g.C.Closure.state l.closure).meaning;
+  }) l.self;
   journals : JournalsAll (held_with l.fn.news (g.C.Closure.state l.fn.closure).meaning)
       (held_with l.news (g.C.Closure.state l.closure).meaning) l.fn.news.journal.items l.news.journal.items;
   waits : Waits (g.C.Closure.state l.closure).meaning l.news;
