@@ -3,13 +3,12 @@ use Rattle.std.proofs.Common.{◌≡◌, ◌≢◌, ℕ, ◌<◌, ◌==◌, ◌�
 use Rattle.std.proofs.Common.{Option, None, Some, refl, ap, sym, ◌∙◌, subst, arith, append_assoc, append-nil}
 use Rattle.std.proofs.lemmas.List.{append_cancel_left}
 use Rattle.std.proofs.lemmas.List.Concat.{flat_map-cons}
-use Rattle.std.proofs.lemmas.List.Elements.{All-from_recursion}
 use Rattle.std.specs.Io.KnownBytes.{Consumes}
 use Rattle.std.specs.List.{AllByRecursion}
 use Rattle.fed_config.specs.Configuration.{Configuration, IsConfiguration}
 use Rattle.receipt_core.specs.Acceptance.{Meaning, IsMeaning}
-use Rattle.byte_lines.specs.Lines.{Lines, lines_of, with_line, with_byte, before, HasLine, HasNoFeed, HasMore}
-use Rattle.byte_lines.proofs.StreamFacts.{lines_of-line, lines_of-rest}
+use Rattle.byte_lines.specs.Lines.{Lines, lines_of, with_byte, before, HasLine, HasNoFeed, HasMore}
+use Rattle.byte_lines.proofs.StreamFacts.{lines_of-rest}
 use Rattle.replica_texts.proofs.FeedlessFacts.{plain, first-of, same-line}
 use Rattle.replica_texts.specs.Snapshots.{Begins, HasBadFirst, HasBadLine, HasMoreAfter, IsSnapshot, FitsFormat, RefusesFirst, RefusesHeader, RefusesNext}
 use Rattle.replica_texts.specs.Snapshots.{RefusesPlace, RefusesSnapshot, begun_text, count_line, count_of, digits_of, ended, header_line, held_lines}
@@ -21,7 +20,6 @@ use Rattle.replica_texts.specs.declared.format.Format.{Format}
 use Rattle.replica_texts.specs.declared.format.Format.TheVariants.{First, Second}
 use Rattle.replica_texts.proofs.CountFacts.{IsThird, is_count, no_count, no_fault_of_count, third_held}
 use Rattle.replica_texts.proofs.DigestFacts.{is_first_line, short_first, feedless_first}
-use Rattle.replica_texts.proofs.FeedFacts.{Feedless}
 use Rattle.replica_texts.proofs.HeaderFacts.{one_header}
 use Rattle.replica_core.proofs.RisingListFacts.{all_back}
 use Rattle.replica_texts.proofs.NextFacts.{no_fault_of_held}

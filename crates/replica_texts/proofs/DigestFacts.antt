@@ -1,5 +1,5 @@
 -- The first line of each configuration is one, with the digits of its digest, and has no line feed.
-use Rattle.std.proofs.Common.{◌≡◌, ℕ, zero, suc, ◌+◌, ◌*◌, ◌/◌, ◌%◌, ◌<◌, ◌≤◌, ◌==◌, ◌&&◌, Bool, true, not, inl, inr, List, [], ◌∷◌, ◌++◌, length, codes}
+use Rattle.std.proofs.Common.{◌≡◌, ℕ, zero, suc, ◌+◌, ◌*◌, ◌/◌, ◌%◌, ◌<◌, ◌≤◌, ◌&&◌, Bool, true, inl, inr, List, [], ◌∷◌, ◌++◌, length, codes}
 use Rattle.std.proofs.Common.{decimal, slice_index, refl, ap, subst, arith, length-append}
 use Rattle.std.proofs.lemmas.Bool.{and_parts, cases_lt}
 use Rattle.std.proofs.lemmas.Fmt.{length-decimal-le}

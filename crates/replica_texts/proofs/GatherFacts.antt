@@ -3,11 +3,9 @@
 use Rattle.std.proofs.Common.{◌≡◌, ℕ, ◌+◌, ◌<◌, ◌≤◌, inl, inr, List, [], ◌∷◌, ◌++◌, length, length-append, map, Option}
 use Rattle.std.proofs.Common.{None, Some, refl, ap, sym, ◌∙◌, subst, arith, append_assoc, append-nil}
 use Rattle.std.proofs.lemmas.Bool.{cases_lt}
-use Rattle.std.proofs.lemmas.List.{map-append}
 use Rattle.std.specs.Io.KnownBytes.{Consumes}
-use Rattle.std.specs.List.{AllByRecursion, flat_map}
+use Rattle.std.specs.List.{flat_map}
 use Rattle.std.specs.List.Sorted.{IsStrictlySortedBy}
-use Rattle.std.specs.declared.cmp.Ordering.TheVariants.{Less}
 use Rattle.receipt_core.specs.declared.distrust.Distrust.{Distrust}
 use Rattle.receipt_core.specs.Receipt.{Receipt, line, distrust_line}
 use Rattle.receipt_core.proofs.ReadFacts.{length-line, no_long_record}
@@ -20,8 +18,8 @@ use Rattle.replica_core.specs.declared.entry.Entry.TheVariants.{Record, Receipt 
 use Rattle.replica_texts.specs.declared.entry_line.Wanted.{Wanted}
 use Rattle.replica_texts.specs.declared.entry_line.Wanted.TheVariants.{Records, Receipts, Either}
 use Rattle.replica_core.specs.declared.error.SyncError.{SyncError}
-use Rattle.replica_texts.proofs.HeldFacts.{AllBelow, below_last, text_cmp}
-use Rattle.replica_core.proofs.RisingListFacts.{rising_head, rising_tail, rising_nil}
+use Rattle.replica_texts.proofs.HeldFacts.{text_cmp}
+use Rattle.replica_core.proofs.RisingListFacts.{rising_nil}
 use Rattle.replica_texts.proofs.SnapshotFacts.{consumes_both}
 use Rattle.replica_texts.specs.Messages.{receipt_text, record_text, give_text, give_header_of, give_header_text}
 use Rattle.replica_texts.specs.FirstLines.{Expected, IsGiveHeader}

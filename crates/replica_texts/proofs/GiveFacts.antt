@@ -1,6 +1,6 @@
 -- A stream begins with one answer at most, and one that begins with a whole answer has no fault
 -- before its end.
-use Rattle.std.proofs.Common.{◌≡◌, ◌≢◌, ℕ, ◌+◌, ◌<◌, ◌≤◌, ◌^◌, inl, inr, List, [], ◌∷◌, ◌++◌, codes, decimal, length, length-append, map, fold, Option}
+use Rattle.std.proofs.Common.{◌≡◌, ◌≢◌, ℕ, ◌+◌, ◌<◌, ◌≤◌, ◌^◌, inl, inr, List, [], ◌∷◌, ◌++◌, codes, decimal, length, length-append, map, Option}
 use Rattle.std.proofs.Common.{None, Some, refl, ap, sym, ◌∙◌, subst, arith, append_assoc, append-nil}
 use Rattle.std.proofs.lemmas.Bool.{cases_lt}
 use Rattle.std.proofs.lemmas.Fmt.{length-decimal-le}
@@ -8,7 +8,6 @@ use Rattle.std.proofs.lemmas.List.{append_cancel_left, length-map}
 use Rattle.std.specs.Io.KnownBytes.{Consumes}
 use Rattle.std.specs.List.{AllByRecursion}
 use Rattle.std.specs.List.Sorted.{IsStrictlySortedBy}
-use Rattle.std.specs.declared.cmp.Ordering.TheVariants.{Less}
 use Rattle.hex.specs.Hex.{encode_lower}
 use Rattle.byte_lines.specs.Lines.{Lines, lines_of, HasLine, HasNoFeed, HasNoLine}
 use Rattle.receipt_core.specs.Receipt.{IsDistrust, IsReceipt, distrust_line, line}
@@ -17,7 +16,7 @@ use Rattle.byte_lines.proofs.StreamFacts.{lines_of-line, lines_of-rest}
 use Rattle.replica_core.specs.State.{State}
 use Rattle.replica_core.specs.Session.{GiveMessage}
 use Rattle.replica_texts.proofs.NextFacts.{above_nothing, last_above}
-use Rattle.replica_texts.specs.Entries.{IsAbove, IsEntry, IsNextEntry, entry_line}
+use Rattle.replica_texts.specs.Entries.{IsAbove, IsEntry, IsNextEntry}
 use Rattle.replica_texts.specs.Snapshots.{ended, last_of, text_of_lines}
 use Rattle.replica_core.specs.declared.entry.Entry.{Entry}
 use Rattle.replica_core.specs.declared.entry.Entry.TheVariants.{Record, Receipt as AReceipt}
@@ -27,7 +26,7 @@ use Rattle.replica_core.specs.declared.error.SyncError.{SyncError}
 use Rattle.replica_core.specs.declared.error.SyncError.TheVariants.{BadHeader, ConfigDiffers, VersionDiffers, NotCanonical, NotRising, BadCount, Truncated}
 use Rattle.replica_core.specs.declared.error.SyncError.TheVariants.{Refused, Io, NoMemory}
 use Rattle.replica_texts.proofs.FeedFacts.{Feedless, feedless_line, feedless_record}
-use Rattle.replica_core.proofs.RisingListFacts.{all_back, rising_head, rising_tail, all_append}
+use Rattle.replica_core.proofs.RisingListFacts.{all_append}
 use Rattle.replica_texts.proofs.HeldFacts.{text_cmp}
 use Rattle.replica_texts.proofs.OneFacts.{held_back, lines_back, feedless_all}
 use Rattle.replica_texts.specs.Messages.{GiveHeader, distrusts_part, give_text, give_header_of, give_header_text}

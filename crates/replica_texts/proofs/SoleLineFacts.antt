@@ -1,5 +1,5 @@
 -- A line that stands alone is one after no other line.
-use Rattle.std.proofs.Common.{◌≡◌, ◌≢◌, ℕ, List, [], inl, inr, refl, sym, subst}
+use Rattle.std.proofs.Common.{◌≢◌, ℕ, List, [], inl, inr, refl, sym, subst}
 use Rattle.std.proofs.lemmas.List.Elements.{All-from_recursion}
 use Rattle.fed_config.specs.Configuration.{Configuration}
 use Rattle.byte_lines.specs.Lines.{HasNoFeed}
