@@ -16,8 +16,8 @@ use std::cmp::Ordering;
 
 /// What lines bring that was not held.
 ///
-/// Records that come together wait until [`News::settle`] takes them by one merge. One after
-/// another, each might look at every edge again.
+/// Records that come together wait until [`News::settle`] takes them by one merge (D-436). One
+/// after another, each might look at every edge again.
 #[derive(Drop)]
 pub(crate) struct News {
     // The lines of what is new are appended to it.
