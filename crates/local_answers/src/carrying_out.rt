@@ -5,7 +5,10 @@ ghost use Rattle.local_answers.specs.Inside.AskedRun.{run_of_asked};
 ghost use Rattle.local_answers.specs.Journalling.{JournalsChange};
 ghost use Rattle.local_answers.specs.Replies.{RefusesWordsLine};
 ghost use Rattle.local_answers.specs.RequestRun.{Answers, Ends, RepliesTo, RepliesToCall};
-ghost use Rattle.local_answers.specs.RequestRun.{SaysOfWords, ShowsText, change_run};
+ghost use Rattle.local_answers.specs.RequestRun.{RepliesByKind, SaysOfWords, change_run, is_help};
+ghost use Rattle.clap.specs.Words.{kind_of};
+ghost use Rattle.command_line.specs.Words.{RefusesWords};
+ghost use Rattle.command_line.specs.declared.words.WordsPlace.TheVariants.{Request};
 ghost use Rattle.local_answers.specs.declared.request_fault.RequestFault.TheVariants.{NoMemory};
 
 use crate::asked::Asked;
@@ -48,7 +51,8 @@ pub fn answer_request<C: Closure>(
 {
     let words = read_request_words(alloc, words)?;
     let texts = texts_of_words(alloc, words.as_slice())?;
-    match read_request(alloc, texts.as_slice()) {
+    let spelt = texts.as_slice();
+    match read_request(alloc, spelt) {
         Ok(call) => {
             let asked = Asked {
                 call: &call,
@@ -57,7 +61,7 @@ pub fn answer_request<C: Closure>(
             };
             answer_call(alloc, closure, asked)
         }
-        Err(error) => Ok(reply_by_words(alloc, &error)?),
+        Err(error) => Ok(reply_by_words(alloc, spelt, &error)?),
     }
 }
 
@@ -72,9 +76,11 @@ fn texts_of_words(alloc: Global, words: &[String]) -> Result<Vec<&str>, AllocErr
 }
 
 // The words are none of a command, or ask for help or for the version.
-fn reply_by_words(alloc: Global, error: &WordsError) -> Result<Reply, AllocError>
-    ensures { IfOk result SaysOfWords }
+fn reply_by_words(alloc: Global, words: &[&str], error: &WordsError) -> Result<Reply, AllocError>
+    requires { RefusesWords Request (map (λ w. w.now) words.now) error.now }
+    ensures { IfOk result (SaysOfWords (map (λ w. w.now) words.now)) }
 {
+    let _words = words;
     match error {
         WordsError::Words(shown) => reply_of_clap(alloc, shown),
         WordsError::Usage => Reply::ended(alloc, &Exit::Usage),
@@ -83,7 +89,7 @@ fn reply_by_words(alloc: Global, error: &WordsError) -> Result<Reply, AllocError
 }
 
 fn reply_of_clap(alloc: Global, shown: &clap::Error) -> Result<Reply, AllocError>
-    ensures { IfOk result ShowsText }
+    ensures { IfOk result (RepliesByKind (is_help (kind_of shown.now))) }
 {
     let text = format!(in alloc; "{shown}")?.into_bytes();
     if shown.use_stderr() {

@@ -1,7 +1,7 @@
 -- What a running replica says of itself beside what it holds: as lines, as members of a JSON object
 -- and as metrics
 use Rattle.std.specs.Prelude.{ℕ, List, [], ◌++◌, false, codes, decimal, flat_map, string_bytes}
-use Rattle.std.specs.Prelude.{Option, Some, None}
+use Rattle.std.specs.Prelude.{Option, Some, None, ◌+◌, ◌-◌, ◌^◌, min}
 use Rattle.json_text.specs.JsonText.{number_or_null, parted_texts, string_member}
 use Rattle.text_lines.specs.TextLines.{number_or_none}
 use Rattle.replica_core.specs.declared.error.SyncError.TheVariants.{BadHeader, ConfigDiffers}
@@ -28,6 +28,12 @@ fault_code (Session Truncated) = codes "S7"
 fault_code (Session (Refused line why)) = codes "S8"
 fault_code (Session Io) = codes "S9"
 fault_code (Session NoMemory) = codes "S10"
+
+-- ---- the files
+
+-- how many bytes both have, as far as 64 bits tell
+abbrev pub state_bytes : RunningStatus → ℕ
+state_bytes r = min (r.snapshot_bytes + r.journal_bytes) (2 ^ 64 - 1)
 
 -- ---- as lines
 

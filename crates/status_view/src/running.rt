@@ -17,8 +17,13 @@ pub struct RunningStatus<'a> {
 }
 
 impl RunningStatus<'_> {
+    ghost use Rattle.std.specs.Prelude.{◌≡◌};
+    ghost use Rattle.status_view.specs.Running.{state_bytes};
+
     /// The bytes of both files.
-    pub fn state_bytes(&self) -> u64 {
+    pub fn state_bytes(&self) -> u64
+        ensures { result ≡ state_bytes self.now }
+    {
         self.snapshot_bytes.saturating_add(self.journal_bytes)
     }
 }

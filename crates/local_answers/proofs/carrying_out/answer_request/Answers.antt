@@ -4,7 +4,7 @@ use Rattle.std.specs.Prelude.{string_bytes}
 use Rattle.fedbundle.specs.CommandRun.{state_run}
 use Rattle.command_line.specs.Words.{CallsInRequest}
 use Rattle.fedbundle.specs.SaidValues.{texts_of_call}
-use Rattle.local_answers.specs.RequestRun.{CallRun, call_run, change_run}
+use Rattle.local_answers.specs.RequestRun.{CallRun, SaysOfWords, call_run, change_run}
 use Rattle.local_answers.proofs.ChangingFacts.{lacks_memory, line_called, result_lacks_memory, words_unjournalled}
 use Rattle.local_answers.proofs.RequestFacts.{same_journalled}
 use Rattle.local_answers.proofs.carrying_out.answer_request.Goals as goal
@@ -26,7 +26,7 @@ returns-in-Ok-clause-answers g c =
     let words = map string_bytes c.in_ok-words.words.items in
     line_called c.args.words.now words run c.answer_call.result c.in_ok-words.ensures
     (subst (λ (ws : List (List ℕ)). CallsInRequest ws run.name run.texts)
-    (ap (map (λ w. w.now)) c.as_slice-2.ensures.value ∙ c.in_ok-texts.ensures ∙ ap (map string_bytes) c.as_slice.ensures.value)
+    (ap (map (λ w. w.now)) c.as_slice-spelt.ensures.value ∙ c.in_ok-texts.ensures ∙ ap (map string_bytes) c.as_slice.ensures.value)
     c.in-Ok.ensures)
     c.answer_call.ensures.answers
 
@@ -42,10 +42,15 @@ pub returns-clause-answers : goal.returns-clause-answers
 returns-clause-answers g c = record {
   words = map string_bytes c.in_ok-words.words.items;
   says = c.in_ok-words.ensures;
-  replied = inr (record { replied = c.in_ok-reply_by_words-in-Err.ensures; held = refl });
+  replied = inr (record {
+    replied = subst (λ (ws : List (List ℕ)). SaysOfWords ws c.in_ok-reply_by_words-in-Err.field-0)
+        (ap (map (λ w. w.now)) c.as_slice-spelt.ensures.value ∙ c.in_ok-texts.ensures ∙ ap (map string_bytes) c.as_slice.ensures.value)
+        c.in_ok-reply_by_words-in-Err.ensures;
+    held = refl;
+  });
 }
 
 pub returns-clause-journals : goal.returns-clause-journals
 returns-clause-journals g c =
     let state = g.C.Closure.state c.args.closure.now in
-    same_journalled state state _ (words_unjournalled _ c.in_ok-reply_by_words-in-Err.ensures) refl
+    same_journalled state state _ (words_unjournalled _ _ c.in_ok-reply_by_words-in-Err.ensures) refl

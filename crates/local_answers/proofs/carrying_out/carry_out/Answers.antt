@@ -1,4 +1,6 @@
-use Rattle.std.proofs.Common.{ap}
+use Rattle.std.proofs.Common.{ap, subst}
+use Rattle.command_line.specs.OptionTexts.{SaysNoManner}
+use Rattle.fedbundle.specs.SaidValues.{texts_of_call}
 use Rattle.std.proofs.lemmas.Result.{err_from_is_err_and}
 use Rattle.fedbundle.specs.Exits.{exit_of_option}
 use Rattle.fedbundle.specs.declared.exits.Exit.TheVariants.{BadNumber}
@@ -10,7 +12,9 @@ pub returns-in_err-most_bytes-clause-ends : goal.returns-in_err-most_bytes-claus
 returns-in_err-most_bytes-clause-ends g c =
     let exit = err_from_is_err_and c.from_residual.result c.from_residual.ensures.1 in
     let refused = c.in_err-most_bytes.ensures.refused in
-    rw (exit.1, exit.2) (anyhow _ _ _ (BadNumber refused.0) (ap exit_of_option refused.1) tt)
+    let texts = texts_of_call c.args.asked.call.now in
+    rw (exit.1, exit.2) (anyhow _ _ _ (BadNumber refused.0) (ap exit_of_option refused.1)
+    (subst (SaysNoManner c.args.asked.call.now.name texts) refused.1 c.in_err-most_bytes.ensures.none))
 
 pub returns-in-Observe-clause-answers : goal.returns-in-Observe-clause-answers
 returns-in-Observe-clause-answers g c = answers_as _ _ _ _ c.in-Observe.is c.observe.ensures.answers
