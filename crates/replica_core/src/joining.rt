@@ -15,10 +15,11 @@ use std::alloc::Global;
 /// From how many new records on they are taken by one merge.
 const FEWEST_MERGED: usize = 16;
 
-/// Distrusts all of these, which are welcome. If many of them are new they are taken by one merge,
-/// which looks at each edge that they reach at most twice, however many they are. One after
-/// another they may look at the same edges each time. That is done only if they are few, or if
-/// there is no memory for a closure of them.
+/// Distrusts all of these. They have to be *welcome*: the closure would refuse none of them, if it
+/// were given one after another. If 16 or more of them are new they are taken by one merge, which
+/// looks at each edge that they reach at most twice, however many they are. One after another they
+/// may look at the same edges each time. That is done only if they are fewer, or if there is no
+/// memory for a closure of them.
 pub fn distrust_all<C: Closure>(alloc: Global, closure: &mut C, records: &[Distrust])
     requires { AreWelcome (C.state closure.old).meaning (of_records records.now) }
     ensures meaning { (C.state closure.new).meaning
@@ -31,7 +32,8 @@ pub fn distrust_all<C: Closure>(alloc: Global, closure: &mut C, records: &[Distr
     }
 }
 
-// How many of the records are not held.
+// How many of the records are not held. That only decides how they are taken, which no clause of
+// `distrust_all` depends on.
 fn count_new<C: Closure>(closure: &C, records: &[Distrust]) -> usize {
     let mut count: usize = 0;
     for record in records {

@@ -198,10 +198,10 @@ pub record HasPulledPieces (pulling : Pulling) (start : Meaning) (came : List Pu
 
 -- The lines of the bytes are taken one after another, as by as many calls, between which nothing
 -- changes.
-pub record PullsLines (before : Pulling) (came_now : PulledPiece) (after : Pulling) : Type 0 where
+pub record PullsLines (before : Pulling) (piece : PulledPiece) (after : Pulling) : Type 0 where
   pub pieces : List PulledPiece
-  pub whole : bytes_pulled pieces ≡ came_now.bytes
-  pub alone : AreAlone came_now.old pieces came_now.new
+  pub whole : bytes_pulled pieces ≡ piece.bytes
+  pub alone : AreAlone piece.old pieces piece.new
   pub pulls : (start : Meaning) (came : List PulledPiece) (written : List ℕ)
-      → came_now.old.config ≡ start.config → HasPulledPieces before start came written
+      → piece.old.config ≡ start.config → HasPulledPieces before start came written
       → HasPulledPieces after start (came ++ pieces) written
