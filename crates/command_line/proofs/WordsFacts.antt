@@ -63,6 +63,7 @@ no_globals a b g r e = search rules
 pub plain_leaf : (n : CommandName) → (leaf n).top.is_plain ≡ true
 plain_leaf command.Canon = refl
 plain_leaf command.Config = refl
+plain_leaf command.New = refl
 plain_leaf command.Report = refl
 plain_leaf command.List = refl
 plain_leaf command.Diff = refl
@@ -109,6 +110,7 @@ free_command = refl
 pub named_text : (name : CommandName) → named (name_text name) ≡ Some name
 named_text command.Canon = refl
 named_text command.Config = refl
+named_text command.New = refl
 named_text command.Report = refl
 named_text command.List = refl
 named_text command.Diff = refl
