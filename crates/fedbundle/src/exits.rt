@@ -28,7 +28,8 @@ pub enum Exit {
     BadKey,
     /// `--now` is not a moment.
     BadMoment,
-    /// `--listen` or `--peer` is not the address of a socket, or has port 0.
+    /// `--listen`, `--peer` or one of `--peers` is not the address of a socket, or has port 0 where
+    /// others have to know the port.
     BadAddress,
     /// The domain has no current bundle.
     NoBundle,
