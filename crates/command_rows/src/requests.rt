@@ -129,6 +129,8 @@ fn reply_of<C: Closure>(
         snapshot_bytes: running.file.map_or(0, |text| text.len()) as u64,
         journal_bytes: 0,
         peers: &[],
+        began: 0,
+        moment: 0,
     };
     match answer_request(running.alloc, closure, &status, line.as_bytes(), input) {
         Ok(reply) => Ok(reply),

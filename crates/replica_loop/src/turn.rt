@@ -57,6 +57,8 @@ pub(crate) struct RunningReplica {
     files: KeptFiles,
     events: EventCounts,
     now: Instant,
+    // The Unix second at which it began; 0 if the clock had none.
+    began: u64,
     // When it ends, once it was asked to.
     ends_at: Option<Instant>,
     // Whether it was reported that a connection had no room, or was not accepted, and none came
@@ -84,6 +86,7 @@ impl RunningReplica {
             files: KeptFiles::new(lock, file_at_step(Step::Journal, journal)?),
             events: EventCounts::new(alloc),
             now,
+            began: unix_seconds(rt).unwrap_or(0),
             ends_at: None,
             has_reported: false,
         })
@@ -223,7 +226,7 @@ impl RunningReplica {
         closure: &C,
         most_bytes: u64,
     ) {
-        let held = running_status(&self.files, &self.peers).state_bytes();
+        let held = self.files.snapshot_bytes().saturating_add(self.files.journal_bytes());
         let left = most_bytes.saturating_sub(held);
         for _ in 0..PULLS_A_TURN {
             if !self.may_pull() {
@@ -299,7 +302,7 @@ impl RunningReplica {
         let around = Surroundings {
             now: self.now,
             room: self.table.room(),
-            running: running_status(&self.files, &self.peers),
+            running: running_status(rt, &self.files, &self.peers, self.began),
         };
         self.table.carry_out(rt, alloc, held, &around, work);
         if self.ends_at.is_none() && self.table.is_stopped() {
@@ -375,11 +378,18 @@ impl RunningReplica {
 }
 
 // What the replica says of itself.
-fn running_status<'a>(files: &KeptFiles, peers: &'a Peers) -> RunningStatus<'a> {
+fn running_status<'a, R: Clock>(
+    rt: &R,
+    files: &KeptFiles,
+    peers: &'a Peers,
+    began: u64,
+) -> RunningStatus<'a> {
     RunningStatus {
         snapshot_bytes: files.snapshot_bytes(),
         journal_bytes: files.journal_bytes(),
         peers: peers.statuses(),
+        began,
+        moment: i64::try_from(unix_seconds(rt).unwrap_or(0)).unwrap_or(0),
     }
 }
 

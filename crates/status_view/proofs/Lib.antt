@@ -1,2 +1,2 @@
-mod PieceFacts
+pub mod PieceFacts
 mod StatusFacts

@@ -36,8 +36,11 @@ pub fn status_json(alloc: Global, status: &Status) -> Result<Vec<u8>, AllocError
     Ok(out)
 }
 
-// The members of that object, without the braces, so that more may stand beside them.
-pub(crate) fn push_status_members(out: &mut Vec<u8>, status: &Status) -> Result<(), AllocError>
+/// Adds the members of that object, without the braces, so that more may stand beside them.
+///
+/// # Errors
+/// Memory ran out. Nothing is said then of what is there.
+pub fn push_status_members(out: &mut Vec<u8>, status: &Status) -> Result<(), AllocError>
     ensures { OnOk result (out.new.items ≡ out.old.items ++ status_members status.now) }
 {
     push_counts(out, status)?;

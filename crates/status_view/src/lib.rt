@@ -22,11 +22,14 @@ mod status;
 mod status_writer;
 mod text_writer;
 
-pub use json_writer::status_json;
+pub use json_writer::{push_status_members, status_json};
 pub use metric::{DomainGauge, Gauge};
-pub use metrics_writer::status_metrics;
+pub use metrics_writer::{push_gauge_head, push_label_value, status_metrics};
 pub use running::{PeerFault, PeerStatus, RunningStatus, fault_code};
-pub use standing::{has_warning, read_status};
+pub use running_json::push_running_members;
+pub use running_lines::push_running_lines;
+pub use running_metrics::push_running_metrics;
+pub use standing::{has_warning, is_nearly_full, read_status};
 pub use status::{CurrentStatus, DomainStatus, KeyStatus, KeylessSeed, Status};
 pub use status_writer::{StatusFormat, write_running_status, write_status};
 pub use text_writer::status_lines;

@@ -108,7 +108,11 @@ fn push_gauge(out: &mut Vec<u8>, status: &Status, gauge: Gauge) -> Result<(), Al
     out.extend_from_slice(b"\n")
 }
 
-pub(crate) fn push_gauge_head(out: &mut Vec<u8>, name: &str, help: &str) -> Result<(), AllocError>
+/// Adds the lines `HELP` and `TYPE` of a gauge.
+///
+/// # Errors
+/// Memory ran out. Nothing is said then of what is there.
+pub fn push_gauge_head(out: &mut Vec<u8>, name: &str, help: &str) -> Result<(), AllocError>
     ensures { OnOk result (out.new.items ≡ out.old.items ++ gauge_head name.now help.now) }
 {
     push_help(out, name, help)?;
@@ -274,7 +278,11 @@ fn push_id_label(out: &mut Vec<u8>, current: &Option<CurrentStatus>) -> Result<(
     }
 }
 
-pub(crate) fn push_label_value(out: &mut Vec<u8>, text: &str) -> Result<(), AllocError>
+/// Adds the value of a label, in which a backslash, a quotation mark and a line feed are escaped.
+///
+/// # Errors
+/// Memory ran out. Nothing is said then of what is there.
+pub fn push_label_value(out: &mut Vec<u8>, text: &str) -> Result<(), AllocError>
     ensures { OnOk result (out.new.items ≡ out.old.items ++ label_value text.now) }
 {
     for byte in text.as_bytes() {

@@ -4,8 +4,8 @@ ghost use Rattle.status_view.specs.Running.{fault_code};
 
 use replica_core::SyncError;
 
-/// What a running replica knows beside what it holds: how long its files are, and how the sessions
-/// went in which it asked its peers.
+/// What a running replica knows beside what it holds: how long its files are, how the sessions went
+/// in which it asked its peers, and the time of day.
 #[derive(Clone, Copy, Debug)]
 pub struct RunningStatus<'a> {
     /// The bytes of the snapshot in the state file.
@@ -14,6 +14,10 @@ pub struct RunningStatus<'a> {
     pub journal_bytes: u64,
     /// Its peers, in the order in which they are asked.
     pub peers: &'a [PeerStatus],
+    /// The Unix second at which it began to ask them; 0 if its clock had none.
+    pub began: u64,
+    /// The Unix second at which it says this; 0 if its clock had none.
+    pub moment: i64,
 }
 
 impl RunningStatus<'_> {

@@ -14,7 +14,7 @@ use std::alloc::{AllocError, Global};
 ///
 /// # Errors
 /// Memory ran out. Nothing is said then of what is there.
-pub(crate) fn push_running_members(
+pub fn push_running_members(
     alloc: Global,
     out: &mut Vec<u8>,
     running: &RunningStatus<'_>,

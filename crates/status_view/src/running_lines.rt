@@ -12,7 +12,7 @@ use text_lines::push_number_or_none;
 ///
 /// # Errors
 /// Memory ran out. Nothing is said then of what is there.
-pub(crate) fn push_running_lines(
+pub fn push_running_lines(
     out: &mut Vec<u8>,
     running: &RunningStatus<'_>,
 ) -> Result<(), AllocError>

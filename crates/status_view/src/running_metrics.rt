@@ -19,7 +19,7 @@ use std::alloc::AllocError;
 ///
 /// # Errors
 /// Memory ran out. Nothing is said then of what is there.
-pub(crate) fn push_running_metrics(
+pub fn push_running_metrics(
     out: &mut Vec<u8>,
     running: &RunningStatus<'_>,
 ) -> Result<(), AllocError>

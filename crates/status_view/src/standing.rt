@@ -75,7 +75,7 @@ fn some_is_distrusted(keys: &[KeyStatus]) -> bool
 }
 
 /// Whether more than nine tenths of the limit are held.
-pub(crate) fn is_nearly_full(count: u64, limit: u64) -> bool
+pub fn is_nearly_full(count: u64, limit: u64) -> bool
     ensures { result ≡ is_nearly_full count limit }
 {
     u128::from(limit) * 9 < u128::from(count) * 10

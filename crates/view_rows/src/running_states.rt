@@ -30,6 +30,8 @@ pub(crate) fn stand<C: Closure>(
         snapshot_bytes,
         journal_bytes,
         peers: peers.as_slice(),
+        began: 0,
+        moment: 0,
     };
     match replica_of::<C>(alloc, script, config, lines)? {
         Some(replica) => show(alloc, script, &replica, &running, format, answer),
@@ -54,7 +56,7 @@ fn show<C: Closure>(
     script.show_lines(sink.as_bytes(), answer)
 }
 
-fn peer_of(alloc: Global, word: &str) -> Result<PeerStatus, AllocError> {
+pub(crate) fn peer_of(alloc: Global, word: &str) -> Result<PeerStatus, AllocError> {
     let mut parts = word.split(',');
     Ok(PeerStatus {
         address: String::from_str(alloc, parts.next().unwrap_or(""))?,
