@@ -420,7 +420,8 @@ impl OptionName {
             OptionName::FileFormat => "The format of what is printed: text, or json",
             OptionName::ReadSocket =>
                 "The path of a second socket, at which nothing can be changed",
-            OptionName::ListenAnywhere => "Allows an address of --listen that is not a loopback one",
+            OptionName::ListenAnywhere =>
+                "Allows an address of --listen that is not a loopback one",
         }
     }
 }

@@ -19,8 +19,6 @@ mod serve;
 mod state_readers;
 mod state_writers;
 
-pub(crate) use replica::may_listen;
-
 use crate::exit::print_clap;
 use crate::{at_replica, missing_words, options, process_words, reasons};
 use fed_config::Config;
@@ -28,6 +26,7 @@ use fedbundle::{
     Call, CommandError, CommandName, Exit, OptionName, WordsError, given, manner_of, read_words,
     wanted,
 };
+pub(crate) use replica::may_listen;
 
 /// What the words ask for, done: the exit status 0, or 1 where an input was refused and the rest is
 /// done.

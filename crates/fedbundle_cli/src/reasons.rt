@@ -1,8 +1,8 @@
 // Why the program ends, as further lines after the one that reports it: the file, the option or
 // the part of it that is at fault. A fault keeps no more than numbers, so this looks a second time
 // at what the command was given, and only where these lines are wanted.
-use crate::exit::print_exit;
 use crate::commands::may_listen;
+use crate::exit::print_exit;
 use crate::fault_places::{say_bundle, say_config, say_state, say_stream};
 use crate::options::known_address;
 use crate::verbose_lines::{is_verbose_for, quoted, say, shown, words_of};

@@ -226,7 +226,10 @@ impl RunningReplica {
         closure: &C,
         most_bytes: u64,
     ) {
-        let held = self.files.snapshot_bytes().saturating_add(self.files.journal_bytes());
+        let held = self
+            .files
+            .snapshot_bytes()
+            .saturating_add(self.files.journal_bytes());
         let left = most_bytes.saturating_sub(held);
         for _ in 0..PULLS_A_TURN {
             if !self.may_pull() {
