@@ -151,9 +151,9 @@ options_of command.Stop = Wait ∷ Verbose ∷ At ∷ []
 
 abbrev pub all_names : List CommandName
 all_names = command.Canon ∷ command.Config ∷ command.New ∷ command.Report ∷ command.List
-    ∷ command.Diff ∷ command.Graph ∷ command.Status ∷ command.Bundle ∷ command.Explain ∷ command.Observe
-    ∷ command.Merge ∷ command.Migrate ∷ command.Reseed ∷ command.Polls ∷ command.Distrust
-    ∷ command.Serve ∷ command.Pull ∷ command.Replica ∷ command.Stop ∷ []
+    ∷ command.Diff ∷ command.Graph ∷ command.Status ∷ command.Bundle ∷ command.Explain
+    ∷ command.Observe ∷ command.Merge ∷ command.Migrate ∷ command.Reseed ∷ command.Polls
+    ∷ command.Distrust ∷ command.Serve ∷ command.Pull ∷ command.Replica ∷ command.Stop ∷ []
 
 -- the subcommand that has this word, if there is one
 abbrev pub named : Text → Option CommandName

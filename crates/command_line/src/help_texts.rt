@@ -67,9 +67,9 @@ there already, which is left as it is; with 3 where the state is locked.";
 
 const REPORT_NOTES: &str = "\
 Reads the configuration. With --state it reads the state file, and nothing from standard
-input; a state that is not there is refused without --new. Without it, it reads from standard input receipts, each a line of at most 8,388,608
-bytes, as `observe` prints them. At most 65,536 different ones are taken, and no record of
-distrust is known.
+input; a state that is not there is refused without --new. Without --state it reads from
+standard input receipts, each a line of at most 8,388,608 bytes, as `observe` prints them.
+At most 65,536 different ones are taken, and no record of distrust is known.
 
 Writes to standard output the report: the configuration's digest, how many receipts are
 held and how many of them are pending, and for each domain its current document, its
@@ -309,11 +309,11 @@ At the one of --read-socket, whose mode is 0660, it refuses all that would chang
 holds, and `stop`: whoever may only look is in that socket's group.
 Answers other replicas at the address of --listen, as `serve` does, and pulls from each of
 --peers, as `pull` does. Whoever reaches that address is given all that is held, so one that
-is not a loopback address is refused without --listen-anywhere. At most 144 connections are open at once: 64 requests of this
-machine, 48 on which other replicas ask, and one with each peer. One on which nothing moves
-for 30 seconds, or which is older than 600 seconds, is closed, and so is a pull in which
-fewer than 1,000 bytes move in a second. Where there are too many, the one that has asked
-nothing whole for the longest is closed.
+is not a loopback address is refused without --listen-anywhere. At most 144 connections are
+open at once: 64 requests of this machine, 48 on which other replicas ask, and one with each
+peer. One on which nothing moves for 30 seconds, or which is older than 600 seconds, is
+closed, and so is a pull in which fewer than 1,000 bytes move in a second. Where there are
+too many, the one that has asked nothing whole for the longest is closed.
 
 Each change is appended to FILE.journal and put on the disk before it is acknowledged. The
 journal is folded into the state file at the start, and when it has more than 8,388,608
@@ -551,7 +551,8 @@ impl CommandName {
             }
             CommandName::Replica => {
                 "fedbundle replica --config <FILE> --state <FILE> --socket <PATH> \
-                [--read-socket <PATH>] [--listen <ADDRESS>] [--listen-anywhere] [--peers <ADDRESS,..>] [--every <SECONDS>] \
+                [--read-socket <PATH>] [--listen <ADDRESS>] [--listen-anywhere] \
+                [--peers <ADDRESS,..>] [--every <SECONDS>] \
                 [--most-bytes <BYTES>] [--most-request-bytes <BYTES>] [--new] [--verbose]"
             }
             CommandName::Stop => "fedbundle stop --at <PATH> [--wait <SECONDS>] [--verbose]",
