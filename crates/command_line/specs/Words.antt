@@ -7,7 +7,6 @@ use Rattle.std.specs.Str.{bytes_eq}
 use Rattle.clap.specs.Words.{App, IsAmong, Row, Rule, Text, fault_of, first_of, kind_of, new_app}
 use Rattle.clap.specs.Words.{new_rule, subcommand_of, with_rule, with_subcommand}
 use Rattle.clap.specs.declared.builder.action.ArgAction.TheVariants.{Set, SetTrue}
-use Rattle.clap.specs.declared.error.Error.{Error}
 use Rattle.command_line.specs.declared.command_name.CommandName.{CommandName}
 use Rattle.command_line.specs.declared.command_name.CommandName.TheVariants as command
 use Rattle.command_line.specs.declared.command_name.OptionName.{OptionName}
@@ -28,7 +27,8 @@ use Rattle.command_line.specs.declared.command_name.OptionName.TheVariants.{Opti
 use Rattle.command_line.specs.declared.command_name.OptionName.TheVariants.{Short, Socket, Every}
 use Rattle.command_line.specs.declared.command_name.OptionName.TheVariants.{New, MostRequestBytes}
 use Rattle.command_line.specs.declared.command_name.OptionName.TheVariants.{OptionalListen, Peers}
-use Rattle.command_line.specs.declared.command_name.OptionName.TheVariants.{FileFormat}
+use Rattle.command_line.specs.declared.command_name.OptionName.TheVariants.{FileFormat, ReadSocket}
+use Rattle.command_line.specs.declared.command_name.OptionName.TheVariants.{ListenAnywhere}
 
 abbrev pub option_text : OptionName → List ℕ
 option_text Config = codes "config"
@@ -60,6 +60,8 @@ option_text Every = codes "every"
 option_text MostRequestBytes = codes "most-request-bytes"
 option_text New = codes "new"
 option_text FileFormat = codes "format"
+option_text ReadSocket = codes "read-socket"
+option_text ListenAnywhere = codes "listen-anywhere"
 
 -- it has no text after it
 abbrev pub is_flag : OptionName → Bool
@@ -68,6 +70,7 @@ is_flag DryRun = true
 is_flag Verbose = true
 is_flag Short = true
 is_flag New = true
+is_flag ListenAnywhere = true
 is_flag option = false
 
 -- the words may leave it out
@@ -85,6 +88,7 @@ may_be_left_out Peers = true
 may_be_left_out Every = true
 may_be_left_out MostRequestBytes = true
 may_be_left_out FileFormat = true
+may_be_left_out ReadSocket = true
 may_be_left_out option = false
 
 -- it names a file that a running replica has itself, or it is a format that such a replica does not
@@ -99,6 +103,7 @@ is_place option = false
 abbrev pub name_text : CommandName → List ℕ
 name_text command.Canon = codes "canon"
 name_text command.Config = codes "config"
+name_text command.New = codes "new"
 name_text command.Report = codes "report"
 name_text command.List = codes "list"
 name_text command.Diff = codes "diff"
@@ -120,11 +125,12 @@ name_text command.Stop = codes "stop"
 abbrev pub options_of : CommandName → List OptionName
 options_of command.Canon = Domain ∷ FileFormat ∷ Verbose ∷ []
 options_of command.Config = Config ∷ With ∷ FileFormat ∷ Verbose ∷ []
-options_of command.Report = Config ∷ OptionalState ∷ FileFormat ∷ Wait ∷ Verbose ∷ At ∷ []
-options_of command.List = Config ∷ State ∷ OptionalDomain ∷ FileFormat ∷ Verbose ∷ []
-options_of command.Diff = Config ∷ State ∷ With ∷ Verbose ∷ []
-options_of command.Graph = Config ∷ State ∷ OptionalDomain ∷ Verbose ∷ []
-options_of command.Status = Config ∷ State ∷ Format ∷ Wait ∷ Verbose ∷ At ∷ []
+options_of command.New = Config ∷ State ∷ Wait ∷ Verbose ∷ []
+options_of command.Report = Config ∷ OptionalState ∷ FileFormat ∷ New ∷ Wait ∷ Verbose ∷ At ∷ []
+options_of command.List = Config ∷ State ∷ OptionalDomain ∷ FileFormat ∷ New ∷ Verbose ∷ []
+options_of command.Diff = Config ∷ State ∷ With ∷ New ∷ Verbose ∷ []
+options_of command.Graph = Config ∷ State ∷ OptionalDomain ∷ New ∷ Verbose ∷ []
+options_of command.Status = Config ∷ State ∷ Format ∷ New ∷ Wait ∷ Verbose ∷ At ∷ []
 options_of command.Bundle = Config ∷ State ∷ Domain ∷ Format ∷ Wait ∷ Verbose ∷ At ∷ []
 options_of command.Explain = Config ∷ State ∷ Domain ∷ Short ∷ FileFormat ∷ Wait ∷ Verbose
     ∷ At ∷ []
@@ -134,19 +140,19 @@ options_of command.Merge = Config ∷ State ∷ Wait ∷ MostBytes ∷ Verbose �
 options_of command.Migrate = Config ∷ State ∷ To ∷ RecordsOnly ∷ Verbose ∷ []
 options_of command.Reseed = Config ∷ State ∷ Allow ∷ Verbose ∷ []
 options_of command.Polls = Config ∷ State ∷ Now ∷ FileFormat ∷ Wait ∷ Verbose ∷ At ∷ []
-options_of command.Distrust = Config ∷ State ∷ Domain ∷ Key ∷ DryRun ∷ Wait ∷ Verbose
+options_of command.Distrust = Config ∷ State ∷ Domain ∷ Key ∷ DryRun ∷ New ∷ Wait ∷ Verbose
     ∷ At ∷ []
 options_of command.Serve = Config ∷ State ∷ Listen ∷ Sessions ∷ Verbose ∷ []
 options_of command.Pull = Config ∷ State ∷ Peer ∷ Wait ∷ MostBytes ∷ Verbose ∷ []
-options_of command.Replica = Config ∷ State ∷ Socket ∷ OptionalListen ∷ Peers ∷ Every
-    ∷ MostBytes ∷ MostRequestBytes ∷ New ∷ Verbose ∷ []
+options_of command.Replica = Config ∷ State ∷ Socket ∷ ReadSocket ∷ OptionalListen
+    ∷ ListenAnywhere ∷ Peers ∷ Every ∷ MostBytes ∷ MostRequestBytes ∷ New ∷ Verbose ∷ []
 options_of command.Stop = Wait ∷ Verbose ∷ At ∷ []
 
 abbrev pub all_names : List CommandName
-all_names = command.Canon ∷ command.Config ∷ command.Report ∷ command.List ∷ command.Diff
-    ∷ command.Graph ∷ command.Status ∷ command.Bundle ∷ command.Explain ∷ command.Observe
-    ∷ command.Merge ∷ command.Migrate ∷ command.Reseed ∷ command.Polls ∷ command.Distrust
-    ∷ command.Serve ∷ command.Pull ∷ command.Replica ∷ command.Stop ∷ []
+all_names = command.Canon ∷ command.Config ∷ command.New ∷ command.Report ∷ command.List
+    ∷ command.Diff ∷ command.Graph ∷ command.Status ∷ command.Bundle ∷ command.Explain
+    ∷ command.Observe ∷ command.Merge ∷ command.Migrate ∷ command.Reseed ∷ command.Polls
+    ∷ command.Distrust ∷ command.Serve ∷ command.Pull ∷ command.Replica ∷ command.Stop ∷ []
 
 -- the subcommand that has this word, if there is one
 abbrev pub named : Text → Option CommandName
@@ -245,9 +251,3 @@ abbrev pub ReadsWords : WordsPlace → List Text → Result Call WordsError → 
 ReadsWords place words result = MatchResult result
     (λ call. CallsFrom place words call.name (map (option_map (λ t. t.now)) call.texts.items))
     (RefusesWords place words)
-
--- The refusal has the kind of clap's error, unless memory ran out.
-abbrev pub TellsError : Error → WordsError → Type 0
-TellsError error (Words told) = kind_of told ≡ kind_of error
-TellsError error Usage = ⊥
-TellsError error NoMemory = Unit {0}

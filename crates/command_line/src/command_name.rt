@@ -40,6 +40,8 @@ pub enum OptionName {
     New,
     /// The format where a running replica prints one format alone.
     FileFormat,
+    ReadSocket,
+    ListenAnywhere,
 }
 
 /// A subcommand.
@@ -49,6 +51,8 @@ pub enum CommandName {
     Canon,
     /// Prints what a configuration says, or where two differ.
     Config,
+    /// Writes a state file that holds nothing.
+    New,
     /// Prints what a replica that took the receipts accepts.
     Report,
     /// Prints what a state file holds.
@@ -86,9 +90,10 @@ pub enum CommandName {
 }
 
 /// All subcommands, in the order in which help lists them.
-pub(crate) static COMMANDS: [CommandName; 19] = [
+pub(crate) static COMMANDS: [CommandName; 20] = [
     CommandName::Canon,
     CommandName::Config,
+    CommandName::New,
     CommandName::Report,
     CommandName::List,
     CommandName::Diff,
@@ -143,6 +148,8 @@ impl OptionName {
             OptionName::MostRequestBytes => "most-request-bytes",
             OptionName::New => "new",
             OptionName::FileFormat => "format",
+            OptionName::ReadSocket => "read-socket",
+            OptionName::ListenAnywhere => "listen-anywhere",
         }
     }
 
@@ -157,6 +164,7 @@ impl OptionName {
                 | OptionName::Verbose
                 | OptionName::Short
                 | OptionName::New
+                | OptionName::ListenAnywhere
         )
     }
 
@@ -179,6 +187,7 @@ impl OptionName {
                 | OptionName::Every
                 | OptionName::MostRequestBytes
                 | OptionName::FileFormat
+                | OptionName::ReadSocket
         )
     }
 
@@ -210,41 +219,53 @@ static CONFIG: [OptionName; 4] = [
     OptionName::Verbose,
 ];
 
-static REPORT: [OptionName; 6] = [
+static NEW: [OptionName; 4] = [
+    OptionName::Config,
+    OptionName::State,
+    OptionName::Wait,
+    OptionName::Verbose,
+];
+
+static REPORT: [OptionName; 7] = [
     OptionName::Config,
     OptionName::OptionalState,
     OptionName::FileFormat,
+    OptionName::New,
     OptionName::Wait,
     OptionName::Verbose,
     OptionName::At,
 ];
 
-static LIST: [OptionName; 5] = [
+static LIST: [OptionName; 6] = [
     OptionName::Config,
     OptionName::State,
     OptionName::OptionalDomain,
     OptionName::FileFormat,
+    OptionName::New,
     OptionName::Verbose,
 ];
 
-static GRAPH: [OptionName; 4] = [
+static GRAPH: [OptionName; 5] = [
     OptionName::Config,
     OptionName::State,
     OptionName::OptionalDomain,
+    OptionName::New,
     OptionName::Verbose,
 ];
 
-static DIFF: [OptionName; 4] = [
+static DIFF: [OptionName; 5] = [
     OptionName::Config,
     OptionName::State,
     OptionName::With,
+    OptionName::New,
     OptionName::Verbose,
 ];
 
-static STATUS: [OptionName; 6] = [
+static STATUS: [OptionName; 7] = [
     OptionName::Config,
     OptionName::State,
     OptionName::Format,
+    OptionName::New,
     OptionName::Wait,
     OptionName::Verbose,
     OptionName::At,
@@ -316,12 +337,13 @@ static POLLS: [OptionName; 7] = [
     OptionName::At,
 ];
 
-static DISTRUST: [OptionName; 8] = [
+static DISTRUST: [OptionName; 9] = [
     OptionName::Config,
     OptionName::State,
     OptionName::Domain,
     OptionName::Key,
     OptionName::DryRun,
+    OptionName::New,
     OptionName::Wait,
     OptionName::Verbose,
     OptionName::At,
@@ -344,11 +366,13 @@ static PULL: [OptionName; 6] = [
     OptionName::Verbose,
 ];
 
-static REPLICA: [OptionName; 10] = [
+static REPLICA: [OptionName; 12] = [
     OptionName::Config,
     OptionName::State,
     OptionName::Socket,
+    OptionName::ReadSocket,
     OptionName::OptionalListen,
+    OptionName::ListenAnywhere,
     OptionName::Peers,
     OptionName::Every,
     OptionName::MostBytes,
@@ -367,6 +391,7 @@ impl CommandName {
         match self {
             CommandName::Canon => "canon",
             CommandName::Config => "config",
+            CommandName::New => "new",
             CommandName::Report => "report",
             CommandName::List => "list",
             CommandName::Diff => "diff",
@@ -394,6 +419,7 @@ impl CommandName {
         match self {
             CommandName::Canon => CANON.as_slice(),
             CommandName::Config => CONFIG.as_slice(),
+            CommandName::New => NEW.as_slice(),
             CommandName::Report => REPORT.as_slice(),
             CommandName::List => LIST.as_slice(),
             CommandName::Diff => DIFF.as_slice(),

@@ -4,7 +4,7 @@ use crate::command_name::{CommandName, OptionName};
 /// The version; then the kit with which it is proved and built, and the formats: the numbers are
 /// those in the first lines that are written.
 pub(crate) const VERSION: &str = "\
-0.4.0
+0.5.0
 kit rattle-kit-13f logic dac8208d650f15bf
 state format 2, and 1 is read
 journal format 2
@@ -17,6 +17,7 @@ pub(crate) const USAGE: &str = "fedbundle <COMMAND>";
 /// What help says after the list of subcommands.
 pub(crate) const NOTES: &str = "\
 `fedbundle <COMMAND> --help` says what a subcommand reads, what it writes, and how it ends.
+A state that is not there holds nothing, unless that says that it is refused.
 
 A fault is one line on standard error, `fedbundle: ` and a code. Exit status:
   0  done
@@ -53,11 +54,22 @@ not go with --with.
 Ends with 0; with 1 where two configurations have two digests; with 1 and nothing printed
 where one is refused; with 2 where the format is neither text nor json.";
 
+const NEW_NOTES: &str = "\
+Reads the configuration, and nothing from standard input.
+
+Writes the state file of a replica that holds nothing, by way of FILE.new and under the
+lock of FILE.lock. Run it once, before a replica runs for the first time: `replica`, and
+each command that only looks at a state, refuses a state that is not there. So a disk that
+was not mounted is noticed. It prints nothing.
+
+Ends with 0; with 1 where the configuration is refused, or a state file or a journal is
+there already, which is left as it is; with 3 where the state is locked.";
+
 const REPORT_NOTES: &str = "\
 Reads the configuration. With --state it reads the state file, and nothing from standard
-input. Without it, it reads from standard input receipts, each a line of at most 8,388,608
-bytes, as `observe` prints them. At most 65,536 different ones are taken, and no record of
-distrust is known.
+input; a state that is not there is refused without --new. Without --state it reads from
+standard input receipts, each a line of at most 8,388,608 bytes, as `observe` prints them.
+At most 65,536 different ones are taken, and no record of distrust is known.
 
 Writes to standard output the report: the configuration's digest, how many receipts are
 held and how many of them are pending, and for each domain its current document, its
@@ -72,7 +84,8 @@ with 1 and no report where the configuration or the state is refused or too many
 fit; with 2 where the format is neither text nor json.";
 
 const LIST_NOTES: &str = "\
-Reads the configuration and the state file, and nothing from standard input.
+Reads the configuration and the state file, and nothing from standard input. A state that
+is not there is refused without --new.
 
 Writes to standard output a line for each receipt, in the order of the state file, and
 then one for each record of distrust; with --domain those of the domain alone:
@@ -91,7 +104,8 @@ refused; with 2 where the format is neither text nor json.";
 
 const DIFF_NOTES: &str = "\
 Reads the configuration, the state file, and with --with another state file under the
-same configuration, and nothing from standard input.
+same configuration, and nothing from standard input. A state that is not there is refused
+without --new.
 
 Writes to standard output the line that `list` prints of each receipt and each record of
 distrust that the first state holds and the other does not, after `- `, and then of each
@@ -102,7 +116,8 @@ Ends with 0 where both hold the same, and then nothing is printed; with 1 where 
 not; with 1 and nothing printed where anything read is refused.";
 
 const GRAPH_NOTES: &str = "\
-Reads the configuration and the state file, and nothing from standard input.
+Reads the configuration and the state file, and nothing from standard input. A state that
+is not there is refused without --new.
 
 Writes to standard output which document vouches for which, as a graph in the language of
 Graphviz: `fedbundle graph .. | dot -Tsvg` draws it. A box is a document, with two borders
@@ -116,7 +131,8 @@ Ends with 0; with 1 and nothing printed where anything read or the name of the d
 refused.";
 
 const STATUS_NOTES: &str = "\
-Reads the configuration and the state file, and nothing from standard input.
+Reads the configuration and the state file, and nothing from standard input. A state that
+is not there is refused without --new.
 
 Writes to standard output how the replica stands: the configuration's digest, how many
 receipts and records of distrust are held, and for each trust domain its current bundle
@@ -187,7 +203,7 @@ nothing is taken, and the state file is left as it was.";
 
 const MIGRATE_NOTES: &str = "\
 Reads the configuration, the state file, and the other configuration of --to, and nothing
-from standard input.
+from standard input. A state that is not there is refused.
 
 Writes to standard output the state file under the other configuration: the receipts that
 fit it, and the records of distrust whose domain it has; with --records-only the records
@@ -199,7 +215,8 @@ Ends with 0; with 1 where something was left out, and the rest is printed; with 
 nothing printed where anything read is refused.";
 
 const RESEED_NOTES: &str = "\
-Reads the configuration and the state file, and nothing from standard input.
+Reads the configuration and the state file, and nothing from standard input. A state that
+is not there is refused.
 
 Writes to standard output the configuration with the same relationships, whose seeds are
 the current bundles. It writes no file. The records of distrust go along by `migrate
@@ -232,8 +249,8 @@ that the key vouches for nothing in the domain any more; at most 4,096 records a
 and none is ever taken back. It prints nothing; with --verbose it first writes to standard
 error what the record changes.
 
-With --dry-run it writes no file, and writes to standard output what the record would
-change, domain by domain:
+With --dry-run it writes no file, refuses a state that is not there without --new, and
+writes to standard output what the record would change, domain by domain:
   falls DOMAIN document ID sequence N
   current DOMAIN before ID sequence N after ID sequence N
   gains DOMAIN key KEY_ID
@@ -288,16 +305,20 @@ Reads the configuration and the state file, and nothing from standard input. It 
 they hold in memory, and the lock of FILE.lock, until `stop` ends it.
 
 Answers requests of this machine on the socket, whose mode is 0600: the commands with --at.
+At the one of --read-socket, whose mode is 0660, it refuses all that would change what it
+holds, and `stop`: whoever may only look is in that socket's group.
 Answers other replicas at the address of --listen, as `serve` does, and pulls from each of
---peers, as `pull` does. At most 144 connections are open at once: 64 requests of this
-machine, 48 on which other replicas ask, and one with each peer. One on which nothing moves
-for 30 seconds, or which is older than 600 seconds, is closed, and so is a pull in which
-fewer than 1,000 bytes move in a second. Where there are too many, the one that has asked
-nothing whole for the longest is closed.
+--peers, as `pull` does. Whoever reaches that address is given all that is held, so one that
+is not a loopback address is refused without --listen-anywhere. At most 144 connections are
+open at once: 64 requests of this machine, 48 on which other replicas ask, and one with each
+peer. One on which nothing moves for 30 seconds, or which is older than 600 seconds, is
+closed, and so is a pull in which fewer than 1,000 bytes move in a second. Where there are
+too many, the one that has asked nothing whole for the longest is closed.
 
 Each change is appended to FILE.journal and put on the disk before it is acknowledged. The
 journal is folded into the state file at the start, and when it has more than 8,388,608
-bytes and more than half of those of the state file. Without a state file --new is needed.
+bytes and more than half of those of the state file. A state that is not there is refused:
+`new` writes one, or --new begins without it.
 
 Writes to standard output a line `ready`, the configuration's digest, `receipts` and how
 many are held, `distrusts` and how many records, once it accepts requests. Writes to
@@ -348,6 +369,8 @@ impl OptionName {
             OptionName::MostRequestBytes => "BYTES",
             OptionName::New => "",
             OptionName::FileFormat => "FORMAT",
+            OptionName::ReadSocket => "PATH",
+            OptionName::ListenAnywhere => "",
         }
     }
 
@@ -356,7 +379,7 @@ impl OptionName {
         match self {
             OptionName::Config =>
                 "The configuration, as JSON: at most 1,024 relationships and 4,096 seeds",
-            OptionName::State => "The state file; one that is not there holds nothing",
+            OptionName::State => "The state file",
             OptionName::Domain => "A trust domain name, of at most 255 bytes",
             OptionName::Endpoint =>
                 "The SPIFFE ID that the endpoint was authenticated as, of at most 2,048 bytes",
@@ -393,8 +416,12 @@ impl OptionName {
                 seconds [60]",
             OptionName::MostRequestBytes =>
                 "How many bytes requests and their replies may have together [536870912]",
-            OptionName::New => "Begins without a state file where there is none",
+            OptionName::New => "Takes a state that is not there for one that holds nothing",
             OptionName::FileFormat => "The format of what is printed: text, or json",
+            OptionName::ReadSocket =>
+                "The path of a second socket, at which nothing can be changed",
+            OptionName::ListenAnywhere =>
+                "Allows an address of --listen that is not a loopback one",
         }
     }
 }
@@ -407,6 +434,7 @@ impl CommandName {
                 "Prints the bundle document on standard input in its canonical form, with its ids"
             }
             CommandName::Config => "Prints what a configuration says, or where two differ",
+            CommandName::New => "Writes the state file of a replica that holds nothing",
             CommandName::Report => {
                 "Prints what receipts make a replica accept: those of the state file, or of \
                 standard input"
@@ -448,23 +476,27 @@ impl CommandName {
             CommandName::Config => {
                 "fedbundle config --config <FILE> [--with <FILE>] [--format <FORMAT>] [--verbose]"
             }
+            CommandName::New => {
+                "fedbundle new --config <FILE> --state <FILE> [--wait <SECONDS>] [--verbose]"
+            }
             CommandName::Report => {
-                "fedbundle report --config <FILE> [--state <FILE>] [--format <FORMAT>] \
+                "fedbundle report --config <FILE> [--state <FILE>] [--format <FORMAT>] [--new] \
                 [--verbose]\n       \
                 fedbundle report --at <PATH> [--wait <SECONDS>] [--verbose]"
             }
             CommandName::List => {
                 "fedbundle list --config <FILE> --state <FILE> [--domain <DOMAIN>] \
-                [--format <FORMAT>] [--verbose]"
+                [--format <FORMAT>] [--new] [--verbose]"
             }
             CommandName::Diff => {
-                "fedbundle diff --config <FILE> --state <FILE> --with <FILE> [--verbose]"
+                "fedbundle diff --config <FILE> --state <FILE> --with <FILE> [--new] [--verbose]"
             }
             CommandName::Graph => {
-                "fedbundle graph --config <FILE> --state <FILE> [--domain <DOMAIN>] [--verbose]"
+                "fedbundle graph --config <FILE> --state <FILE> [--domain <DOMAIN>] [--new] \
+                [--verbose]"
             }
             CommandName::Status => {
-                "fedbundle status --config <FILE> --state <FILE> [--format <FORMAT>] \
+                "fedbundle status --config <FILE> --state <FILE> [--format <FORMAT>] [--new] \
                 [--verbose]\n       \
                 fedbundle status --at <PATH> [--format <FORMAT>] [--wait <SECONDS>] [--verbose]"
             }
@@ -505,7 +537,7 @@ impl CommandName {
             }
             CommandName::Distrust => {
                 "fedbundle distrust --config <FILE> --state <FILE> --domain <DOMAIN> \
-                --key <KEY_ID> [--dry-run] [--wait <SECONDS>] [--verbose]\n       \
+                --key <KEY_ID> [--dry-run] [--new] [--wait <SECONDS>] [--verbose]\n       \
                 fedbundle distrust --at <PATH> --domain <DOMAIN> --key <KEY_ID> [--dry-run] \
                 [--wait <SECONDS>] [--verbose]"
             }
@@ -519,7 +551,8 @@ impl CommandName {
             }
             CommandName::Replica => {
                 "fedbundle replica --config <FILE> --state <FILE> --socket <PATH> \
-                [--listen <ADDRESS>] [--peers <ADDRESS,..>] [--every <SECONDS>] \
+                [--read-socket <PATH>] [--listen <ADDRESS>] [--listen-anywhere] \
+                [--peers <ADDRESS,..>] [--every <SECONDS>] \
                 [--most-bytes <BYTES>] [--most-request-bytes <BYTES>] [--new] [--verbose]"
             }
             CommandName::Stop => "fedbundle stop --at <PATH> [--wait <SECONDS>] [--verbose]",
@@ -531,6 +564,7 @@ impl CommandName {
         match self {
             CommandName::Canon => CANON_NOTES,
             CommandName::Config => CONFIG_NOTES,
+            CommandName::New => NEW_NOTES,
             CommandName::Report => REPORT_NOTES,
             CommandName::List => LIST_NOTES,
             CommandName::Diff => DIFF_NOTES,

@@ -11,7 +11,7 @@ use Rattle.fedbundle.specs.declared.exits.Exit.TheVariants.{NoBundle, NotAccepte
 use Rattle.fedbundle.specs.declared.exits.Exit.TheVariants.{TooManyBytes, System, Refused}
 use Rattle.fedbundle.specs.declared.exits.Exit.TheVariants.{EmptyPath, BadNumber, NoReplica}
 use Rattle.fedbundle.specs.declared.exits.Exit.TheVariants.{NoReply, ReplicaRuns, SocketTaken}
-use Rattle.fedbundle.specs.declared.exits.Exit.TheVariants.{NoState}
+use Rattle.fedbundle.specs.declared.exits.Exit.TheVariants.{NoState, ReadOnly, StateExists}
 
 -- 2 for usage; 3 for a lock, a socket, or a replica that does not answer; what the refusal or the
 -- fault has; and else 1
@@ -42,6 +42,8 @@ IsExitLine Locked line = line ≡ codes "fedbundle: locked\n"
 IsExitLine ReplicaRuns line = line ≡ codes "fedbundle: a replica is running\n"
 IsExitLine SocketTaken line = line ≡ codes "fedbundle: socket taken\n"
 IsExitLine NoState line = line ≡ codes "fedbundle: no state\n"
+IsExitLine StateExists line = line ≡ codes "fedbundle: state exists\n"
+IsExitLine ReadOnly line = line ≡ codes "fedbundle: read only\n"
 IsExitLine NoReplica line = line ≡ codes "fedbundle: no replica\n"
 IsExitLine NoReply line = line ≡ codes "fedbundle: no reply\n"
 IsExitLine TooManyBytes line = line ≡ codes "fedbundle: too many bytes\n"

@@ -1,12 +1,11 @@
 -- The values that the words of a call say, and how a command ends at words that say none.
-use Rattle.std.specs.Prelude.{◌≡◌, ◌⊎◌, ℕ, List, Option, Some, None, Ok, map, option_map}
-use Rattle.hex.specs.Hex.{decode_sized}
+use Rattle.std.specs.Prelude.{◌≡◌, ◌⊎◌, ℕ, List, Option, Some, None, map, option_map}
 use Rattle.spiffe_name.specs.SpiffeId.{IsId, RefusesId}
 use Rattle.spiffe_name.specs.TrustDomain.{IsDomainText, RefusesDomain}
 use Rattle.spiffe_name.specs.declared.error.NameError.{NameError}
 use Rattle.receipt_core.specs.declared.distrust.Distrust.{Distrust}
 use Rattle.bundle_view.specs.declared.observation.Verdict.{Verdict}
-use Rattle.command_line.specs.OptionTexts.{option_said}
+use Rattle.command_line.specs.OptionTexts.{IsKeyText, IsNoKeyText, option_said}
 use Rattle.command_line.specs.declared.command_name.CommandName.{CommandName}
 use Rattle.command_line.specs.declared.command_name.OptionName.{OptionName}
 use Rattle.command_line.specs.declared.command_name.OptionName.TheVariants.{Domain, Endpoint, Key}
@@ -28,7 +27,7 @@ pub record SaysRecord (name : CommandName) (texts : List (Option (List ℕ)))
   pub form : IsDomainText x.domain
   pub digits : List ℕ
   pub key : option_said name texts Key ≡ Some digits
-  pub is_key : decode_sized digits 32 ≡ Ok x.key.0
+  pub is_key : IsKeyText digits x.key
 
 -- They say what TLS said.
 pub record SaysVerdict (name : CommandName) (texts : List (Option (List ℕ)))
@@ -37,7 +36,7 @@ pub record SaysVerdict (name : CommandName) (texts : List (Option (List ℕ)))
   pub form : IsId verdict.endpoint
   pub digits : List ℕ
   pub key : option_said name texts Key ≡ Some digits
-  pub is_key : decode_sized digits 32 ≡ Ok verdict.key.0
+  pub is_key : IsKeyText digits verdict.key
 
 -- ---- words that say none
 
@@ -56,11 +55,12 @@ pub record EndsAtName (Refuses : List ℕ → NameError → Type 0) (option : Op
   pub refused : Refuses text why
   pub is : exit ≡ Refused (Name why)
 
--- The words give a key that is not read.
+-- The words give a text for the key that is no key's.
 pub record EndsAtDigits (name : CommandName) (texts : List (Option (List ℕ)))
     (exit : Exit) : Type 0 where
   pub digits : List ℕ
   pub is_said : option_said name texts Key ≡ Some digits
+  pub none : IsNoKeyText digits
   pub is : exit ≡ BadKey
 
 -- They say no domain,

@@ -5,11 +5,12 @@ use Rattle.bundle_doc.specs.declared.error.DocError.TheVariants.{NoMemory as NoM
 use Rattle.fed_config.specs.declared.error.ConfigError.TheVariants.{NoMemory as NoMemoryForConfig}
 use Rattle.closure_core.specs.declared.error.TakeError.TheVariants.{NoMemory as NoMemoryToTake}
 use Rattle.bundle_view.specs.declared.observe_error.ObserveError.TheVariants.{Take as TakeFailed}
+use Rattle.bundle_view.specs.declared.observe_error.ObserveError.TheVariants.{Document as NotRead}
 use Rattle.poll_log.specs.declared.error.PollError.TheVariants.{NoMemory as NoMemoryToPoll}
 use Rattle.poll_log.specs.declared.error.PollError.TheVariants.{Io as PollIo}
 use Rattle.replica_core.specs.declared.error.SyncError.{SyncError}
 use Rattle.replica_core.specs.declared.error.SyncError.TheVariants.{NoMemory as NoMemoryToSync}
-use Rattle.replica_core.specs.declared.error.SyncError.TheVariants.{Io as SyncIo}
+use Rattle.replica_core.specs.declared.error.SyncError.TheVariants.{Io as SyncIo, Refused}
 use Rattle.fedbundle.specs.declared.error.CommandError.{CommandError}
 use Rattle.fedbundle.specs.declared.error.CommandError.TheVariants.{Name, Document, Config, Take}
 use Rattle.fedbundle.specs.declared.error.CommandError.TheVariants.{Observe, Poll, Sync, Pull, Full}
@@ -17,6 +18,7 @@ use Rattle.fedbundle.specs.declared.error.CommandError.TheVariants.{Journal}
 use Rattle.fedbundle.specs.declared.error.CommandError.TheVariants.{NoMemory, Io}
 
 abbrev pub status_of_sync : SyncError → ℕ
+status_of_sync (Refused line NoMemoryToTake) = 4
 status_of_sync NoMemoryToSync = 4
 status_of_sync SyncIo = 3
 status_of_sync e = 1
@@ -31,6 +33,7 @@ status_of (Config NoMemoryForConfig) = 4
 status_of (Config e) = 1
 status_of (Take NoMemoryToTake) = 4
 status_of (Take e) = 1
+status_of (Observe (NotRead NoMemoryForDocument)) = 4
 status_of (Observe (TakeFailed NoMemoryToTake)) = 4
 status_of (Observe e) = 1
 status_of (Poll NoMemoryToPoll) = 4

@@ -62,7 +62,7 @@ pub enum CommandError {
 }
 
 /// The exit status of the program: 1 where an input was refused, 3 where a device failed, 4 where
-/// memory ran out.
+/// memory ran out, whatever for.
 pub fn status(error: &CommandError) -> u8
     ensures { result ≡ status_of error.now }
 {
@@ -71,6 +71,7 @@ pub fn status(error: &CommandError) -> u8
         CommandError::Document(DocError::NoMemory) => 4,
         CommandError::Config(ConfigError::NoMemory) => 4,
         CommandError::Take(TakeError::NoMemory) => 4,
+        CommandError::Observe(ObserveError::Document(DocError::NoMemory)) => 4,
         CommandError::Observe(ObserveError::Take(TakeError::NoMemory)) => 4,
         CommandError::Poll(PollError::NoMemory) => 4,
         CommandError::NoMemory => 4,
@@ -88,6 +89,7 @@ fn sync_status(why: &SyncError) -> u8
     ensures { result ≡ status_of_sync why.now }
 {
     match why {
+        SyncError::Refused(_, TakeError::NoMemory) => 4,
         SyncError::NoMemory => 4,
         SyncError::Io => 3,
         _ => 1,

@@ -28,7 +28,8 @@ pub enum Exit {
     BadKey,
     /// `--now` is not a moment.
     BadMoment,
-    /// `--listen` or `--peer` is not the address of a socket, or has port 0.
+    /// `--listen`, `--peer` or one of `--peers` is not the address of a socket, or has port 0 where
+    /// others have to know the port.
     BadAddress,
     /// The domain has no current bundle.
     NoBundle,
@@ -42,6 +43,10 @@ pub enum Exit {
     SocketTaken,
     /// There is no state file, and the words do not say that it may begin without one.
     NoState,
+    /// There is a state file or a journal where a state was to begin.
+    StateExists,
+    /// The socket is one at which nothing can be changed.
+    ReadOnly,
     /// No replica answered at the socket.
     NoReplica,
     /// The replica at the socket did not answer in time.
@@ -108,7 +113,7 @@ pub fn exit_status(exit: &Exit) -> u8
         Exit::NoBundle | Exit::NotAccepted | Exit::TooManyBytes => 1,
         Exit::Locked | Exit::ReplicaRuns | Exit::SocketTaken => 3,
         Exit::NoReplica | Exit::NoReply => 3,
-        Exit::NoState => 1,
+        Exit::NoState | Exit::StateExists | Exit::ReadOnly => 1,
         Exit::System(fault) => status(&fault.error),
         Exit::Refused(error) => status(error),
     }
@@ -132,6 +137,8 @@ pub fn write_exit<W: Sink>(exit: &Exit, sink: &mut W) -> Result<(), CommandError
         Exit::ReplicaRuns => b"fedbundle: a replica is running\n",
         Exit::SocketTaken => b"fedbundle: socket taken\n",
         Exit::NoState => b"fedbundle: no state\n",
+        Exit::StateExists => b"fedbundle: state exists\n",
+        Exit::ReadOnly => b"fedbundle: read only\n",
         Exit::NoReplica => b"fedbundle: no replica\n",
         Exit::NoReply => b"fedbundle: no reply\n",
         Exit::TooManyBytes => b"fedbundle: too many bytes\n",

@@ -9,6 +9,7 @@ mod graph;
 mod list;
 mod merge;
 mod migrate;
+mod new;
 mod observe;
 mod pull;
 mod replica;
@@ -25,6 +26,7 @@ use fedbundle::{
     Call, CommandError, CommandName, Exit, OptionName, WordsError, given, manner_of, read_words,
     wanted,
 };
+pub(crate) use replica::may_listen;
 
 /// What the words ask for, done: the exit status 0, or 1 where an input was refused and the rest is
 /// done.
@@ -52,13 +54,21 @@ fn carry_out(rt: &HostRuntime, call: &Call<'_>) -> Result<u8, Exit> {
     }
     let manner = manner_of(call)?;
     if let Some(path) = given(call, OptionName::At) {
-        return at_replica::ask(rt, call, path, manner.wait_seconds);
+        return ask_at(rt, call, path, manner.wait_seconds);
     }
     match call.name {
         CommandName::Canon => canon::run(rt, call),
         CommandName::Serve => serve::run(rt, call),
         _ => carry_out_with(rt, call),
     }
+}
+
+// A running replica has a state, so nothing may stand for one that it has not.
+fn ask_at(rt: &HostRuntime, call: &Call<'_>, path: &str, seconds: u64) -> Result<u8, Exit> {
+    if given(call, OptionName::New) == Some("true") {
+        return Err(Exit::Usage);
+    }
+    at_replica::ask(rt, call, path, seconds)
 }
 
 fn empty_path(call: &Call<'_>) -> Option<OptionName> {
@@ -69,6 +79,7 @@ fn empty_path(call: &Call<'_>) -> Option<OptionName> {
         OptionName::With,
         OptionName::At,
         OptionName::Socket,
+        OptionName::ReadSocket,
     ];
     paths
         .iter()
@@ -89,6 +100,7 @@ pub(crate) fn config_of(rt: &HostRuntime, call: &Call<'_>) -> Result<Config, Exi
 fn carry_out_under(rt: &HostRuntime, config: &Config, call: &Call<'_>) -> Result<u8, Exit> {
     match call.name {
         CommandName::Config => config::run(rt, config, call),
+        CommandName::New => new::run(rt, config, call),
         CommandName::Observe => observe::run(rt, config, call),
         CommandName::Merge => merge::run(rt, config, call),
         CommandName::Pull => pull::run(rt, config, call),

@@ -1,8 +1,10 @@
 // Why the program ends, as further lines after the one that reports it: the file, the option or
 // the part of it that is at fault. A fault keeps no more than numbers, so this looks a second time
 // at what the command was given, and only where these lines are wanted.
+use crate::commands::may_listen;
 use crate::exit::print_exit;
 use crate::fault_places::{say_bundle, say_config, say_state, say_stream};
+use crate::options::known_address;
 use crate::verbose_lines::{is_verbose_for, quoted, say, shown, words_of};
 use fed_config::Config;
 use fedbundle::{
@@ -72,8 +74,10 @@ fn say_why(rt: &HostRuntime, call: &Call<'_>, exit: &Exit) -> Result<(), AllocEr
             rt,
             call,
             OptionName::State,
-            "is not there: --new begins one",
+            "is not there: `new` writes one that holds nothing",
         ),
+        Exit::StateExists => say_option(rt, call, OptionName::State, "is there, or its journal is"),
+        Exit::ReadOnly => say_option(rt, call, OptionName::At, "lets nobody change anything"),
         Exit::NoReplica => say_option(rt, call, OptionName::At, "has no replica that answers"),
         Exit::NoReply => say_option(
             rt,
@@ -118,10 +122,14 @@ fn say_address(rt: &HostRuntime, call: &Call<'_>) -> Result<(), AllocError> {
 
 // The options of a replica that have addresses. One that is none is among them.
 fn say_addresses(rt: &HostRuntime, call: &Call<'_>, why: &str) -> Result<(), AllocError> {
-    match given(call, OptionName::Listen) {
-        Some(text) if crate::options::known_address(text).is_err() => {
-            say_option(rt, call, OptionName::Listen, why)
-        }
+    match given(call, OptionName::Listen).map(known_address) {
+        Some(Err(_)) => say_option(rt, call, OptionName::Listen, why),
+        Some(Ok(address)) if !may_listen(call, address) => say_option(
+            rt,
+            call,
+            OptionName::Listen,
+            "is no loopback address: --listen-anywhere allows it",
+        ),
         _ => say_option(rt, call, OptionName::Peers, why),
     }
 }

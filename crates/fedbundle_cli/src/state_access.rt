@@ -3,8 +3,12 @@
 use crate::streams::error_lines;
 use crate::verbose_lines::is_verbose_unasked;
 use fed_config::Config;
-use fedbundle::{Call, CommandError, Exit, Manner, OptionName, Step, manner_of, wanted};
-use state_files::{StateLock, is_marked, load_state, save_state, state_bytes, try_lock_state};
+use fedbundle::{
+    Call, CommandError, CommandName, Exit, Manner, OptionName, Step, given, manner_of, wanted,
+};
+use state_files::{
+    StateLock, has_journal, is_marked, load_state, save_state, state_bytes, try_lock_state,
+};
 use std::io::Write;
 use std::time::Duration;
 use std::{mem, thread};
@@ -21,13 +25,56 @@ const TRIES_PER_SECOND: u64 = 20;
 pub(crate) struct StateAccess<'a> {
     pub(crate) path: &'a str,
     pub(crate) manner: Manner,
+    /// What becomes of a state that is not there.
+    pub(crate) missing: MissingState,
+}
+
+/// What a command does where there is neither a state file nor a journal.
+#[derive(Clone, Copy, PartialEq, Eq)]
+pub(crate) enum MissingState {
+    /// It takes the state for one that holds nothing.
+    HoldsNothing,
+    /// It refuses the state.
+    Refused,
 }
 
 pub(crate) fn state_access_of<'a>(call: &Call<'a>) -> Result<StateAccess<'a>, Exit> {
     Ok(StateAccess {
         path: wanted(call, OptionName::State)?,
         manner: manner_of(call)?,
+        missing: missing_of(call),
     })
+}
+
+// A command that only looks at what a state holds is mistaken where there is none, unless its words
+// say that there may be none. The commands of the exchange format take it for one that holds
+// nothing (D-439).
+fn missing_of(call: &Call<'_>) -> MissingState {
+    if given(call, OptionName::New) == Some("true") {
+        return MissingState::HoldsNothing;
+    }
+    match call.name {
+        CommandName::Report
+        | CommandName::List
+        | CommandName::Diff
+        | CommandName::Graph
+        | CommandName::Status
+        | CommandName::Migrate
+        | CommandName::Reseed => MissingState::Refused,
+        CommandName::Distrust if given(call, OptionName::DryRun) == Some("true") => {
+            MissingState::Refused
+        }
+        _ => MissingState::HoldsNothing,
+    }
+}
+
+/// Whether there is a state file, or a journal of one.
+pub(crate) fn has_state(rt: &HostRuntime, path: &str) -> Result<bool, Exit> {
+    match state_bytes(rt, path) {
+        Ok(Some(_)) => Ok(true),
+        Ok(None) => Ok(has_journal(rt, rt.alloc(), path)?),
+        Err(fault) => Err(Exit::of_file(Step::See, fault)),
+    }
 }
 
 /// Takes the lock of the state file, where another command has it as soon as that is done.
@@ -83,22 +130,29 @@ fn try_lock(rt: &HostRuntime, path: &str) -> Result<Option<StateLock>, Exit> {
     }
 }
 
-/// What the state file holds.
+/// What the state file holds. Where there is none that is said, if more is wanted, or the command
+/// refuses it.
 pub(crate) fn load<C: Closure>(
     rt: &HostRuntime,
     config: &Config,
-    path: &str,
-) -> Result<C, CommandError> {
-    Ok(load_state(rt, rt.alloc(), config, path)?)
+    state: StateAccess<'_>,
+) -> Result<C, Exit> {
+    if !may_have_state(rt, state.path) {
+        if state.missing == MissingState::Refused {
+            return Err(Exit::NoState);
+        }
+        say_missing(rt, state);
+    }
+    Ok(load_state(rt, rt.alloc(), config, state.path)?)
 }
 
-/// What the state file holds, for a command that reads it alone: it says where there is none.
-pub(crate) fn look<C: Closure>(
-    rt: &HostRuntime,
-    config: &Config,
-    state: StateAccess<'_>,
-) -> Result<C, CommandError> {
-    if is_more_wanted(rt, state) && matches!(state_bytes(rt, state.path), Ok(None)) {
+// Whether there is a state, or the system does not say so: the command finds out when it loads it.
+fn may_have_state(rt: &HostRuntime, path: &str) -> bool {
+    !matches!(has_state(rt, path), Ok(false))
+}
+
+fn say_missing(rt: &HostRuntime, state: StateAccess<'_>) {
+    if is_more_wanted(rt, state) {
         // That it cannot be said changes nothing.
         let _ = writeln!(
             error_lines(rt),
@@ -106,7 +160,6 @@ pub(crate) fn look<C: Closure>(
             state.path
         );
     }
-    load(rt, config, state.path)
 }
 
 /// Leaves to the system what the command held: the process ends, and its memory is taken back at

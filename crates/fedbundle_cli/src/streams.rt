@@ -4,6 +4,7 @@ ghost use Rattle.std.specs.Prelude.{◌≤◌};
 use byte_lines::{FromRead, FromWrite};
 use std::fs::{File, OpenOptions};
 use std::io::{Result, Stderr, Stdin, Stdout, Write};
+use std::net::SocketAddr;
 use std::os::unix::io::AsFd;
 
 /// Where nothing is, and what each read or each write of it says.
@@ -88,6 +89,17 @@ impl<W: Write + Drop> Write for WholeLines<W> {
     fn flush(&mut self) -> Result<()> {
         self.write_out()?;
         self.inner.flush()
+    }
+}
+
+/// Warns where other machines reach the address.
+pub(crate) fn warn_of_anywhere(rt: &HostRuntime, address: SocketAddr) {
+    if !address.ip().is_loopback() {
+        // That it cannot be said changes nothing.
+        let _ = writeln!(
+            error_lines(rt),
+            "fedbundle: warning: {address} is no loopback address: whoever reaches it is given all"
+        );
     }
 }
 

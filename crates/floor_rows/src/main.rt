@@ -8,6 +8,7 @@ mod documents;
 mod elements;
 mod errors;
 mod found_flaws;
+mod key_parts;
 mod names;
 mod words;
 
@@ -56,6 +57,7 @@ fn call_with_bytes(
         "json" => found_flaws::place(alloc, text, answer),
         "ignored" => found_flaws::ignored(alloc, text, answer),
         "quoted" => found_flaws::quote(alloc, text, answer),
+        "key_parts" => key_parts::read(alloc, text, answer),
         "errors" => errors::report_all(answer),
         _ => match str::from_utf8(text) {
             Ok(text) => call_with_text(alloc, script, row, text, answer),

@@ -6,4 +6,5 @@ pub mod Sending
 pub mod Journalling
 pub mod ChangeEvents
 pub mod RequestRun
+pub mod Looking
 pub mod Inside

@@ -61,7 +61,7 @@ pub fn answer_request<C: Closure>(
     }
 }
 
-fn texts_of_words(alloc: Global, words: &[String]) -> Result<Vec<&str>, AllocError>
+pub(crate) fn texts_of_words(alloc: Global, words: &[String]) -> Result<Vec<&str>, AllocError>
     ensures { IfOk result (λ texts. map (λ t. t.now) texts.items ≡ map string_bytes words.now) }
 {
     let mut texts = Vec::with_capacity(alloc, words.len())?;
@@ -72,7 +72,7 @@ fn texts_of_words(alloc: Global, words: &[String]) -> Result<Vec<&str>, AllocErr
 }
 
 // The words are none of a command, or ask for help or for the version.
-fn reply_by_words(alloc: Global, error: &WordsError) -> Result<Reply, AllocError>
+pub(crate) fn reply_by_words(alloc: Global, error: &WordsError) -> Result<Reply, AllocError>
     ensures { IfOk result SaysOfWords }
 {
     match error {

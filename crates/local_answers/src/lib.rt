@@ -5,7 +5,8 @@
 //! request. `asked` has what a request asks for, and `carrying_out` does it: `shown_calls` has the
 //! commands that show what is held, which are those of [`fedbundle::run_shown`], and
 //! `changing_calls` and `changing_replies` those that change it, the first what the words say, and
-//! the second what is replied. A change is journalled by `new_lines`. `reply` is what is sent back,
+//! the second what is replied. `looking` answers at a socket at which nothing can be changed. A
+//! change is journalled by `new_lines`. `reply` is what is sent back,
 //! and `reply_sending` says when. `call_words` is for clients.
 #![tactic(auto)]
 
@@ -15,6 +16,7 @@ mod carrying_out;
 mod changing_calls;
 mod changing_replies;
 pub mod laws;
+mod looking;
 mod new_lines;
 mod reply;
 mod reply_sending;
@@ -24,6 +26,7 @@ mod shown_calls;
 
 pub use call_words::request_words;
 pub use carrying_out::answer_request;
+pub use looking::answer_look;
 pub use reply::Reply;
 pub use reply_sending::Sending;
 pub use request_fault::RequestFault;

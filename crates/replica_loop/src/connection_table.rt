@@ -26,7 +26,7 @@ const MOST_SERVED: usize = 48;
 const MOST_PULLS: usize = 16;
 
 /// The number of the first connection; those below it are of the listeners.
-const FIRST_SERIAL: usize = 2;
+const FIRST_SERIAL: usize = 3;
 
 /// For how long one turn carries out work of one kind, beyond what it began.
 const MILLIS_A_TURN: u64 = 4;

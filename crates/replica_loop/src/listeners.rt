@@ -1,5 +1,6 @@
-//! Where connections come in: the socket of local requests, and the address where other replicas
+//! Where connections come in: the sockets of local requests, and the address where other replicas
 //! ask; and the poll, which says what is ready.
+use crate::local_talk::Rights;
 use crate::settings::Settings;
 use crate::socket::Socket;
 use crate::socket_path::{FileId, file_id, too_long};
@@ -20,8 +21,13 @@ pub(crate) const LOCAL_LISTENER: usize = 0;
 
 pub(crate) const GOSSIP_LISTENER: usize = 1;
 
+pub(crate) const READ_LISTENER: usize = 2;
+
 /// The mode of the socket: its owner alone connects.
 const OWNER_ONLY: u32 = 0o600;
+
+/// The mode of the socket at which nothing can be changed: its group connects, too.
+const OWNER_AND_GROUP: u32 = 0o660;
 
 /// How long nothing is accepted after an accept failed.
 const PAUSE_MILLIS: u64 = 100;
@@ -38,11 +44,26 @@ const GOSSIP_A_SPAN: u64 = 8;
 #[derive(Drop)]
 pub(crate) struct Listeners {
     pub(crate) poll: Poll,
-    local: UnixListener,
-    local_file: FileId,
+    local: LocalListener,
+    read: Option<LocalListener>,
     gossip: Option<TcpListener>,
-    at_local: Queue,
     at_gossip: Queue,
+}
+
+/// A socket of this machine, and who waits there.
+#[derive(Drop)]
+struct LocalListener {
+    socket: UnixListener,
+    file: FileId,
+    queue: Queue,
+}
+
+/// How a socket of this machine is opened.
+#[derive(Clone, Copy)]
+struct LocalGate<'a> {
+    path: &'a str,
+    mode: u32,
+    token: usize,
 }
 
 /// What is known of those who wait at a listener.
@@ -59,8 +80,10 @@ struct Queue {
 /// What an accept gave.
 #[derive(Drop)]
 pub(crate) enum Arrival {
-    /// A connection, with the address of the other side where it has one.
-    Came(Socket, Option<SocketAddr>),
+    /// A connection of this machine, with what it may do.
+    Local(Socket, Rights),
+    /// A connection of another replica, with its address.
+    Gossip(Socket, SocketAddr),
     /// Nobody waits.
     Nobody,
     /// The one who waited has left, or a signal came. Others may wait.
@@ -70,7 +93,7 @@ pub(crate) enum Arrival {
 }
 
 impl Listeners {
-    /// Listens at both. The lock of the state is held, so a socket's file on which nobody listens
+    /// Listens at each. The lock of the state is held, so a socket's file on which nobody listens
     /// is that of a replica that has ended.
     pub(crate) fn open<R: Files + Net>(
         rt: &R,
@@ -78,10 +101,13 @@ impl Listeners {
         now: Instant,
     ) -> Result<Listeners, Exit> {
         let poll = at_step(Step::Socket, Poll::new(rt))?;
-        file_at_step(Step::Socket, too_long(settings.socket))?;
-        free_path(rt, settings.socket)?;
-        let local = at_step(Step::Socket, open_local(rt, &poll, settings.socket))?;
-        let local_file = at_step(Step::Socket, file_id(rt, settings.socket))?;
+        let gate = LocalGate {
+            path: settings.socket,
+            mode: OWNER_ONLY,
+            token: LOCAL_LISTENER,
+        };
+        let local = LocalListener::open(rt, &poll, gate, now)?;
+        let read = open_read(rt, &poll, settings.read_socket, now)?;
         let gossip = match settings.listen {
             Some(address) => Some(at_step(Step::Listen, open_gossip(rt, &poll, address))?),
             None => None,
@@ -89,51 +115,53 @@ impl Listeners {
         Ok(Listeners {
             poll,
             local,
-            local_file,
+            read,
             gossip,
-            at_local: Queue::new(LOCAL_A_SPAN, now),
             at_gossip: Queue::new(GOSSIP_A_SPAN, now),
         })
     }
 
-    /// Removes the socket's file, unless its path names something else by now. One that stays is
+    /// Removes the sockets' files, unless their paths name something else by now. One that stays is
     /// replaced by the next replica.
-    pub(crate) fn remove_socket<R: Files>(&self, rt: &R, path: &str) {
-        if let Ok(found) = file_id(rt, path)
-            && found == self.local_file
-        {
-            let _ = fs::remove_file(rt, path);
+    pub(crate) fn remove_sockets<R: Files>(&self, rt: &R, settings: &Settings<'_, '_>) {
+        self.local.remove(rt, settings.socket);
+        if let (Some(read), Some(path)) = (&self.read, settings.read_socket) {
+            read.remove(rt, path);
         }
     }
 
     /// The poll reports that somebody waits.
     pub(crate) fn mark(&mut self, listener: usize) {
         match listener {
-            LOCAL_LISTENER => self.at_local.is_filled = true,
+            LOCAL_LISTENER => self.local.queue.is_filled = true,
+            READ_LISTENER => self.mark_read(),
             GOSSIP_LISTENER => self.at_gossip.is_filled = true,
             _ => {}
         }
     }
 
-    /// How long to wait before the next accept: `None` where nobody waits.
-    pub(crate) fn time_left(&self, now: Instant) -> Option<Duration> {
-        match (self.at_local.time_left(now), self.at_gossip.time_left(now)) {
-            (Some(local), Some(gossip)) => Some(local.min(gossip)),
-            (local, gossip) => local.or(gossip),
+    fn mark_read(&mut self) {
+        if let Some(read) = &mut self.read {
+            read.queue.is_filled = true;
         }
     }
 
-    /// The next connection of this machine.
-    pub(crate) fn accept_local(&mut self, now: Instant) -> Arrival {
-        if !self.at_local.is_open(now) {
-            return Arrival::Nobody;
-        }
-        match self.local.accept() {
-            Ok((stream, _)) => {
-                self.at_local.note_arrival(now);
-                Arrival::Came(Socket::Unix(stream), None)
-            }
-            Err(error) => self.at_local.note(&error, now),
+    /// How long to wait before the next accept: `None` where nobody waits.
+    pub(crate) fn time_left(&self, now: Instant) -> Option<Duration> {
+        let read = match &self.read {
+            Some(read) => read.queue.time_left(now),
+            None => None,
+        };
+        let local = first_of(self.local.queue.time_left(now), read);
+        first_of(local, self.at_gossip.time_left(now))
+    }
+
+    /// The next connection of this machine at the socket with these rights.
+    pub(crate) fn accept_local(&mut self, rights: Rights, now: Instant) -> Arrival {
+        match (rights, &mut self.read) {
+            (Rights::Change, _) => self.local.accept(rights, now),
+            (Rights::Look, Some(read)) => read.accept(rights, now),
+            (Rights::Look, None) => Arrival::Nobody,
         }
     }
 
@@ -150,10 +178,56 @@ impl Listeners {
                 // Without it an answer may wait for a moment.
                 let _ = stream.set_nodelay(true);
                 self.at_gossip.note_arrival(now);
-                Arrival::Came(Socket::Tcp(stream), Some(peer))
+                Arrival::Gossip(Socket::Tcp(stream), peer)
             }
             Err(error) => self.at_gossip.note(&error, now),
         }
+    }
+}
+
+impl LocalListener {
+    fn open<R: Files + Net>(
+        rt: &R,
+        poll: &Poll,
+        gate: LocalGate<'_>,
+        now: Instant,
+    ) -> Result<LocalListener, Exit> {
+        file_at_step(Step::Socket, too_long(gate.path))?;
+        free_path(rt, gate.path)?;
+        Ok(LocalListener {
+            socket: at_step(Step::Socket, open_local(rt, poll, gate))?,
+            file: at_step(Step::Socket, file_id(rt, gate.path))?,
+            queue: Queue::new(LOCAL_A_SPAN, now),
+        })
+    }
+
+    fn accept(&mut self, rights: Rights, now: Instant) -> Arrival {
+        if !self.queue.is_open(now) {
+            return Arrival::Nobody;
+        }
+        match self.socket.accept() {
+            Ok((stream, _)) => {
+                self.queue.note_arrival(now);
+                Arrival::Local(Socket::Unix(stream), rights)
+            }
+            Err(error) => self.queue.note(&error, now),
+        }
+    }
+
+    fn remove<R: Files>(&self, rt: &R, path: &str) {
+        if let Ok(found) = file_id(rt, path)
+            && found == self.file
+        {
+            let _ = fs::remove_file(rt, path);
+        }
+    }
+}
+
+// The earlier of two moments, where there are any.
+fn first_of(one: Option<Duration>, other: Option<Duration>) -> Option<Duration> {
+    match (one, other) {
+        (Some(one), Some(other)) => Some(one.min(other)),
+        (one, other) => one.or(other),
     }
 }
 
@@ -223,11 +297,32 @@ fn open_gossip<R: Net>(rt: &R, poll: &Poll, address: SocketAddr) -> io::Result<T
     Ok(listener)
 }
 
-fn open_local<R: Files + Net>(rt: &R, poll: &Poll, path: &str) -> io::Result<UnixListener> {
-    let mut listener = UnixListener::bind(rt, path)?;
-    fs::set_permissions(rt, path, Permissions::from_mode(OWNER_ONLY))?;
+fn open_read<R: Files + Net>(
+    rt: &R,
+    poll: &Poll,
+    path: Option<&str>,
+    now: Instant,
+) -> Result<Option<LocalListener>, Exit> {
+    let Some(path) = path else {
+        return Ok(None);
+    };
+    let gate = LocalGate {
+        path,
+        mode: OWNER_AND_GROUP,
+        token: READ_LISTENER,
+    };
+    Ok(Some(LocalListener::open(rt, poll, gate, now)?))
+}
+
+fn open_local<R: Files + Net>(
+    rt: &R,
+    poll: &Poll,
+    gate: LocalGate<'_>,
+) -> io::Result<UnixListener> {
+    let mut listener = UnixListener::bind(rt, gate.path)?;
+    fs::set_permissions(rt, gate.path, Permissions::from_mode(gate.mode))?;
     poll.registry()
-        .register(&mut listener, Token(LOCAL_LISTENER), Interest::READABLE)?;
+        .register(&mut listener, Token(gate.token), Interest::READABLE)?;
     Ok(listener)
 }
 

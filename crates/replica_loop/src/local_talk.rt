@@ -4,7 +4,7 @@ use crate::held_state::HeldState;
 use crate::request_work::work_of;
 use closure_core::Closure;
 use fair_turns::{ByteRoom, Work};
-use local_answers::{Reply, RequestFault, RequestParts, Sending, answer_request};
+use local_answers::{Reply, RequestFault, RequestParts, Sending, answer_look, answer_request};
 use status_view::RunningStatus;
 use std::alloc::Global;
 use std::time::Instant;
@@ -21,9 +21,19 @@ pub(crate) struct Surroundings<'a> {
 /// The reply where a change could not be put on the disk. It takes no memory.
 static DISK_FAILED: &[u8] = b"{\"errors\":17,\"output\":0,\"status\":3}\nfedbundle: S9 Io\n";
 
+/// What the requests of a socket may do.
+#[derive(Clone, Copy, Debug, PartialEq, Eq)]
+pub(crate) enum Rights {
+    /// All that there is.
+    Change,
+    /// Look at what is held.
+    Look,
+}
+
 /// One request and its reply.
 #[derive(Drop)]
 pub(crate) struct LocalTalk {
+    rights: Rights,
     parts: RequestParts,
     answer: LocalAnswer,
     // How many bytes the request has so far, or the reply of a command.
@@ -43,8 +53,9 @@ enum LocalAnswer {
 }
 
 impl LocalTalk {
-    pub(crate) fn new(alloc: Global) -> LocalTalk {
+    pub(crate) fn new(alloc: Global, rights: Rights) -> LocalTalk {
         LocalTalk {
+            rights,
             parts: RequestParts::new(alloc),
             answer: LocalAnswer::Awaited,
             held: 0,
@@ -54,6 +65,7 @@ impl LocalTalk {
     /// One more than there may be: the reply says so, and nothing is read.
     pub(crate) fn refused(alloc: Global) -> LocalTalk {
         LocalTalk {
+            rights: Rights::Look,
             parts: RequestParts::new(alloc),
             answer: LocalAnswer::Fault(RequestFault::TooManyRequests.reply()),
             held: 0,
@@ -94,8 +106,19 @@ impl LocalTalk {
     /// Nothing more comes: a request that is whole waits for its turn.
     pub(crate) fn end_input(&mut self, alloc: Global) {
         match self.parts.whole() {
-            Ok(request) => self.answer = LocalAnswer::Due(work_of(alloc, request.words)),
+            Ok(request) => {
+                let work = work_of(alloc, request.words);
+                self.answer = LocalAnswer::Due(self.allowed(work));
+            }
             Err(fault) => self.refuse(alloc, fault),
+        }
+    }
+
+    // A change that is not allowed is refused, which takes little.
+    fn allowed(&self, work: Work) -> Work {
+        match (self.rights, work) {
+            (Rights::Look, Work::Change) => Work::Short,
+            _ => work,
         }
     }
 
@@ -145,13 +168,11 @@ impl LocalTalk {
         around: &Surroundings<'_>,
     ) -> Result<Reply, RequestFault> {
         let request = self.parts.whole()?;
-        answer_request(
-            alloc,
-            &mut held.closure,
-            &around.running,
-            request.words,
-            request.input,
-        )
+        let (running, words, input) = (&around.running, request.words, request.input);
+        match self.rights {
+            Rights::Change => answer_request(alloc, &mut held.closure, running, words, input),
+            Rights::Look => answer_look(alloc, &held.closure, running, words, input),
+        }
     }
 
     fn refuse(&mut self, alloc: Global, fault: RequestFault) {
@@ -182,7 +203,7 @@ impl LocalTalk {
 
     /// The lines of this turn could not be put on the disk: a reply of which nothing is sent says
     /// that in the place of what it said, which may show what is not on the disk. A request
-    /// that waits for its turn is told the same.
+    /// that waits for its turn gets the same reply.
     pub(crate) fn fail(&mut self) {
         let is_refused = match &self.answer {
             LocalAnswer::Whole(sending) => !sending.has_begun(),

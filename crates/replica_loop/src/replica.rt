@@ -112,7 +112,7 @@ fn run_held<C: Closure, R: Files<File = File> + Net + Clock + Print + Eprint>(
     print_ready(rt, alloc, &held.closure)?;
     let ended = run_turns(rt, alloc, held, &mut running, &mut events, settings);
     running.tell_all(rt, alloc);
-    running.remove_socket(rt, settings.socket);
+    running.remove_sockets(rt, settings);
     ended
 }
 

@@ -9,6 +9,8 @@ pub struct Settings<'a, 'p> {
     pub state: &'a str,
     /// The path of the socket for local requests.
     pub socket: &'a str,
+    /// The path of a second socket, at which nothing can be changed.
+    pub read_socket: Option<&'a str>,
     /// Where other replicas pull from this one.
     pub listen: Option<SocketAddr>,
     /// From which replicas this one pulls.

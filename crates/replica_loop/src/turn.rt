@@ -10,7 +10,7 @@ use crate::held_state::HeldState;
 use crate::kept_files::KeptFiles;
 use crate::listeners::{Arrival, Listeners};
 use crate::live_connection::LiveConnection;
-use crate::local_talk::{LocalTalk, Surroundings};
+use crate::local_talk::{LocalTalk, Rights, Surroundings};
 use crate::peers::Peers;
 use crate::pull_talk::PullTalk;
 use crate::served_talk::ServedTalk;
@@ -138,14 +138,19 @@ impl RunningReplica {
 
     /// Takes in the connections that came.
     pub(crate) fn accept<R: Eprint>(&mut self, rt: &R, alloc: Global) {
+        self.accept_local(rt, alloc, Rights::Change);
+        self.accept_local(rt, alloc, Rights::Look);
         for _ in 0..ARRIVALS_A_TURN {
-            let arrival = self.listeners.accept_local(self.now);
+            let arrival = self.listeners.accept_gossip(self.now);
             if !self.take_in(rt, alloc, arrival) {
                 break;
             }
         }
+    }
+
+    fn accept_local<R: Eprint>(&mut self, rt: &R, alloc: Global, rights: Rights) {
         for _ in 0..ARRIVALS_A_TURN {
-            let arrival = self.listeners.accept_gossip(self.now);
+            let arrival = self.listeners.accept_local(rights, self.now);
             if !self.take_in(rt, alloc, arrival) {
                 break;
             }
@@ -161,28 +166,26 @@ impl RunningReplica {
                 self.report_once(rt, alloc, LogEvent::Accept);
                 false
             }
-            Arrival::Came(socket, peer) => {
-                let talk = self.talk_of(alloc, &socket);
-                self.add(rt, alloc, socket, talk, peer);
+            Arrival::Local(socket, rights) => {
+                let talk = Talk::Local(self.local_talk(alloc, rights));
+                self.add(rt, alloc, socket, talk, None);
+                true
+            }
+            Arrival::Gossip(socket, peer) => {
+                self.table.make_served_room(self.now);
+                let talk = Talk::Served(ServedTalk::new(alloc));
+                self.add(rt, alloc, socket, talk, Some(peer));
                 true
             }
         }
     }
 
-    // What is said on it. Where there are too many of its kind, one of them gives way.
-    fn talk_of(&mut self, alloc: Global, socket: &Socket) -> Talk {
-        match socket {
-            Socket::Tcp(_) => {
-                self.table.make_served_room(self.now);
-                Talk::Served(ServedTalk::new(alloc))
-            }
-            Socket::Unix(_) => {
-                if self.table.make_local_room(alloc, self.now) {
-                    Talk::Local(LocalTalk::new(alloc))
-                } else {
-                    Talk::Local(LocalTalk::refused(alloc))
-                }
-            }
+    // Where there are too many requests of this machine, one of them gives way.
+    fn local_talk(&mut self, alloc: Global, rights: Rights) -> LocalTalk {
+        if self.table.make_local_room(alloc, self.now) {
+            LocalTalk::new(alloc, rights)
+        } else {
+            LocalTalk::refused(alloc)
         }
     }
 
@@ -363,9 +366,9 @@ impl RunningReplica {
         self.events.tell_all(rt, alloc);
     }
 
-    /// Removes the socket's file, if it is still that of this replica.
-    pub(crate) fn remove_socket<R: Files>(&self, rt: &R, path: &str) {
-        self.listeners.remove_socket(rt, path);
+    /// Removes the sockets' files, if they are still those of this replica.
+    pub(crate) fn remove_sockets<R: Files>(&self, rt: &R, settings: &Settings<'_, '_>) {
+        self.listeners.remove_sockets(rt, settings);
     }
 
     /// Whether it was asked to end, and the replies are sent or had their time.

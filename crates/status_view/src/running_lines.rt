@@ -12,10 +12,7 @@ use text_lines::push_number_or_none;
 ///
 /// # Errors
 /// Memory ran out. Nothing is said then of what is there.
-pub fn push_running_lines(
-    out: &mut Vec<u8>,
-    running: &RunningStatus<'_>,
-) -> Result<(), AllocError>
+pub fn push_running_lines(out: &mut Vec<u8>, running: &RunningStatus<'_>) -> Result<(), AllocError>
     ensures { OnOk result (out.new.items ≡ out.old.items ++ running_lines running.now) }
 {
     out.extend_from_slice(b"snapshot ")?;

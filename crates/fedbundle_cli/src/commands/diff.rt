@@ -1,5 +1,5 @@
 // `diff`: what only one of two state files holds, printed.
-use crate::state_access::{leave, load};
+use crate::state_access::{StateAccess, leave, load, state_access_of};
 use crate::streams::output;
 use fed_config::Config;
 use fedbundle::{Call, CommandError, Exit, OptionName, wanted};
@@ -14,7 +14,14 @@ pub(crate) fn run(
     closure: &IndexedClosure,
     call: &Call<'_>,
 ) -> Result<u8, Exit> {
-    let other = load(rt, config, wanted(call, OptionName::With)?)?;
+    let other = load(
+        rt,
+        config,
+        StateAccess {
+            path: wanted(call, OptionName::With)?,
+            ..state_access_of(call)?
+        },
+    )?;
     let compared = compare(rt, closure, &other);
     leave(other);
     compared

@@ -45,7 +45,7 @@ fn pull_from(
 
 fn begin(rt: &HostRuntime, config: &Config, state: StateAccess<'_>) -> Result<Begun, Exit> {
     let _lock = lock(rt, state)?;
-    let closure = load(rt, config, state.path)?;
+    let closure = load(rt, config, state)?;
     match see_state(rt, state.path) {
         Ok(file) => Ok(Begun { closure, file }),
         Err(fault) => Err(Exit::of_file(Step::See, fault)),
@@ -106,7 +106,7 @@ fn end_saving(
     if is_as_begun(rt, &begun.file, state.path)? {
         save(rt, &begun.closure, state.path)
     } else {
-        join(rt, config, state.path, &begun.closure)
+        join(rt, config, state, &begun.closure)
     }
 }
 
@@ -123,12 +123,12 @@ fn is_as_begun(rt: &HostRuntime, file: &SeenState, path: &str) -> Result<bool, E
 fn join(
     rt: &HostRuntime,
     config: &Config,
-    path: &str,
+    state: StateAccess<'_>,
     pulled: &ExchangeClosure,
 ) -> Result<(), Exit> {
-    let mut held: ExchangeClosure = load(rt, config, path)?;
+    let mut held: ExchangeClosure = load(rt, config, state)?;
     match held.merge(pulled) {
-        Ok(_) => save(rt, &held, path),
+        Ok(_) => save(rt, &held, state.path),
         Err(why) => Err(Exit::Refused(CommandError::Take(why))),
     }
 }

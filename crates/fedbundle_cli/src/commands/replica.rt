@@ -1,5 +1,6 @@
 // `replica`: what the words say of it, read, and the replica run.
 use crate::options;
+use crate::streams::warn_of_anywhere;
 use fed_config::Config;
 use fedbundle::{Call, CommandError, Exit, OptionName, given, manner_of, wanted};
 use replica_loop::{Settings, run_replica};
@@ -23,6 +24,9 @@ const MOST_PEERS: usize = 16;
 pub(crate) fn run(rt: &HostRuntime, config: &Config, call: &Call<'_>) -> Result<u8, Exit> {
     let peers = peers_of(rt.alloc(), given(call, OptionName::Peers))?;
     let settings = settings_of(call, peers.as_slice())?;
+    if let Some(address) = settings.listen {
+        warn_of_anywhere(rt, address);
+    }
     run_replica(rt, config, &settings)?;
     Ok(0)
 }
@@ -32,7 +36,8 @@ fn settings_of<'a, 'p>(call: &Call<'a>, peers: &'p [SocketAddr]) -> Result<Setti
     Ok(Settings {
         state: wanted(call, OptionName::State)?,
         socket: wanted(call, OptionName::Socket)?,
-        listen: listen_of(given(call, OptionName::OptionalListen))?,
+        read_socket: given(call, OptionName::ReadSocket),
+        listen: listen_of(call)?,
         peers,
         every: Duration::from_secs(every_of(given(call, OptionName::Every))?),
         most_bytes: manner.most_bytes,
@@ -42,11 +47,22 @@ fn settings_of<'a, 'p>(call: &Call<'a>, peers: &'p [SocketAddr]) -> Result<Setti
     })
 }
 
-fn listen_of(text: Option<&str>) -> Result<Option<SocketAddr>, Exit> {
-    match text {
-        Some(text) => Ok(Some(options::known_address(text)?)),
-        None => Ok(None),
+// Whoever reaches the address is given all that is held, so that is to be wanted.
+fn listen_of(call: &Call<'_>) -> Result<Option<SocketAddr>, Exit> {
+    let Some(text) = given(call, OptionName::OptionalListen) else {
+        return Ok(None);
+    };
+    let address = options::known_address(text)?;
+    if may_listen(call, address) {
+        Ok(Some(address))
+    } else {
+        Err(Exit::BadAddress)
     }
+}
+
+/// Whether the words allow a replica to listen there.
+pub(crate) fn may_listen(call: &Call<'_>, address: SocketAddr) -> bool {
+    address.ip().is_loopback() || given(call, OptionName::ListenAnywhere) == Some("true")
 }
 
 fn every_of(text: Option<&str>) -> Result<u64, Exit> {

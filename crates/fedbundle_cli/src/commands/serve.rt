@@ -4,8 +4,8 @@ use crate::commands::config_of;
 use crate::connection::{Connection, accept, listen};
 use crate::exit::print_exit;
 use crate::options;
-use crate::state_access::{look, state_access_of};
-use crate::streams::{error_lines, output_line};
+use crate::state_access::{load, state_access_of};
+use crate::streams::{error_lines, output_line, warn_of_anywhere};
 use byte_lines::{FromRead, FromWrite};
 use fed_config::Config;
 use fedbundle::{Call, CommandError, Exit, OptionName, run_serve, wanted, write_served};
@@ -31,7 +31,7 @@ pub(crate) fn run(rt: &HostRuntime, call: &Call<'_>) -> Result<u8, Exit> {
 // Serves this many sessions, one after another, with what the state file holds at the start.
 fn serve(rt: &HostRuntime, config: &Config, call: &Call<'_>, sessions: u32) -> Result<u8, Exit> {
     let state = state_access_of(call)?;
-    let closure = look(rt, config, state)?;
+    let closure = load(rt, config, state)?;
     let service = Service {
         sessions,
         is_verbose: state.manner.is_verbose,
@@ -98,14 +98,8 @@ fn serve_on(
 
 // In these three, that it cannot be said changes nothing.
 fn say_listening(rt: &HostRuntime, address: SocketAddr) {
-    let mut lines = error_lines(rt);
-    let _ = writeln!(lines, "fedbundle: listens at {address}");
-    if !address.ip().is_loopback() {
-        let _ = writeln!(
-            lines,
-            "fedbundle: warning: {address} is no loopback address: whoever reaches it is given all"
-        );
-    }
+    let _ = writeln!(error_lines(rt), "fedbundle: listens at {address}");
+    warn_of_anywhere(rt, address);
 }
 
 fn say_coming(rt: &HostRuntime, peer: SocketAddr) {

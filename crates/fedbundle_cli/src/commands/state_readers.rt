@@ -1,7 +1,7 @@
 // The subcommands that show what a state file holds, and write no file: they take no lock. The
 // replica is made and given back in one place, and each command only borrows it.
 use crate::commands::{diff, graph, list, migrate, reseed};
-use crate::state_access::{leave, look, state_access_of};
+use crate::state_access::{leave, load, state_access_of};
 use crate::streams::{input, output};
 use fed_config::Config;
 use fedbundle::{Call, CommandName, Exit, Shown, run_shown};
@@ -10,7 +10,7 @@ use trust_closure::IndexedClosure;
 
 /// Shows what the command asks for, of what the state file holds.
 pub(crate) fn show(rt: &HostRuntime, config: &Config, call: &Call<'_>) -> Result<u8, Exit> {
-    let closure = look(rt, config, state_access_of(call)?)?;
+    let closure = load(rt, config, state_access_of(call)?)?;
     let shown = show_of(rt, config, &closure, call);
     leave(closure);
     shown

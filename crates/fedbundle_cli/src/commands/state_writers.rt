@@ -28,7 +28,7 @@ pub(crate) fn change(
 ) -> Result<u8, Exit> {
     let state = state_access_of(call)?;
     let _lock = lock(rt, state)?;
-    let mut closure = load(rt, config, state.path)?;
+    let mut closure = load(rt, config, state)?;
     let changed = take_and_save(rt, &mut closure, state.path, call, coming);
     leave(closure);
     changed

@@ -32,6 +32,7 @@ returns-in_err-key-clause-ends c =
     rw (exit.1, exit.2) (inr (inr (record {
       digits = c.in_ok-wanted-2.field-0.now;
       is_said = c.in_ok-wanted-2.ensures.ok;
+      none = c.in_err-key.ensures.none;
       is = ap exit_of_option c.in_err-key.ensures.refused;
     })))
 
@@ -43,5 +44,5 @@ returns-clause-says c =
       form = subst IsDomainText (sym read.0) read.1;
       digits = c.in_ok-wanted-2.field-0.now;
       key = c.in_ok-wanted-2.ensures.ok;
-      is_key = c.in_ok-key.ensures.ok;
+      is_key = c.in_ok-key.ensures.lower;
     }

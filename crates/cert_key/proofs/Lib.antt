@@ -1,0 +1,4 @@
+pub mod StepFacts
+pub mod ElementFacts
+pub mod TimeFacts
+pub mod CertificateFacts

@@ -1,0 +1,4 @@
+pub mod Certificate
+pub mod Der
+pub mod Inside
+pub mod Moment

@@ -1,0 +1,9 @@
+//! What a certificate says of its key (RFC 5280): the public key, the subject, and from when to
+//! when it is valid. Nothing is verified here.
+#![tactic(auto)]
+
+mod certificate;
+mod der;
+mod moment;
+
+pub use certificate::{CertParts, read_certificate};
