@@ -3,7 +3,6 @@ use Rattle.std.specs.Prelude.{ℕ, ℤ, List, ◌++◌, false, codes, decimal, O
 use Rattle.std.specs.Fmt.{signed_decimal}
 use Rattle.hex.specs.Hex.{encode_lower}
 use Rattle.json_text.specs.JsonText.{parted_texts, string_member}
-use Rattle.status_warnings.specs.declared.warning_kinds.DomainFault.{DomainFault}
 use Rattle.status_warnings.specs.declared.warning_kinds.Stock.{Stock}
 use Rattle.status_warnings.specs.declared.warning_kinds.Warning.{Warning}
 use Rattle.status_warnings.specs.declared.warning_kinds.Warning.TheVariants.{Domain, Expires}

@@ -1,5 +1,5 @@
 -- Warnings in the text format of Prometheus
-use Rattle.std.specs.Prelude.{ℕ, ℤ, List, ◌++◌, codes, flat_map}
+use Rattle.std.specs.Prelude.{ℕ, List, ◌++◌, codes, flat_map}
 use Rattle.std.specs.Fmt.{signed_decimal}
 use Rattle.hex.specs.Hex.{encode_lower}
 use Rattle.status_view.specs.StatusMetrics.{gauge_head, label_value}
