@@ -14,7 +14,8 @@ use Rattle.command_line.specs.declared.command_name.OptionName.TheVariants.{At}
 use Rattle.command_line.specs.declared.words.WordsError.{WordsError}
 use Rattle.command_line.specs.declared.words.WordsError.TheVariants.{Words, Usage, NoMemory}
 use Rattle.command_line.specs.declared.words.WordsPlace.{WordsPlace}
-use Rattle.command_line.specs.Words.{IsNoCall, RefusesWords, TellsError, given, is_settled_in, leaf, name_text, named, options_of}
+use Rattle.command_line.specs.Inside.WordsErrors.{KeepsKind}
+use Rattle.command_line.specs.Words.{IsNoCall, RefusesWords, given, is_settled_in, leaf, name_text, named, options_of}
 use Rattle.command_line.specs.Words.{settled_at, the_command}
 
 -- what is left is the next item and what is left after it
@@ -135,11 +136,11 @@ one_name m n e = ap (λ o. unwrap_or o m) (sym (named_text m) ∙ ap named e ∙
 
 -- clap's error, with its kind, is what words are refused for, unless memory ran out
 pub refused_words : (place : WordsPlace) (words : List Text) (error : Error) (why : WordsError) → HasKind (fault_of the_command words) error
-    → TellsError error why → (kind_of error ≡ OutOfMemory → why ≡ NoMemory) → RefusesWords place words why
-refused_words place words error (Words told) (inl memory) tells lacks = (let clash = lacks memory in absurd (cc))
-refused_words place words error (Words told) (inr among) tells lacks = subst (λ k. IsAmong k (fault_of the_command words)) (sym tells) among
-refused_words place words error Usage has tells lacks = absurd tells
-refused_words place words error NoMemory has tells lacks = search rules
+    → KeepsKind error why → (kind_of error ≡ OutOfMemory → why ≡ NoMemory) → RefusesWords place words why
+refused_words place words error (Words refused) (inl memory) kind lacks = (let clash = lacks memory in absurd (cc))
+refused_words place words error (Words refused) (inr among) kind lacks = subst (λ k. IsAmong k (fault_of the_command words)) (sym kind) among
+refused_words place words error Usage has kind lacks = absurd kind
+refused_words place words error NoMemory has kind lacks = search rules
 
 -- no subcommand is named that has all that it wants, so the words are no call
 pub no_call : (place : WordsPlace) (words : List Text) → fault_of the_command words ≡ []

@@ -2,3 +2,4 @@
 pub mod Words
 pub mod OptionTexts
 pub mod Sessions
+pub mod Inside

@@ -7,7 +7,6 @@ use Rattle.std.specs.Str.{bytes_eq}
 use Rattle.clap.specs.Words.{App, IsAmong, Row, Rule, Text, fault_of, first_of, kind_of, new_app}
 use Rattle.clap.specs.Words.{new_rule, subcommand_of, with_rule, with_subcommand}
 use Rattle.clap.specs.declared.builder.action.ArgAction.TheVariants.{Set, SetTrue}
-use Rattle.clap.specs.declared.error.Error.{Error}
 use Rattle.command_line.specs.declared.command_name.CommandName.{CommandName}
 use Rattle.command_line.specs.declared.command_name.CommandName.TheVariants as command
 use Rattle.command_line.specs.declared.command_name.OptionName.{OptionName}
@@ -252,9 +251,3 @@ abbrev pub ReadsWords : WordsPlace → List Text → Result Call WordsError → 
 ReadsWords place words result = MatchResult result
     (λ call. CallsFrom place words call.name (map (option_map (λ t. t.now)) call.texts.items))
     (RefusesWords place words)
-
--- The refusal has the kind of clap's error, unless memory ran out.
-abbrev pub TellsError : Error → WordsError → Type 0
-TellsError error (Words told) = kind_of told ≡ kind_of error
-TellsError error Usage = ⊥
-TellsError error NoMemory = Unit {0}

@@ -4,7 +4,8 @@ ghost use Rattle.std.specs.List.{list_all};
 ghost use Rattle.clap.specs.Words.{app_of, found_of, kind_of, rule_of, rows_of};
 ghost use Rattle.clap.specs.declared.error.kind.ErrorKind.TheVariants.{InvalidSubcommand};
 ghost use Rattle.clap.specs.declared.error.kind.ErrorKind.TheVariants.{OutOfMemory};
-ghost use Rattle.command_line.specs.Words.{ReadsWords, TellsError, given, is_settled};
+ghost use Rattle.command_line.specs.Inside.WordsErrors.{KeepsKind};
+ghost use Rattle.command_line.specs.Words.{ReadsWords, given, is_settled};
 ghost use Rattle.command_line.specs.Words.{is_settled_in, leaf, name_text, named, rule_of_option};
 ghost use Rattle.command_line.specs.Words.{settled_at, the_command};
 ghost use Rattle.command_line.specs.declared.words.WordsError.TheVariants.{NoMemory};
@@ -117,7 +118,7 @@ fn parse_words<'a>(
 }
 
 fn refusal_of(error: clap::Error) -> WordsError
-    ensures tells { TellsError error result }
+    ensures kind { KeepsKind error result }
     ensures memory { kind_of error ≡ OutOfMemory → result ≡ NoMemory }
 {
     match error.kind() {
@@ -129,7 +130,7 @@ fn refusal_of(error: clap::Error) -> WordsError
 // For a word that is no subcommand clap tips the one that is closest to it. That may be `distrust`,
 // which cannot be taken back. So all are named instead.
 fn with_all_names(alloc: Global, error: clap::Error) -> WordsError
-    ensures { TellsError error result }
+    ensures { KeepsKind error result }
 {
     match error.kind() {
         ErrorKind::InvalidSubcommand => match name_all(alloc, &error) {

@@ -47,7 +47,8 @@ pub(crate) fn state_access_of<'a>(call: &Call<'a>) -> Result<StateAccess<'a>, Ex
 }
 
 // A command that only looks at what a state holds is mistaken where there is none, unless its words
-// say that there may be none. The commands of the protocol take it for one that holds nothing.
+// say that there may be none. The commands of the exchange format take it for one that holds
+// nothing (D-439).
 fn missing_of(call: &Call<'_>) -> MissingState {
     if given(call, OptionName::New) == Some("true") {
         return MissingState::HoldsNothing;

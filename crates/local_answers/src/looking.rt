@@ -1,4 +1,4 @@
-//! Requests at a socket at which nothing can be changed: what is held is only lent to them.
+//! Requests at a socket at which nothing can be changed: what is held is only lent to them (D-437).
 ghost use Rattle.std.specs.Prelude.{◌≡◌, IfErr, IfOk};
 ghost use Rattle.fedbundle.specs.CommandRun.{state_run};
 ghost use Rattle.local_answers.specs.Inside.AskedRun.{run_of_asked};

@@ -1,1 +1,2 @@
 pub mod LineEndFacts
+mod MemoryFacts

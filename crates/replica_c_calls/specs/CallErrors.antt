@@ -6,7 +6,7 @@ use Rattle.hex.specs.Hex.{encode_lower}
 use Rattle.jwk_set.specs.declared.authority.KeyId.{KeyId}
 use Rattle.receipt_core.specs.Receipt.{IsDigest}
 use Rattle.spiffe_name.specs.TrustDomain.{IsDomainText, RefusesDomain}
-use Rattle.spiffe_name.specs.SpiffeId.{RefusesId}
+use Rattle.spiffe_name.specs.SpiffeId.{IsIdText, RefusesId}
 use Rattle.replica_core.specs.declared.error.SyncError.TheVariants.{NoMemory as NoMemoryToSync}
 use Rattle.replica_c_calls.specs.declared.call_error.CallError.{CallError}
 use Rattle.replica_c_calls.specs.declared.call_error.CallError.TheVariants.{Usage, Name, Sync}
@@ -25,6 +25,10 @@ abbrev pub RefusesDomainBytes : List ℕ → CallError → Type 0
 RefusesDomainBytes bytes Usage = IsUtf8 bytes → ⊥
 RefusesDomainBytes bytes (Name e) = RefusesDomain bytes e
 RefusesDomainBytes bytes _ = ⊥
+
+-- they are a SPIFFE ID
+abbrev pub NamesId : List ℕ → Type 0
+NamesId bytes = (domain path : List ℕ) × IsIdText bytes domain path
 
 -- they are no SPIFFE ID
 abbrev pub RefusesIdBytes : List ℕ → CallError → Type 0

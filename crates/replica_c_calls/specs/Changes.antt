@@ -18,11 +18,11 @@ use Rattle.replica_texts.specs.Messages.{give_text, receipt_text}
 use Rattle.replica_core.specs.Session.{GiveMessage}
 use Rattle.replica_core.specs.Absorbing.{HasAbsorbed, RefusesAbsorbing}
 use Rattle.replica_core.specs.declared.error.SyncError.{SyncError}
-use Rattle.replica_core.specs.declared.error.SyncError.TheVariants.{NotCanonical}
+use Rattle.replica_core.specs.declared.error.SyncError.TheVariants.{Io, NotCanonical}
 use Rattle.bundle_view.specs.Observe.{FetchedBundle, HasObserved, HasNotObserved, IsObservation}
 use Rattle.bundle_view.specs.declared.observation.Verdict.{Verdict}
 use Rattle.replica_c_calls.specs.CallErrors.{IsKeyDigits, IsNoKey, RefusesDomainBytes}
-use Rattle.replica_c_calls.specs.CallErrors.{RefusesIdBytes}
+use Rattle.replica_c_calls.specs.CallErrors.{NamesId, RefusesIdBytes}
 use Rattle.replica_c_calls.specs.declared.bundle_observing.FetchedBytes.{FetchedBytes}
 use Rattle.replica_c_calls.specs.declared.bundle_observing.ObservedBytes.{ObservedBytes}
 use Rattle.replica_c_calls.specs.declared.bundle_observing.ObservedBytes.TheVariants.{Held}
@@ -113,7 +113,9 @@ pub record RefusesMergedBytes (old : HeldAndRoom) (snapshot : List ℕ) (new : H
   pub is : IsSnapshot old.meaning.config (Some snapshot) other
   pub refused : HasRefusedMerge old other new why
 
+-- Bytes in memory never fail to be read.
 abbrev pub RefusesSnapshotOf : HeldAndRoom → List ℕ → HeldAndRoom → CallError → Type 0
+RefusesSnapshotOf old snapshot new (Sync Io) = ⊥
 RefusesSnapshotOf old snapshot new (Sync e) = RefusesSnapshot old.meaning.config (Some snapshot) e
 RefusesSnapshotOf old snapshot new (Take why) = RefusesMergedBytes old snapshot new why
 RefusesSnapshotOf old snapshot new NoMemory = Unit {0}
@@ -145,7 +147,9 @@ pub record HasMoreThanGive (bytes : List ℕ) (e : SyncError) : Type 0 where
   pub more : 0 < length rest
   pub fault : e ≡ NotCanonical (next_entry_number 1 give.content)
 
+-- Bytes in memory never fail to be read.
 abbrev pub RefusesGiveBytes : List ℕ → CallError → Type 0
+RefusesGiveBytes bytes (Sync Io) = ⊥
 RefusesGiveBytes bytes (Sync e) = HasBadGive bytes e ⊎ HasMoreThanGive bytes e
 RefusesGiveBytes bytes NoMemory = Unit {0}
 RefusesGiveBytes bytes _ = ⊥
@@ -157,6 +161,7 @@ pub record RefusesAbsorbed (old : HeldAndRoom) (bytes : List ℕ) (e : SyncError
   pub cause : RefusesAbsorbing old give e
 
 abbrev pub RefusesAnswerBytes : HeldAndRoom → List ℕ → CallError → Type 0
+RefusesAnswerBytes old bytes (Sync Io) = ⊥
 RefusesAnswerBytes old bytes (Sync e) = RefusesGiveBytes bytes (Sync e)
     ⊎ RefusesAbsorbed old bytes e
 RefusesAnswerBytes old bytes e = RefusesGiveBytes bytes e
@@ -239,9 +244,11 @@ RefusesNamed old fetched new (Observe why) = HasNotObserved old fetched new why
 RefusesNamed old fetched new NoMemory = LosesLine old fetched new
 RefusesNamed old fetched new _ = ⊥
 
--- why the bytes are no verdict
+-- Why the bytes are not a verdict: the endpoint's are not a SPIFFE ID, or they are one and the
+-- key's are not a key.
 abbrev pub RefusesVerdictBytes : FetchedBytes → CallError → Type 0
-RefusesVerdictBytes bytes Usage = RefusesIdBytes bytes.endpoint.now Usage ⊎ IsNoKey bytes.key.now
+RefusesVerdictBytes bytes Usage = RefusesIdBytes bytes.endpoint.now Usage
+    ⊎ (NamesId bytes.endpoint.now × IsNoKey bytes.key.now)
 RefusesVerdictBytes bytes e = RefusesIdBytes bytes.endpoint.now e
 
 -- they name no domain, or one and no verdict; nothing was taken

@@ -6,6 +6,7 @@ use Rattle.receipt_core.specs.Acceptance.{Meaning}
 use Rattle.closure_core.specs.Changes.{empty_of}
 use Rattle.replica_texts.specs.Snapshots.{IsSnapshot, RefusesSnapshot}
 use Rattle.replica_core.specs.declared.error.SyncError.{SyncError}
+use Rattle.replica_core.specs.declared.error.SyncError.TheVariants.{Io}
 use Rattle.replica_c_calls.specs.declared.call_error.CallError.{CallError}
 use Rattle.replica_c_calls.specs.declared.call_error.CallError.TheVariants.{Config, Sync, NoMemory}
 
@@ -31,8 +32,18 @@ pub record RefusesSnapshotBytes (config snapshot : List ℕ) (e : SyncError) : T
 abbrev pub IsConfigBytes : List ℕ → Type 0
 IsConfigBytes config = (c : Configuration) × IsConfig config c
 
+-- Bytes in memory never fail to be read.
 abbrev pub RefusesOpening : List ℕ → List ℕ → CallError → Type 0
 RefusesOpening config snapshot (Config e) = RefusesConfigBytes config e
+RefusesOpening config snapshot (Sync Io) = ⊥
 RefusesOpening config snapshot (Sync e) = RefusesSnapshotBytes config snapshot e
 RefusesOpening config snapshot NoMemory = IsConfigBytes config
 RefusesOpening config snapshot _ = ⊥
+
+-- The bytes are not a snapshot of the configuration, for this cause, or memory ran out. They never
+-- fail to be read.
+abbrev pub RefusesSnapshotText : Configuration → List ℕ → CallError → Type 0
+RefusesSnapshotText c snapshot (Sync Io) = ⊥
+RefusesSnapshotText c snapshot (Sync e) = RefusesSnapshot c (Some snapshot) e
+RefusesSnapshotText c snapshot NoMemory = Unit {0}
+RefusesSnapshotText c snapshot _ = ⊥

@@ -1,12 +1,26 @@
 -- What a caller in C reads of a call.
-use Rattle.std.specs.Prelude.{◌≡◌, ℕ, ◌<◌, ◌≤◌, ◌⊎◌, ◌++◌, List, length, drop, ℤ, pos, ◌-ℤ◌, Result}
-use Rattle.std.specs.Prelude.{MatchResult}
+use Rattle.std.specs.Prelude.{◌≡◌, ℕ, ◌<◌, ◌≤◌, ◌⊎◌, ◌++◌, List, length, take, drop, ℤ, pos}
+use Rattle.std.specs.Prelude.{negsuc, ◌-ℤ◌, Result, MatchResult}
 use Rattle.replica_c_calls.specs.Numbers.{number_of}
 use Rattle.replica_c_calls.specs.declared.call_error.CallError.{CallError}
+use Rattle.replica_c_calls.specs.declared.call_outcome.CallOutcome.{CallOutcome}
 
 -- the refusal's number, as one below 0
 abbrev pub Refuses : CallError → ℤ → Type 0
 Refuses e returned = returned ≡ pos 0 -ℤ pos (number_of e)
+
+-- how many bytes a refusal's text has
+abbrev pub IsFaultLength : ℕ → Type 0
+IsFaultLength n = (0 < n) × (n ≤ 240)
+
+-- A call that returns a number below 0 is refused, and its refusal has a text. Any other has none.
+abbrev pub TellsFault : (returned : ℤ) → (fault_length : ℕ) → Type 0
+TellsFault (negsuc below) fault_length = IsFaultLength fault_length
+TellsFault (pos n) fault_length = fault_length ≡ 0
+
+-- the text of the refusal
+abbrev pub fault_text : CallOutcome → List ℕ
+fault_text outcome = take outcome.fault_length outcome.fault
 
 -- it was made
 abbrev pub ReturnsDone : ℤ → Type 0

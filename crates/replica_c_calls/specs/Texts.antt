@@ -1,5 +1,6 @@
 -- The texts that are written, each as a list of bytes.
 use Rattle.std.specs.Prelude.{◌≡◌, ℕ, List, flat_map, Some, None, Bool}
+use Rattle.std.specs.Prelude.{vec_capacity}
 use Rattle.spiffe_name.specs.TrustDomain.{IsDomainText}
 use Rattle.bundle_doc.specs.Bundle.{Bundle, IsDocument, canonical_text}
 use Rattle.bundle_doc.specs.Refusal.{RefusesBytes}
@@ -28,6 +29,10 @@ gathered_text sink = sink.text.items
 
 abbrev pub has_overrun : GrowingSink → Bool
 has_overrun sink = sink.failed
+
+-- how many bytes it has memory for
+abbrev pub gathered_room : GrowingSink → ℕ
+gathered_room sink = vec_capacity sink.text
 
 -- ---- current bundles
 

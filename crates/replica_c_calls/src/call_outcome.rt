@@ -1,7 +1,9 @@
 //! What a caller in C reads of a call.
-ghost use Rattle.std.specs.Prelude.{◌≡◌, ◌≤◌, MatchResult, MatchOption};
+ghost use Rattle.std.specs.Prelude.{◌≡◌, ◌≤◌, codes, MatchResult, MatchOption};
 ghost use Rattle.replica_c_calls.specs.Outcomes.{ReturnsNeedsRoom, Counts, Refuses, WritesOut};
-ghost use Rattle.replica_c_calls.specs.Outcomes.{LacksOut, RefusesOut, out_run};
+ghost use Rattle.replica_c_calls.specs.Outcomes.{LacksOut, RefusesOut, TellsFault, fault_text};
+ghost use Rattle.replica_c_calls.specs.Outcomes.{out_run};
+ghost use Rattle.replica_c_calls.specs.declared.call_error.CallError.TheVariants.{Usage};
 
 use crate::call_error::CallError;
 use crate::fault_bytes::{FaultBytes, MAX_TEXT_BYTES};
@@ -51,6 +53,8 @@ impl CallOutcome {
         ensures count { self.new.count ≡ self.old.count }
         ensures length { self.new.length ≡ self.old.length }
         ensures fault { self.new.fault_length ≤ 240 }
+        ensures told { TellsFault result self.new.fault_length }
+        ensures usage { error.now ≡ Usage → fault_text self.new ≡ codes "usage" }
     {
         let text = FaultBytes::of(error);
         let bytes = text.bytes;
@@ -64,6 +68,7 @@ impl CallOutcome {
         ensures counts { Counts counted self.new.count result }
         ensures length { self.new.length ≡ 0 }
         ensures fault { self.new.fault_length ≤ 240 }
+        ensures told { TellsFault result self.new.fault_length }
     {
         self.clear();
         match counted {
@@ -81,6 +86,7 @@ impl CallOutcome {
         ensures asks { ReturnsNeedsRoom result }
         ensures count { self.new.count ≡ 0 }
         ensures fault { self.new.fault_length ≡ 0 }
+        ensures told { TellsFault result self.new.fault_length }
     {
         self.clear();
         self.length = length as u64;
@@ -92,6 +98,7 @@ impl CallOutcome {
         ensures writes { WritesOut text.now (out_run out.old out.new self.new.length result) }
         ensures count { self.new.count ≡ 0 }
         ensures fault { self.new.fault_length ≡ 0 }
+        ensures told { TellsFault result self.new.fault_length }
     {
         if text.len() > out.len() {
             return self.need(text.len());
@@ -109,6 +116,7 @@ impl CallOutcome {
             (λ e. RefusesOut e (out_run out.old out.new self.new.length result)) }
         ensures count { self.new.count ≡ 0 }
         ensures fault { self.new.fault_length ≤ 240 }
+        ensures told { TellsFault result self.new.fault_length }
     {
         match made {
             Ok(text) => self.put(text.as_slice(), out),
@@ -127,6 +135,7 @@ impl CallOutcome {
             (λ e. RefusesOut e (out_run out.old out.new self.new.length result)) }
         ensures count { self.new.count ≡ 0 }
         ensures fault { self.new.fault_length ≤ 240 }
+        ensures told { TellsFault result self.new.fault_length }
     {
         match made {
             Ok(Some(text)) => self.put(text.as_slice(), out),

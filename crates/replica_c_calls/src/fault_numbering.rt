@@ -18,7 +18,8 @@ use spiffe_name::NameError;
 /// code has another one in it, as `O5 Document B4 NoKeys`, the first is multiplied by 1,000, and
 /// the second added: 605,204.
 pub fn fault_number(error: &CallError) -> u32
-    ensures { result ≡ number_of error.now }
+    ensures number { result ≡ number_of error.now }
+    ensures some { 0 < result }
 {
     match error {
         CallError::Usage => 1,
@@ -35,7 +36,8 @@ pub fn fault_number(error: &CallError) -> u32
 }
 
 fn name_fault(why: NameError) -> u32
-    ensures { result ≡ name_number why }
+    ensures number { result ≡ name_number why }
+    ensures some { 0 < result }
 {
     match why {
         NameError::Empty => 101,
@@ -49,6 +51,7 @@ fn name_fault(why: NameError) -> u32
 
 fn document_fault(why: DocError) -> u32
     ensures number { result ≡ document_number why }
+    ensures some { 0 < result }
     ensures few { result < 1000 }
 {
     match why {
@@ -64,7 +67,8 @@ fn document_fault(why: DocError) -> u32
 }
 
 fn config_fault(why: ConfigError) -> u32
-    ensures { result ≡ config_number why }
+    ensures number { result ≡ config_number why }
+    ensures some { 0 < result }
 {
     match why {
         ConfigError::NotJson => 301,
@@ -80,7 +84,8 @@ fn config_fault(why: ConfigError) -> u32
 }
 
 fn line_fault(why: LineError) -> u32
-    ensures { result ≡ line_number why }
+    ensures number { result ≡ line_number why }
+    ensures some { 0 < result }
 {
     match why {
         LineError::NotCanonical => 401,
@@ -91,6 +96,7 @@ fn line_fault(why: LineError) -> u32
 
 fn take_fault(why: TakeError) -> u32
     ensures number { result ≡ take_number why }
+    ensures some { 0 < result }
     ensures few { result < 1000 }
 {
     match why {
@@ -103,7 +109,8 @@ fn take_fault(why: TakeError) -> u32
 }
 
 fn observe_fault(why: ObserveError) -> u32
-    ensures { result ≡ observe_number why }
+    ensures number { result ≡ observe_number why }
+    ensures some { 0 < result }
 {
     match why {
         ObserveError::NoRelationship => 601,
@@ -116,7 +123,8 @@ fn observe_fault(why: ObserveError) -> u32
 }
 
 fn sync_fault(why: SyncError) -> u32
-    ensures { result ≡ sync_number why }
+    ensures number { result ≡ sync_number why }
+    ensures some { 0 < result }
 {
     match why {
         SyncError::BadHeader => 701,

@@ -106,7 +106,10 @@ fn give_of_bytes(alloc: Global, bytes: &[u8]) -> Result<Give, CallError>
 {
     let mut source = source_of(alloc, bytes)?;
     let mut lines = LineBuf::new(alloc);
-    let give = read_give(alloc, &mut lines, &mut source)?;
+    let give = match read_give(alloc, &mut lines, &mut source) {
+        Ok(give) => give,
+        Err(why) => return Err(CallError::Sync(why)),
+    };
     if ends(&mut lines, &mut source)? {
         Ok(give)
     } else {

@@ -3,10 +3,9 @@ ghost use Rattle.std.specs.Prelude.{MatchResult};
 ghost use Rattle.replica_c_calls.specs.Opening.{OpensBytes, RefusesOpening};
 
 use crate::call_error::CallError;
-use crate::growing_sink::source_of;
+use crate::snapshot_merging::snapshot_of;
 use closure_core::Closure;
 use fed_config::Config;
-use replica_sync::read_snapshot;
 use std::alloc::Global;
 
 /// A replica of the configuration that the bytes say: with what the snapshot holds, or with nothing
@@ -26,6 +25,5 @@ pub fn open_bytes<C: Closure>(alloc: Global, config: &[u8], snapshot: &[u8]) -> 
     if snapshot.is_empty() {
         return Ok(C::new(alloc, &config)?);
     }
-    let mut source = source_of(alloc, snapshot)?;
-    Ok(read_snapshot(alloc, &config, &mut source)?)
+    snapshot_of(alloc, &config, snapshot)
 }

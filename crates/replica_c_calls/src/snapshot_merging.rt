@@ -1,10 +1,13 @@
 //! Another replica's snapshot, taken whole or not at all.
-ghost use Rattle.std.specs.Prelude.{MatchResult};
+ghost use Rattle.std.specs.Prelude.{MatchResult, Some};
 ghost use Rattle.replica_c_calls.specs.Changes.{HasRefusedSnapshotBytes, MergesBytes};
+ghost use Rattle.replica_c_calls.specs.Opening.{RefusesSnapshotText};
+ghost use Rattle.replica_texts.specs.Snapshots.{IsSnapshot};
 
 use crate::call_error::CallError;
 use crate::growing_sink::source_of;
 use closure_core::Closure;
+use fed_config::Config;
 use replica_sync::read_snapshot;
 use std::alloc::Global;
 
@@ -13,7 +16,7 @@ use std::alloc::Global;
 ///
 /// # Errors
 /// What is held stays. Of these the first that holds:
-/// - [`CallError::Sync`]: the bytes are no snapshot of this configuration,
+/// - [`CallError::Sync`]: the bytes are not a snapshot of this configuration,
 /// - [`CallError::Take`]: what it holds is refused, as [`Closure::merge`] reports it,
 /// - [`CallError::NoMemory`]: memory ran out before the snapshot was read.
 pub fn merge_bytes<C: Closure>(
@@ -25,7 +28,27 @@ pub fn merge_bytes<C: Closure>(
         (MergesBytes (C.state closure.old) snapshot.now (C.state closure.new))
         (HasRefusedSnapshotBytes (C.state closure.old) snapshot.now (C.state closure.new)) }
 {
-    let mut source = source_of(alloc, snapshot)?;
-    let other: C = read_snapshot(alloc, closure.config(), &mut source)?;
+    let other: C = snapshot_of(alloc, closure.config(), snapshot)?;
     Ok(closure.merge(&other)?)
+}
+
+/// What a snapshot holds.
+///
+/// # Errors
+/// - [`CallError::Sync`]: the bytes are not a snapshot of this configuration,
+/// - [`CallError::NoMemory`]: memory ran out before the snapshot was read.
+pub(crate) fn snapshot_of<C: Closure>(
+    alloc: Global,
+    config: &Config,
+    snapshot: &[u8],
+) -> Result<C, CallError>
+    ensures { MatchResult result
+        (λ c. IsSnapshot config.now (Some snapshot.now) (C.state c).meaning)
+        (RefusesSnapshotText config.now snapshot.now) }
+{
+    let mut source = source_of(alloc, snapshot)?;
+    match read_snapshot(alloc, config, &mut source) {
+        Ok(closure) => Ok(closure),
+        Err(why) => Err(CallError::Sync(why)),
+    }
 }

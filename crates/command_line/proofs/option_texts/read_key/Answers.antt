@@ -1,4 +1,4 @@
-use Rattle.std.proofs.Common.{ap, subst, ◌∙◌, ◌≡◌}
+use Rattle.std.proofs.Common.{ap, ◌∙◌}
 use Rattle.std.proofs.lemmas.Bool.{both_ways}
 use Rattle.hex.specs.Hex.{encode_lower}
 use Rattle.command_line.proofs.KeyTextFacts.{decoded_key}

@@ -12,7 +12,7 @@ returns-in-Err c =
     refused_words c.args.place words c.in-Err.error c.refusal_of.result
     (subst (λ a. HasKind (fault_of a words) c.in-Err.error) c.in-Ok.ensures
     (c.in-Err.ensures.kinds (ap is_simple_and_free c.in-Ok.ensures ∙ free_command)))
-    c.refusal_of.ensures.tells c.refusal_of.ensures.memory
+    c.refusal_of.ensures.kind c.refusal_of.ensures.memory
 
 pub returns-in_default-subcommand : goal.returns-in_default-subcommand
 returns-in_default-subcommand c =

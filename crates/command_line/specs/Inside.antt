@@ -1,0 +1,2 @@
+-- What only private clauses say
+pub mod WordsErrors

@@ -1,0 +1,2 @@
+-- How far the work has come.
+pub mod KeysSoFar
