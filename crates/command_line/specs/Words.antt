@@ -28,7 +28,7 @@ use Rattle.command_line.specs.declared.command_name.OptionName.TheVariants.{Opti
 use Rattle.command_line.specs.declared.command_name.OptionName.TheVariants.{Short, Socket, Every}
 use Rattle.command_line.specs.declared.command_name.OptionName.TheVariants.{New, MostRequestBytes}
 use Rattle.command_line.specs.declared.command_name.OptionName.TheVariants.{OptionalListen, Peers}
-use Rattle.command_line.specs.declared.command_name.OptionName.TheVariants.{FileFormat}
+use Rattle.command_line.specs.declared.command_name.OptionName.TheVariants.{FileFormat, Keys}
 
 abbrev pub option_text : OptionName → List ℕ
 option_text Config = codes "config"
@@ -60,6 +60,7 @@ option_text Every = codes "every"
 option_text MostRequestBytes = codes "most-request-bytes"
 option_text New = codes "new"
 option_text FileFormat = codes "format"
+option_text Keys = codes "keys"
 
 -- it has no text after it
 abbrev pub is_flag : OptionName → Bool
@@ -68,6 +69,7 @@ is_flag DryRun = true
 is_flag Verbose = true
 is_flag Short = true
 is_flag New = true
+is_flag Keys = true
 is_flag option = false
 
 -- the words may leave it out
@@ -121,7 +123,7 @@ abbrev pub options_of : CommandName → List OptionName
 options_of command.Canon = Domain ∷ FileFormat ∷ Verbose ∷ []
 options_of command.Config = Config ∷ With ∷ FileFormat ∷ Verbose ∷ []
 options_of command.Report = Config ∷ OptionalState ∷ FileFormat ∷ Wait ∷ Verbose ∷ At ∷ []
-options_of command.List = Config ∷ State ∷ OptionalDomain ∷ FileFormat ∷ Verbose ∷ []
+options_of command.List = Config ∷ State ∷ OptionalDomain ∷ Keys ∷ FileFormat ∷ Verbose ∷ []
 options_of command.Diff = Config ∷ State ∷ With ∷ Verbose ∷ []
 options_of command.Graph = Config ∷ State ∷ OptionalDomain ∷ Verbose ∷ []
 options_of command.Status = Config ∷ State ∷ Format ∷ Wait ∷ Verbose ∷ At ∷ []

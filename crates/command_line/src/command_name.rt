@@ -40,6 +40,8 @@ pub enum OptionName {
     New,
     /// The format where a running replica prints one format alone.
     FileFormat,
+    /// What is known of keys.
+    Keys,
 }
 
 /// A subcommand.
@@ -143,6 +145,7 @@ impl OptionName {
             OptionName::MostRequestBytes => "most-request-bytes",
             OptionName::New => "new",
             OptionName::FileFormat => "format",
+            OptionName::Keys => "keys",
         }
     }
 
@@ -157,6 +160,7 @@ impl OptionName {
                 | OptionName::Verbose
                 | OptionName::Short
                 | OptionName::New
+                | OptionName::Keys
         )
     }
 
@@ -219,10 +223,11 @@ static REPORT: [OptionName; 6] = [
     OptionName::At,
 ];
 
-static LIST: [OptionName; 5] = [
+static LIST: [OptionName; 6] = [
     OptionName::Config,
     OptionName::State,
     OptionName::OptionalDomain,
+    OptionName::Keys,
     OptionName::FileFormat,
     OptionName::Verbose,
 ];
