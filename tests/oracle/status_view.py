@@ -1,12 +1,13 @@
 #!/usr/bin/env python3
 """Prints what `fedbundle status` prints for a configuration and a state file, in one of its three formats; or with
 `--at`, where the bytes of the two files are given, and for each peer `ADDRESS,ENDED,CODE,RECEIPTS`, a hyphen for none.
+A word `BEGAN:MOMENT` before the peers says when the replica began and when it is asked, in Unix seconds: else both are 0.
 
 It is written from the rules alone, with Python's own json and hashlib and with canon.py and report.py, and shares
 nothing with the program. It takes files that are well formed, and refuses nothing. A state file that is not there holds
 nothing.
 
-usage: status_view.py CONFIG STATE [text|json|prometheus [SNAPSHOT JOURNAL [PEER..]]]
+usage: status_view.py CONFIG STATE [text|json|prometheus [SNAPSHOT JOURNAL [BEGAN:MOMENT] [PEER..]]]
                                             the exit status is 1 where there is a warning
 """
 import json
@@ -87,6 +88,74 @@ def warnings(stands):
         yield f"warning: of {RECEIPT_LIMIT} receipts held: {stands['receipts']}"
     if stands["records"] / RECORD_LIMIT > 0.9:
         yield f"warning: of {RECORD_LIMIT} records of distrust held: {stands['records']}"
+
+
+# ---- what is wrong, as a list
+
+FAULTS = {
+    "no-current": "has no current bundle",
+    "locked-out": "has no trusted X.509 authority in its current bundle",
+    "conflict": "has several accepted bundles with one sequence number",
+    "no-sequence": "has several accepted bundles, and the current has no number",
+}
+QUIET_SECONDS = 600
+
+
+def faults_of(domain):
+    """The kinds of what is wrong with a domain."""
+    current = domain["current"]
+    if current is None:
+        yield "no-current"
+    elif all(key["distrusted"] for key in current["keys"]):
+        yield "locked-out"
+    if domain["conflicts"] > 0:
+        yield "conflict"
+    if current is not None and current["sequence"] is None and domain["accepted"] > 1:
+        yield "no-sequence"
+
+
+def late(fetch, moment):
+    """Whether a domain was not fetched well for three times its wait."""
+    return fetch["fetched"] is None or moment - fetch["fetched"] >= 3 * fetch["wait"]
+
+
+def found(stands, running=None, clock=(0, 0), fetches=()):
+    """The objects of the member `warnings`: by kinds, and within a kind by domains, peers, and receipts before records."""
+    began, moment = clock
+    for kind in FAULTS:
+        yield from ({"kind": kind, "domain": d["domain"]} for d in stands["domains"] if kind in faults_of(d))
+    for fetch in fetches:
+        if late(fetch, moment):
+            yield {"kind": "not-fetched", "domain": fetch["domain"], "fetched": fetch["fetched"]}
+    for peer in running["peers"] if running else ():
+        since = began if peer["ended_well"] is None else peer["ended_well"]
+        if moment - since >= QUIET_SECONDS:
+            yield {"kind": "quiet-peer", "peer": peer["peer"], "since": since}
+    for what, limit in (("receipts", RECEIPT_LIMIT), ("records", RECORD_LIMIT)):
+        if stands[what] / limit > 0.9:
+            yield {"kind": "nearly-full", "what": what, "held": stands[what]}
+
+
+def found_line(warning):
+    kind = warning["kind"]
+    if kind in FAULTS:
+        told = f"{warning['domain']} {FAULTS[kind]}"
+    elif kind == "not-fetched":
+        told = f"{warning['domain']} was last fetched: {'never' if warning['fetched'] is None else warning['fetched']}"
+    elif kind == "quiet-peer":
+        told = f"{warning['peer']} had no session that ended well since {warning['since']}"
+    else:
+        of = {"receipts": f"{RECEIPT_LIMIT} receipts", "records": f"{RECORD_LIMIT} records of distrust"}
+        told = f"{warning['held']} of {of[warning['what']]} are held"
+    return f"warning: {kind}: {told}"
+
+
+def found_metrics(warnings_found):
+    name = "fedbundle_warning_info"
+    yield from head(name, "What status warns of, by kind.")
+    for warning in warnings_found:
+        labels = [(key, value) for key, value in warning.items() if key in ("kind", "domain", "peer", "what")]
+        yield name + "{" + ",".join(f'{key}="{escaped(text)}"' for key, text in labels) + "} 1"
 
 
 def or_none(number):
@@ -192,12 +261,23 @@ def running_metrics(running):
             yield f'{name}{{peer="{address}",fault="{peer["fault"]}"}} 1'
 
 
-def lines_in(stands, shape, running=None):
+def lines_in(stands, shape, running=None, wrong=None):
+    """The lines; with what is wrong at the end, unless that is not asked for."""
     if shape == "json":
-        return [json.dumps({**stands, **(running or {})}, separators=(",", ":"))]
+        more = {} if wrong is None else {"warnings": wrong}
+        return [json.dumps({**stands, **(running or {}), **more}, separators=(",", ":"))]
     if shape == "prometheus":
-        return [*metric_lines(stands), *(running_metrics(running) if running else [])]
-    return [*text_lines(stands), *(running_lines(running) if running else [])]
+        more = [] if wrong is None else found_metrics(wrong)
+        return [*metric_lines(stands), *(running_metrics(running) if running else []), *more]
+    return [*text_lines(stands), *(running_lines(running) if running else []), *map(found_line, wrong or [])]
+
+
+def clock_of(words):
+    """When the replica began and when it is asked, and the words that follow."""
+    if words and words[0].replace(":", "").isdigit() and words[0].count(":") == 1:
+        began, moment = words[0].split(":")
+        return (int(began), int(moment)), words[1:]
+    return (0, 0), words
 
 
 if __name__ == "__main__":
@@ -209,7 +289,8 @@ if __name__ == "__main__":
         with open(state, encoding="utf-8") as file:
             held_lines = file.read().splitlines()[1:-1]
     standing = status(configuration, held_lines)
-    own = running_of(rest[1], rest[2], rest[3:]) if len(rest) > 2 else None
-    for line in lines_in(standing, rest[0] if rest else "text", own):
+    clock, peers_said = clock_of(rest[3:])
+    own = running_of(rest[1], rest[2], peers_said) if len(rest) > 2 else None
+    for line in lines_in(standing, rest[0] if rest else "text", own, list(found(standing, own, clock))):
         print(line)
     sys.exit(int(standing["warning"]))

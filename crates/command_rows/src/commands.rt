@@ -23,7 +23,7 @@ use replica_sync::{read_snapshot, write_snapshot};
 use replica_view::write_held_difference;
 use row_script::Script;
 use spiffe_name::{SpiffeId, TrustDomain};
-use status_view::write_status;
+use status_warnings::{WarnLimits, Watch, write_warned_status};
 use std::alloc::Global;
 
 /// What is run.
@@ -308,7 +308,17 @@ fn status_of<C: Closure>(
         tell(b"fedbundle: usage\n", 2, devices);
         return Ok(());
     };
-    let is_warned = write_status(case.alloc, closure, format, &mut devices.output)?;
+    let limits = WarnLimits {
+        moment: 0,
+        expires_within: 7,
+        peer_quiet: 600,
+    };
+    let watch = Watch {
+        limits,
+        running: None,
+        fetches: &[],
+    };
+    let is_warned = write_warned_status(case.alloc, closure, &watch, format, &mut devices.output)?;
     devices.status = u8::from(is_warned);
     Ok(())
 }

@@ -1,6 +1,6 @@
 -- What a command does that shows what is held: the words say what is to be written, and the sink
 -- gets that, or the words or the command's function refuse it.
-use Rattle.std.specs.Prelude.{◌≡◌, ◌⊎◌, ℕ, ℤ, List, Bool, true, false, Option, Some, None}
+use Rattle.std.specs.Prelude.{◌≡◌, ◌⊎◌, ℕ, ℤ, List, [], Bool, true, false, Option, Some, None}
 use Rattle.std.specs.Prelude.{Result, Ok, Err, IfOk, if◌then◌else◌, option_map}
 use Rattle.spiffe_name.specs.TrustDomain.{IsDomainText}
 use Rattle.receipt_core.specs.Acceptance.{Meaning}
@@ -9,9 +9,11 @@ use Rattle.bundle_view.specs.Report.{IsReport}
 use Rattle.json_reports.specs.ReportJson.{IsReportJson}
 use Rattle.poll_view.specs.declared.polls_writer.PollsForm.{PollsForm}
 use Rattle.poll_view.specs.declared.polls_writer.PollsForm.TheVariants as polls
-use Rattle.status_view.specs.StatusRuns.{IsRunningStatusIn, IsStatusIn, IsWarned}
 use Rattle.status_view.specs.declared.running.RunningStatus.{RunningStatus}
 use Rattle.status_view.specs.declared.status_writer.StatusFormat.{StatusFormat}
+use Rattle.status_view.specs.StatusRuns.{IsWarned}
+use Rattle.status_warnings.specs.WarnedStatus.{IsWarnedStatusIn, Watching}
+use Rattle.status_warnings.specs.declared.seen.WarnLimits.{WarnLimits}
 use Rattle.text_lines.specs.TextLines.{BeginsSome, WritesSome}
 use Rattle.fedbundle.specs.CommandRun.{CommandRun, DeviceRun, HasFailed, IsAsSound, WritesNothing}
 use Rattle.fedbundle.specs.CurrentBundle.{RunsBundle, RunsBundlePem}
@@ -44,12 +46,13 @@ use Rattle.fedbundle.specs.declared.shown.Shown.{Shown}
 
 -- ---- a call
 
--- the words of a call, what is held, and what a running replica says of itself
+-- the words of a call, what is held, what a running replica says of itself, and the Unix second
 pub record ShownCall : Type 0 where
   pub name : CommandName
   pub texts : List (Option (List ℕ))
   pub meaning : Meaning
   pub running : Option RunningStatus
+  pub moment : ℤ
 
 abbrev pub shown_call : Shown → Meaning → ShownCall
 shown_call shown m = record {
@@ -57,6 +60,7 @@ shown_call shown m = record {
   texts = texts_of_call shown.call.now;
   meaning = m;
   running = option_map (λ r. r.now) shown.running;
+  moment = shown.moment;
 }
 
 -- the text that the words give the option
@@ -130,10 +134,17 @@ abbrev pub polls_form : OutputForm → PollsForm
 polls_form output.Text = polls.Lines
 polls_form output.Json = polls.Json
 
--- how the replica stands, with what a running one says of itself
-abbrev pub IsStatusShown : Option RunningStatus → Meaning → StatusFormat → List ℕ → Type 0
-IsStatusShown None m format text = IsStatusIn m format text
-IsStatusShown (Some running) m format text = IsRunningStatusIn m running format text
+-- A certificate is warned of 7 days before its end, and a peer that was quiet for 10 minutes.
+abbrev pub usual_limits : ℤ → WarnLimits
+usual_limits moment = record { moment = moment; expires_within = 7; peer_quiet = 600 }
+
+-- what `status` looks at beside what is held
+abbrev pub watched_by : ShownCall → Watching
+watched_by call = record {
+  limits = usual_limits call.moment;
+  running = call.running;
+  fetches = [];
+}
 
 -- ---- how a command ends, by the answer of its function
 
@@ -201,13 +212,13 @@ pub record ShowsPollsSaid (call : ShownCall) (run : CommandRun)
   pub runs : RunsPollsIn run call.meaning (polls_call (polls_form form) now) answer
   pub is : result ≡ exit_if_done answer
 
--- how the replica stands, in the format that they say
+-- how the replica stands, and what is wrong with it, in the format that they say
 pub record ShowsStatusSaid (call : ShownCall) (sink : DeviceRun)
     (result : Result ℕ Exit) : Type 0 where
   pub format : StatusFormat
   pub is_format : SaysStatusFormat (shown_said call Format) format
   pub answer : Result Bool CommandError
-  pub runs : RunsWriter (IsStatusShown call.running call.meaning format) sink answer
+  pub runs : RunsWriter (IsWarnedStatusIn call.meaning (watched_by call) format) sink answer
   pub warned : IfOk answer (IsWarned call.meaning)
   pub is : result ≡ exit_if_warned answer
 

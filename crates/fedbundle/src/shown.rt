@@ -1,12 +1,13 @@
 //! The commands that show what is held, by what their words say: `report`, `bundle`, `explain`,
 //! `polls`, `status`, and `distrust` where it only shows what a record would change.
-ghost use Rattle.std.specs.Prelude.{◌≡◌, IfOk, Ok, option_map};
+ghost use Rattle.std.specs.Prelude.{◌≡◌, IfOk, Ok};
 ghost use Rattle.json_reports.specs.ReportJson.{IsReportJson};
 ghost use Rattle.bundle_view.specs.Report.{IsReport};
-ghost use Rattle.status_view.specs.StatusRuns.{IsRunningStatusIn, IsStatusIn, IsWarned};
+ghost use Rattle.status_view.specs.StatusRuns.{IsWarned};
+ghost use Rattle.status_warnings.specs.WarnedStatus.{IsWarnedStatusIn, watching_of};
 ghost use Rattle.fedbundle.specs.CommandRun.{device_run, run_of};
 ghost use Rattle.fedbundle.specs.CurrentBundle.{RunsBundle, RunsBundlePem};
-ghost use Rattle.fedbundle.specs.Shown.{IsReportIn, IsStatusShown, RunsShown, RunsWriter};
+ghost use Rattle.fedbundle.specs.Shown.{IsReportIn, RunsShown, RunsWriter, usual_limits};
 ghost use Rattle.fedbundle.specs.Shown.{ShowsBundle, ShowsEffect, ShowsExplanation, ShowsPolls};
 ghost use Rattle.fedbundle.specs.Shown.{ShowsReport, ShowsStatus, exit_if_written, polls_form};
 ghost use Rattle.fedbundle.specs.Shown.{shown_call};
@@ -30,7 +31,8 @@ use command_line::{
 use json_reports::write_report_json;
 use poll_view::PollsForm;
 use spiffe_name::TrustDomain;
-use status_view::{RunningStatus, StatusFormat, write_running_status, write_status};
+use status_view::{RunningStatus, StatusFormat};
+use status_warnings::{WarnLimits, Watch, write_warned_status};
 use std::alloc::Global;
 
 /// What is to be shown.
@@ -41,7 +43,15 @@ pub struct Shown<'call, 'words, 'a> {
     /// What a running replica says of itself, which `status` then shows, too; `None` if what is
     /// held was read from a state file.
     pub running: Option<&'a RunningStatus<'a>>,
+    /// The Unix second, by which `status` warns; 0 if the clock had none.
+    pub moment: i64,
 }
+
+/// How many days before its end `status` warns of a certificate.
+const EXPIRES_WITHIN: u64 = 7;
+
+/// How many seconds a peer may be quiet before `status` warns of it.
+const PEER_QUIET: u64 = 600;
 
 /// Writes what the words ask for, of what is held, and returns the exit status: 1 for a `status`
 /// with a warning, and else 0. `explain` and `polls` read the source, to its end or as far as
@@ -230,53 +240,38 @@ fn status<C: Closure, W: Sink>(
         (device_run W.contents W.has_failed sink.old sink.new) result }
 {
     let format = read_status_format(given(shown.call, OptionName::Format))?;
-    let is_warned = status_in(alloc, closure, shown.running, format, sink)?;
+    let watch = Watch {
+        limits: usual_limits(shown.moment),
+        running: shown.running,
+        fetches: &[],
+    };
+    let is_warned = status_in(alloc, closure, &watch, format, sink)?;
     Ok(u8::from(is_warned))
+}
+
+fn usual_limits(moment: i64) -> WarnLimits
+    ensures { result ≡ usual_limits moment }
+{
+    WarnLimits {
+        moment,
+        expires_within: EXPIRES_WITHIN,
+        peer_quiet: PEER_QUIET,
+    }
 }
 
 fn status_in<C: Closure, W: Sink>(
     alloc: Global,
     closure: &C,
-    running: Option<&RunningStatus<'_>>,
+    watch: &Watch<'_>,
     format: StatusFormat,
     sink: &mut W,
 ) -> Result<bool, CommandError>
     ensures runs { RunsWriter
-        (IsStatusShown (option_map (λ r. r.now) running.entry) (C.state closure.now).meaning format)
+        (IsWarnedStatusIn (C.state closure.now).meaning (watching_of watch.now) format)
         (device_run W.contents W.has_failed sink.old sink.new) result }
     ensures warned { IfOk result (IsWarned (C.state closure.now).meaning) }
 {
-    match running {
-        Some(running) => status_of_replica(alloc, closure, running, format, sink),
-        None => status_of_file(alloc, closure, format, sink),
-    }
-}
-
-fn status_of_replica<C: Closure, W: Sink>(
-    alloc: Global,
-    closure: &C,
-    running: &RunningStatus<'_>,
-    format: StatusFormat,
-    sink: &mut W,
-) -> Result<bool, CommandError>
-    ensures runs { RunsWriter (IsRunningStatusIn (C.state closure.now).meaning running.now format)
-        (device_run W.contents W.has_failed sink.old sink.new) result }
-    ensures warned { IfOk result (IsWarned (C.state closure.now).meaning) }
-{
-    Ok(write_running_status(alloc, closure, running, format, sink)?)
-}
-
-fn status_of_file<C: Closure, W: Sink>(
-    alloc: Global,
-    closure: &C,
-    format: StatusFormat,
-    sink: &mut W,
-) -> Result<bool, CommandError>
-    ensures runs { RunsWriter (IsStatusIn (C.state closure.now).meaning format)
-        (device_run W.contents W.has_failed sink.old sink.new) result }
-    ensures warned { IfOk result (IsWarned (C.state closure.now).meaning) }
-{
-    Ok(write_status(alloc, closure, format, sink)?)
+    Ok(write_warned_status(alloc, closure, watch, format, sink)?)
 }
 
 fn distrust_effect<C: Closure, W: Sink>(

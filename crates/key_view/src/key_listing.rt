@@ -54,7 +54,8 @@ pub fn domain_keys<C: Closure>(alloc: Global, closure: &C) -> Result<Vec<DomainK
     Ok(all)
 }
 
-fn keys_of_domain<C: Closure>(
+/// The keys of a domain.
+pub(crate) fn keys_of_domain<C: Closure>(
     alloc: Global,
     closure: &C,
     domain: &TrustDomain,

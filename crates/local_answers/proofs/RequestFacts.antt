@@ -1,5 +1,5 @@
 -- What a command's function answers over memory, as what is replied.
-use Rattle.std.proofs.Common.{◌≡◌, ℕ, inl, inr, List, [], ◌∷◌, refl, sym, ap, ◌∙◌, arith, false, Some, Ok, Err}
+use Rattle.std.proofs.Common.{◌≡◌, ℕ, inl, inr, List, [], ◌∷◌, refl, sym, ap, ◌∙◌, arith, false, Some}
 use Rattle.std.specs.List.{Contains}
 use Rattle.std.specs.Io.KnownBytes.{IsAtEnd}
 use Rattle.receipt_core.specs.Acceptance.{Meaning, IsMeaning}
@@ -16,7 +16,7 @@ use Rattle.replica_core.specs.declared.entry.Entry.TheVariants.{Record}
 use Rattle.replica_core.specs.declared.error.SyncError.{SyncError}
 use Rattle.replica_core.specs.declared.error.SyncError.TheVariants.{Io as StreamFailed}
 use Rattle.replica_texts.specs.Snapshots.{IsSnapshot, RefusesSnapshot}
-use Rattle.fedbundle.specs.CommandRun.{CommandRun, DeviceRun, HasFailed, run_of, state_run}
+use Rattle.fedbundle.specs.CommandRun.{DeviceRun, HasFailed, run_of, state_run}
 use Rattle.fedbundle.specs.Distrust.{HoldsRecord}
 use Rattle.fedbundle.specs.Explain.{receipt_line}
 use Rattle.fedbundle.specs.Merge.{count_text}

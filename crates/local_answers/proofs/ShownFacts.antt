@@ -1,5 +1,5 @@
 -- What the commands that show what is held answer over memory, and what is replied to their calls.
-use Rattle.std.proofs.Common.{◌≡◌, ◌⊎◌, inl, inr, ℕ, ℤ, Bool, List, [], ◌++◌, Option, Some, Ok, Err, Result, IfErr, IfOk}
+use Rattle.std.proofs.Common.{◌≡◌, ◌⊎◌, inl, inr, ℕ, ℤ, Bool, List, [], ◌++◌, Some, Ok, Err, Result, IfErr, IfOk}
 use Rattle.std.proofs.Common.{true, false, refl, sym, ap, ◌∙◌, subst}
 use Rattle.receipt_core.specs.Acceptance.{Meaning}
 use Rattle.receipt_core.specs.declared.distrust.Distrust.{Distrust}

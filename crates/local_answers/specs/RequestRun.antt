@@ -186,6 +186,7 @@ shown_in run = record {
   texts = run.texts;
   meaning = run.change.state.old.meaning;
   running = Some run.running;
+  moment = run.running.moment;
 }
 
 -- A command that shows what is held, over memory: its output, and its exit status.

@@ -28,6 +28,7 @@ pub(crate) fn shown<C: Closure>(
     let shown = Shown {
         call: asked.call,
         running: Some(asked.running),
+        moment: asked.running.moment,
     };
     let mut source = FromRead::new(asked.input);
     let mut output = FromWrite::new(Vec::new(alloc));

@@ -14,6 +14,9 @@
 //! - `running CONFIG FORMAT SNAPSHOT JOURNAL PEER.. = LINES`: the same of a running replica, whose
 //!   files have this many bytes; a peer is `ADDRESS,ENDED,FAULT,RECEIPTS`, with a hyphen for what
 //!   is absent.
+//! - `warned CONFIG FORMAT MOMENT BEGAN WORD.. = LINES`: the same of one with empty files, and its
+//!   warnings at that Unix second. A word is a peer, or `DOMAIN@FETCHED@WAIT`: when a domain was
+//!   last fetched, with a hyphen for never, and its wait.
 //! - `config-json = CONFIGURATION`, `canon-json DOMAIN = DOCUMENT`, `list-json CONFIG = LINES`,
 //!   `list-json CONFIG DOMAIN = LINES`, `report-json CONFIG = LINES`, `explain-json CONFIG DOMAIN
 //!   NAME = LINES` and `polls-json CONFIG SECONDS NAME = LINES`: what is printed as JSON, where the
@@ -25,6 +28,7 @@ mod configurations;
 mod json_shown;
 mod running_states;
 mod states;
+mod warned_states;
 
 use row_script::{Row, Rows, Script};
 use std::alloc::{AllocError, Global};
@@ -56,6 +60,7 @@ impl Rows for Calls {
             "diff" => diff(self.alloc, script, row.words, text, answer),
             "status" => status(self.alloc, script, row.words, text, answer),
             "running" => running(self.alloc, script, row.words, text, answer),
+            "warned" => warned(self.alloc, script, row.words, text, answer),
             _ => json(self.alloc, script, row, answer),
         }
     }
@@ -118,4 +123,14 @@ fn running(
     answer: &mut String,
 ) -> Result<(), AllocError> {
     running_states::stand::<IndexedClosure>(alloc, script, words, lines, answer)
+}
+
+fn warned(
+    alloc: Global,
+    script: &Script,
+    words: &str,
+    lines: &[u8],
+    answer: &mut String,
+) -> Result<(), AllocError> {
+    warned_states::stand::<IndexedClosure>(alloc, script, words, lines, answer)
 }

@@ -5,6 +5,7 @@ use crate::state_access::{leave, load, state_access_of};
 use crate::streams::{input, output};
 use fed_config::Config;
 use fedbundle::{Call, CommandName, Exit, Shown, run_shown};
+use std::rt::Clock;
 use trust_closure::IndexedClosure;
 
 /// Shows what the command asks for, of what the state file holds.
@@ -40,6 +41,15 @@ fn show_as_replica(
     let shown = Shown {
         call,
         running: None,
+        moment: unix_second(rt),
     };
     run_shown(rt.alloc(), closure, shown, &mut input(rt), &mut output(rt))
+}
+
+// The time of day; 0 if the clock has none.
+fn unix_second(rt: &HostRuntime) -> i64 {
+    match rt.since_1970() {
+        Ok(time) => i64::try_from(time.as_secs()).unwrap_or(0),
+        Err(_) => 0,
+    }
 }

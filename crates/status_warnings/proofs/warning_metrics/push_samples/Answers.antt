@@ -1,0 +1,14 @@
+use Rattle.status_warnings.specs.WarningMetrics.{warning_sample}
+use Rattle.status_view.proofs.PieceFacts.{flat_end, flat_next}
+use Rattle.status_warnings.proofs.warning_metrics.push_samples.Goals as goal
+
+pub loop-warning-preserved : goal.loop-warning-preserved
+loop-warning-preserved c =
+    flat_next warning_sample c.args.warnings.now c.loop-warning.warning-index c.warning-item.result _ _ _
+    c.loop-warning-test.true
+    c.warning-item.is c.loop-warning.invariant c.in_ok-push_sample.ensures
+
+pub returns : goal.returns
+returns c =
+    flat_end warning_sample c.args.warnings.now c.loop-warning.warning-index _ _
+    c.loop-warning-test.false c.loop-warning.invariant

@@ -1,0 +1,7 @@
+-- `Warnings` says what is found, the next three how it is written, and `WarnedStatus` has the whole
+-- texts.
+pub mod Warnings
+pub mod WarningLines
+pub mod WarningJson
+pub mod WarningMetrics
+pub mod WarnedStatus

@@ -1,0 +1,39 @@
+//! The names of what is warned of.
+ghost use Rattle.std.specs.Prelude.{◌≡◌};
+ghost use Rattle.status_warnings.specs.WarningLines.{kind_of_fault, kind_name, stock_name};
+
+use crate::warning_kinds::{DomainFault, Stock, Warning};
+
+/// The kind of a warning, as a word.
+pub(crate) fn kind_name(warning: &Warning) -> &'static str
+    ensures { result.now ≡ kind_name warning.now }
+{
+    match warning {
+        Warning::Domain(fault, _) => kind_of_fault(*fault),
+        Warning::Expires(..) => "expires",
+        Warning::NotFetched(..) => "not-fetched",
+        Warning::QuietPeer(..) => "quiet-peer",
+        Warning::NearlyFull(..) => "nearly-full",
+    }
+}
+
+fn kind_of_fault(fault: DomainFault) -> &'static str
+    ensures { result.now ≡ kind_of_fault fault }
+{
+    match fault {
+        DomainFault::NoCurrent => "no-current",
+        DomainFault::LockedOut => "locked-out",
+        DomainFault::Conflict => "conflict",
+        DomainFault::NoSequence => "no-sequence",
+    }
+}
+
+/// What is held, as a word.
+pub(crate) fn stock_name(stock: Stock) -> &'static str
+    ensures { result.now ≡ stock_name stock }
+{
+    match stock {
+        Stock::Receipts => "receipts",
+        Stock::Records => "records",
+    }
+}

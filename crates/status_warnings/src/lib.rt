@@ -1,0 +1,27 @@
+//! What is wrong with a replica, for operators: a list of warnings, and what of it stands at the
+//! end of the three texts of a status. It reads no clock: the moment is handed in.
+//!
+//! `seen` has what is looked at, and `warning_kinds` what is found. `warning_search` finds it.
+//! `warning_lines`, `warning_json` and `warning_metrics` write it, as functions of the list alone.
+//! `warned_text` puts that after the texts of a status, and `warned_writer` writes the whole.
+#![tactic(auto)]
+
+mod kind;
+mod peer_address;
+mod seen;
+mod warned_text;
+mod warned_writer;
+mod warning_json;
+mod warning_kinds;
+mod warning_lines;
+mod warning_metrics;
+mod warning_search;
+
+pub use peer_address::PeerAddress;
+pub use seen::{CertificateEnd, Fetch, Seen, WarnLimits, Watch};
+pub use warned_writer::write_warned_status;
+pub use warning_json::push_warning_member;
+pub use warning_kinds::{DomainFault, Stock, Warning};
+pub use warning_lines::push_warning_lines;
+pub use warning_metrics::{push_certificate_metrics, push_warning_metrics};
+pub use warning_search::find_warnings;
