@@ -240,7 +240,7 @@ static REPORT: [OptionName; 7] = [
     OptionName::At,
 ];
 
-static LIST: [OptionName; 6] = [
+static LIST: [OptionName; 7] = [
     OptionName::Config,
     OptionName::State,
     OptionName::OptionalDomain,
