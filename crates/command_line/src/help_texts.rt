@@ -269,8 +269,12 @@ writes to standard output what the record would change, domain by domain:
 `falls` is a document that is not accepted any more. `current` comes for the domain of
 --domain, and where the current document changes; then the keys that only the later or only
 the earlier one has, the distrusted ones that the later one still lists, and `locked-out`
-where none of its keys can vouch. A last line begins with `warning` where no document of
-the domain that is held lists the key.
+where none of its keys can vouch. A line begins with `warning` where no document of the
+domain that is held lists the key. Last comes a line for each key of an accepted document
+of the domain that is not distrusted, though a distrusted one has its public key, as where
+its certificate was issued again; it can still vouch:
+  same public key: KEY_ID of DOMAIN in ID
+With --at these lines are left out.
 
 Ends with 0, also where the record was held; with 1 where the domain is none of the
 configuration or anything read is refused. Then the state file is left as it was.";
