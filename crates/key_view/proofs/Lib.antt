@@ -1,1 +1,2 @@
 mod DomainKeyFacts
+mod PieceFacts

@@ -1,5 +1,6 @@
 -- What is known of the keys of each domain
-use Rattle.std.specs.Prelude.{◌≡◌, ◌↔◌, ℕ, Bool, false, not, ◌&&◌, cond, IsTrue, List, [], ◌∷◌, map, length, Contains, Option, Some, None, nat_eq}
+use Rattle.std.specs.Prelude.{◌≡◌, ◌↔◌, ℕ, Bool, false, not, ◌&&◌, cond, IsTrue, List, [], ◌∷◌, map}
+use Rattle.std.specs.Prelude.{length, Contains, Option, Some, None, nat_eq}
 use Rattle.std.specs.Str.{bytes_eq}
 use Rattle.std.specs.List.{AllZip, list_any}
 use Rattle.sha2.specs.Sha256.{sha256}

@@ -41,14 +41,15 @@ abbrev pub keys_of_documents : List Bundle → List KnownKey
 keys_of_documents documents = with_documents [] documents
 
 -- a receipt's document counts where it is one of the domain
-abbrev pub with_receipt : List ℕ → List KnownKey → Receipt → List KnownKey
-with_receipt domain known r =
+abbrev pub with_keys_of_receipt : List ℕ → List KnownKey → Receipt → List KnownKey
+with_keys_of_receipt domain known r =
     cond (bytes_eq r.domain domain) (with_authorities known r.document.authorities) known
 
-abbrev pub with_receipts : List ℕ → List KnownKey → List Receipt → List KnownKey
-with_receipts domain known [] = known
-with_receipts domain known (r ∷ others) = with_receipts domain (with_receipt domain known r) others
+abbrev pub with_keys_of_receipts : List ℕ → List KnownKey → List Receipt → List KnownKey
+with_keys_of_receipts domain known [] = known
+with_keys_of_receipts domain known (r ∷ others) = with_keys_of_receipts domain
+    (with_keys_of_receipt domain known r) others
 
 -- of the held receipts, the domain and its accepted documents
 abbrev pub known_keys : List Receipt → List ℕ → List Bundle → List KnownKey
-known_keys held domain accepted = with_receipts domain (keys_of_documents accepted) held
+known_keys held domain accepted = with_keys_of_receipts domain (keys_of_documents accepted) held

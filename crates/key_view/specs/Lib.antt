@@ -1,3 +1,4 @@
 pub mod Inside
 pub mod KeyEntries
+pub mod KeysText
 pub mod KnownKeys

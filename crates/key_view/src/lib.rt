@@ -4,8 +4,10 @@
 #![tactic(auto)]
 
 mod key_listing;
+mod keys_writer;
 mod known_entry;
 mod met_keys;
 
 pub use key_listing::{DomainKeys, domain_keys};
+pub use keys_writer::{KeysForm, keys_text, same_keys_text};
 pub use known_entry::{KeyEntry, KeyParts, has_distrusted_key};

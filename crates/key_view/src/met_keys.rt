@@ -2,7 +2,8 @@
 ghost use Rattle.std.specs.Prelude.{◌≡◌, IfOk, OnOk};
 ghost use Rattle.std.specs.List.{list_any};
 ghost use Rattle.key_view.specs.KnownKeys.{is_one_key, keys_of_documents, known_keys, with_der};
-ghost use Rattle.key_view.specs.KnownKeys.{with_authorities, with_listed, with_receipt, knows};
+ghost use Rattle.key_view.specs.KnownKeys.{with_authorities, with_listed, with_keys_of_receipt};
+ghost use Rattle.key_view.specs.KnownKeys.{knows};
 
 use crate::key_listing::AcceptedBundle;
 use closure_core::Closure;
@@ -54,7 +55,8 @@ fn push_receipt_keys(
     domain: &TrustDomain,
     receipt: &Receipt,
 ) -> Result<(), AllocError>
-    ensures { OnOk result (keys.new.items ≡ with_receipt domain.now keys.old.items receipt.now) }
+    ensures { OnOk result (keys.new.items ≡ with_keys_of_receipt domain.now keys.old.items
+        receipt.now) }
 {
     if receipt.domain().as_str() == domain.as_str() {
         push_authorities(keys, receipt.document().authorities())?;
@@ -85,7 +87,10 @@ fn push_certificate(keys: &mut Vec<KnownKey>, der: &Certificate) -> Result<(), A
 {
     let key = KeyId(Sha256::digest(der.as_bytes()));
     if !knows(keys.as_slice(), &key) {
-        keys.push(KnownKey { key, der: der.try_clone()? })?;
+        keys.push(KnownKey {
+            key,
+            der: der.try_clone()?,
+        })?;
     }
     Ok(())
 }

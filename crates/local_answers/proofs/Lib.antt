@@ -6,3 +6,4 @@ mod CallWordFacts
 mod ChangingFacts
 mod ChangeEventFacts
 mod PieceEventFacts
+mod LookFacts
