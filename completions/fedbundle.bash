@@ -18,7 +18,7 @@ _fedbundle() {
         canon) words='--domain --format --verbose --help' ;;
         config) words='--config --with --format --verbose --help' ;;
         report) words='--config --state --format --wait --verbose --at --help' ;;
-        list) words='--config --state --domain --format --verbose --help' ;;
+        list) words='--config --state --domain --keys --format --verbose --help' ;;
         diff) words='--config --state --with --verbose --help' ;;
         graph) words='--config --state --domain --verbose --help' ;;
         status) words='--config --state --format --wait --verbose --at --help' ;;

@@ -10,6 +10,9 @@ nothing.
 usage: status_view.py CONFIG STATE [text|json|prometheus [SNAPSHOT JOURNAL [BEGAN:MOMENT] [PEER..]]]
                                             the exit status is 1 where there is a warning
 """
+import base64
+import calendar
+import hashlib
 import json
 import os
 import sys
@@ -90,6 +93,56 @@ def warnings(stands):
         yield f"warning: of {RECORD_LIMIT} records of distrust held: {stands['records']}"
 
 
+# ---- the certificates of current bundles
+
+def element_at(der, place=0):
+    """The tag, the content and the end of the DER element at a place."""
+    tag, length, place = der[place], der[place + 1], place + 2
+    if length > 127:
+        count = length - 128
+        length, place = int.from_bytes(der[place : place + count], "big"), place + count
+    assert place + length <= len(der)
+    return tag, der[place : place + length], place + length
+
+
+def end_of(der):
+    """The last second at which a certificate is valid (RFC 5280, section 4.1.2.5); none of other bytes."""
+    try:
+        fields = element_at(element_at(der)[1])[1]
+        place = element_at(fields)[2] if fields[0] == 160 else 0
+        for _ in range(3):
+            place = element_at(fields, place)[2]
+        validity = element_at(fields, place)[1]
+        tag, text, _ = element_at(validity, element_at(validity)[2])
+        text = text.decode()
+        if tag == 23:
+            text = ("19" if text[:2] >= "50" else "20") + text
+        numbers = [int(text[:4])] + [int(text[at : at + 2]) for at in range(4, 14, 2)]
+        return calendar.timegm((*numbers, 0, 0, 0))
+    except (AssertionError, IndexError, ValueError):
+        return None
+
+
+def ends_of(config, lines):
+    """The ends of the certificates that are X.509 authorities of current bundles: domains rise."""
+    told = [json.loads(line) for line in set(lines)]
+    distrusted = {(r["domain"], r["distrust"]) for r in told if "distrust" in r}
+    accepted, _ = accepted_of(config, [r for r in told if "doc" in r], distrusted)
+    for domain in domains_of(config):
+        documents = sorted((d for d in accepted if d.domain == domain), key=Document.order)
+        for authority in documents[-1].authorities if documents else ():
+            der = base64.b64decode(authority["x5c"][0]) if "x5c" in authority else b""
+            if end_of(der) is not None:
+                yield {"domain": domain, "key": hashlib.sha256(der).hexdigest(), "not_after": end_of(der)}
+
+
+def end_metrics(ends):
+    name = "fedbundle_certificate_not_after_timestamp_seconds"
+    yield from head(name, "The end of a certificate that the current bundle of a trust domain has.")
+    for end in ends:
+        yield f'{name}{{domain="{end["domain"]}",key="{end["key"]}"}} {end["not_after"]}'
+
+
 # ---- what is wrong, as a list
 
 FAULTS = {
@@ -99,6 +152,7 @@ FAULTS = {
     "no-sequence": "has several accepted bundles, and the current has no number",
 }
 QUIET_SECONDS = 600
+EXPIRES_SECONDS = 7 * 86400
 
 
 def faults_of(domain):
@@ -119,11 +173,12 @@ def late(fetch, moment):
     return fetch["fetched"] is None or moment - fetch["fetched"] >= 3 * fetch["wait"]
 
 
-def found(stands, running=None, clock=(0, 0), fetches=()):
+def found(stands, running=None, clock=(0, 0), fetches=(), ends=()):
     """The objects of the member `warnings`: by kinds, and within a kind by domains, peers, and receipts before records."""
     began, moment = clock
     for kind in FAULTS:
         yield from ({"kind": kind, "domain": d["domain"]} for d in stands["domains"] if kind in faults_of(d))
+    yield from ({"kind": "expires", **end} for end in ends if end["not_after"] <= moment + EXPIRES_SECONDS)
     for fetch in fetches:
         if late(fetch, moment):
             yield {"kind": "not-fetched", "domain": fetch["domain"], "fetched": fetch["fetched"]}
@@ -140,6 +195,8 @@ def found_line(warning):
     kind = warning["kind"]
     if kind in FAULTS:
         told = f"{warning['domain']} {FAULTS[kind]}"
+    elif kind == "expires":
+        told = f"{warning['domain']} has a certificate that ends at {warning['not_after']}, of key {warning['key']}"
     elif kind == "not-fetched":
         told = f"{warning['domain']} was last fetched: {'never' if warning['fetched'] is None else warning['fetched']}"
     elif kind == "quiet-peer":
@@ -154,7 +211,7 @@ def found_metrics(warnings_found):
     name = "fedbundle_warning_info"
     yield from head(name, "What status warns of, by kind.")
     for warning in warnings_found:
-        labels = [(key, value) for key, value in warning.items() if key in ("kind", "domain", "peer", "what")]
+        labels = [(key, value) for key, value in warning.items() if key in ("kind", "domain", "key", "peer", "what")]
         yield name + "{" + ",".join(f'{key}="{escaped(text)}"' for key, text in labels) + "} 1"
 
 
@@ -261,13 +318,13 @@ def running_metrics(running):
             yield f'{name}{{peer="{address}",fault="{peer["fault"]}"}} 1'
 
 
-def lines_in(stands, shape, running=None, wrong=None):
+def lines_in(stands, shape, running=None, wrong=None, ends=()):
     """The lines; with what is wrong at the end, unless that is not asked for."""
     if shape == "json":
         more = {} if wrong is None else {"warnings": wrong}
         return [json.dumps({**stands, **(running or {}), **more}, separators=(",", ":"))]
     if shape == "prometheus":
-        more = [] if wrong is None else found_metrics(wrong)
+        more = [] if wrong is None else [*end_metrics(ends), *found_metrics(wrong)]
         return [*metric_lines(stands), *(running_metrics(running) if running else []), *more]
     return [*text_lines(stands), *(running_lines(running) if running else []), *map(found_line, wrong or [])]
 
@@ -291,6 +348,8 @@ if __name__ == "__main__":
     standing = status(configuration, held_lines)
     clock, peers_said = clock_of(rest[3:])
     own = running_of(rest[1], rest[2], peers_said) if len(rest) > 2 else None
-    for line in lines_in(standing, rest[0] if rest else "text", own, list(found(standing, own, clock))):
+    ends = list(ends_of(configuration, held_lines))
+    wrong = list(found(standing, own, clock, (), ends))
+    for line in lines_in(standing, rest[0] if rest else "text", own, wrong, ends):
         print(line)
     sys.exit(int(standing["warning"]))

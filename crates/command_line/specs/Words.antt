@@ -29,6 +29,7 @@ use Rattle.command_line.specs.declared.command_name.OptionName.TheVariants.{New,
 use Rattle.command_line.specs.declared.command_name.OptionName.TheVariants.{OptionalListen, Peers}
 use Rattle.command_line.specs.declared.command_name.OptionName.TheVariants.{FileFormat, ReadSocket}
 use Rattle.command_line.specs.declared.command_name.OptionName.TheVariants.{ListenAnywhere}
+use Rattle.command_line.specs.declared.command_name.OptionName.TheVariants.{Keys}
 
 abbrev pub option_text : OptionName → List ℕ
 option_text Config = codes "config"
@@ -62,6 +63,7 @@ option_text New = codes "new"
 option_text FileFormat = codes "format"
 option_text ReadSocket = codes "read-socket"
 option_text ListenAnywhere = codes "listen-anywhere"
+option_text Keys = codes "keys"
 
 -- it has no text after it
 abbrev pub is_flag : OptionName → Bool
@@ -71,6 +73,7 @@ is_flag Verbose = true
 is_flag Short = true
 is_flag New = true
 is_flag ListenAnywhere = true
+is_flag Keys = true
 is_flag option = false
 
 -- the words may leave it out
@@ -127,7 +130,8 @@ options_of command.Canon = Domain ∷ FileFormat ∷ Verbose ∷ []
 options_of command.Config = Config ∷ With ∷ FileFormat ∷ Verbose ∷ []
 options_of command.New = Config ∷ State ∷ Wait ∷ Verbose ∷ []
 options_of command.Report = Config ∷ OptionalState ∷ FileFormat ∷ New ∷ Wait ∷ Verbose ∷ At ∷ []
-options_of command.List = Config ∷ State ∷ OptionalDomain ∷ FileFormat ∷ New ∷ Verbose ∷ []
+options_of command.List = Config ∷ State ∷ OptionalDomain ∷ Keys ∷ FileFormat ∷ New ∷ Verbose
+    ∷ []
 options_of command.Diff = Config ∷ State ∷ With ∷ New ∷ Verbose ∷ []
 options_of command.Graph = Config ∷ State ∷ OptionalDomain ∷ New ∷ Verbose ∷ []
 options_of command.Status = Config ∷ State ∷ Format ∷ New ∷ Wait ∷ Verbose ∷ At ∷ []

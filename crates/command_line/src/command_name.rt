@@ -42,6 +42,8 @@ pub enum OptionName {
     FileFormat,
     ReadSocket,
     ListenAnywhere,
+    /// What is known of keys.
+    Keys,
 }
 
 /// A subcommand.
@@ -150,6 +152,7 @@ impl OptionName {
             OptionName::FileFormat => "format",
             OptionName::ReadSocket => "read-socket",
             OptionName::ListenAnywhere => "listen-anywhere",
+            OptionName::Keys => "keys",
         }
     }
 
@@ -165,6 +168,7 @@ impl OptionName {
                 | OptionName::Short
                 | OptionName::New
                 | OptionName::ListenAnywhere
+                | OptionName::Keys
         )
     }
 
@@ -236,10 +240,11 @@ static REPORT: [OptionName; 7] = [
     OptionName::At,
 ];
 
-static LIST: [OptionName; 6] = [
+static LIST: [OptionName; 7] = [
     OptionName::Config,
     OptionName::State,
     OptionName::OptionalDomain,
+    OptionName::Keys,
     OptionName::FileFormat,
     OptionName::New,
     OptionName::Verbose,

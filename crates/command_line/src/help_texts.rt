@@ -96,8 +96,17 @@ The status is `accepted` where an accepted document vouches for the receipt, `di
 where its key is distrusted in the endpoint's domain, and else `pending`. It writes no
 file.
 
+--keys prints what is known of each key instead: a line for each X.509 authority that an
+accepted document lists, and then for those that only other documents of receipts list:
+  key <key id> domain <domain> public-key <digest> from <seconds> to <seconds>
+    distrusted <yes or no> same-public-key <yes or no> bundles <document id>..
+The digest is the SHA-256 of the public key in the certificate, and it is valid from and to
+these Unix seconds; they are `none` where the certificate is not read. A key that accepted
+documents list and that is not distrusted has the same public key where one that is
+distrusted in the domain has it. The bundles are the accepted documents that list the key.
+
 --format json prints one object of `receipts` and `records`, whose members are named as
-above.
+above; with --keys one object of `keys`.
 
 Ends with 0; with 1 and nothing printed where anything read or the name of the domain is
 refused; with 2 where the format is neither text nor json.";
@@ -260,8 +269,12 @@ writes to standard output what the record would change, domain by domain:
 `falls` is a document that is not accepted any more. `current` comes for the domain of
 --domain, and where the current document changes; then the keys that only the later or only
 the earlier one has, the distrusted ones that the later one still lists, and `locked-out`
-where none of its keys can vouch. A last line begins with `warning` where no document of
-the domain that is held lists the key.
+where none of its keys can vouch. A line begins with `warning` where no document of the
+domain that is held lists the key. Last comes a line for each key of an accepted document
+of the domain that is not distrusted, though a distrusted one has its public key, as where
+its certificate was issued again; it can still vouch:
+  same public key: KEY_ID of DOMAIN in ID
+With --at these lines are left out.
 
 Ends with 0, also where the record was held; with 1 where the domain is none of the
 configuration or anything read is refused. Then the state file is left as it was.";
@@ -371,6 +384,7 @@ impl OptionName {
             OptionName::FileFormat => "FORMAT",
             OptionName::ReadSocket => "PATH",
             OptionName::ListenAnywhere => "",
+            OptionName::Keys => "",
         }
     }
 
@@ -422,6 +436,7 @@ impl OptionName {
                 "The path of a second socket, at which nothing can be changed",
             OptionName::ListenAnywhere =>
                 "Allows an address of --listen that is not a loopback one",
+            OptionName::Keys => "Prints what is known of each X.509 key, in place of what is held",
         }
     }
 }
@@ -485,7 +500,7 @@ impl CommandName {
                 fedbundle report --at <PATH> [--wait <SECONDS>] [--verbose]"
             }
             CommandName::List => {
-                "fedbundle list --config <FILE> --state <FILE> [--domain <DOMAIN>] \
+                "fedbundle list --config <FILE> --state <FILE> [--domain <DOMAIN>] [--keys] \
                 [--format <FORMAT>] [--new] [--verbose]"
             }
             CommandName::Diff => {

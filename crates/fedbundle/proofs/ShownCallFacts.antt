@@ -1,5 +1,5 @@
 -- What a command that shows what is held does, by what its functions answer
-use Rattle.std.proofs.Common.{◌≡◌, ℕ, ℤ, Bool, true, false, if◌then◌else◌, inl, List, Result, Ok, Err, refl, subst, sym}
+use Rattle.std.proofs.Common.{◌≡◌, ℕ, ℤ, Bool, true, false, if◌then◌else◌, inl, List, [], Result, Ok, Err, refl, subst, sym}
 use Rattle.std.specs.Int.{from_bool}
 use Rattle.byte_lines.specs.declared.error.DeviceError.{DeviceError}
 use Rattle.byte_lines.specs.declared.error.DeviceError.TheVariants.{Io as SourceFailed}
@@ -13,7 +13,10 @@ use Rattle.text_lines.specs.TextLines.{BeginsSome}
 use Rattle.fedbundle.specs.CommandRun.{CommandRun, DeviceRun, HasFailed, WritesNothing}
 use Rattle.fedbundle.specs.Errors.{of_read, of_report, of_run}
 use Rattle.fedbundle.specs.Polls.{RunsPollsIn, polls_call}
-use Rattle.fedbundle.specs.Shown.{IsUntouched, RefusesUnwritten, RunsWriter, ShownCall, ShowsBy, polls_form}
+use Rattle.fedbundle.specs.Shown.{IsUntouched, RefusesUnwritten, RunsWriter, ShownCall, ShowsBy, polls_form, usual_limits, watched_by}
+use Rattle.status_view.specs.declared.status_writer.StatusFormat.{StatusFormat}
+use Rattle.status_warnings.specs.WarnedStatus.{IsWarnedStatusIn}
+use Rattle.status_warnings.specs.declared.seen.WarnLimits.{WarnLimits}
 use Rattle.poll_view.specs.declared.polls_writer.PollsForm.{PollsForm}
 use Rattle.command_line.specs.declared.option_texts.OutputForm.{OutputForm}
 use Rattle.fedbundle.specs.declared.error.CommandError.{CommandError}
@@ -67,3 +70,12 @@ none_shown command.Polls call run report bundle explain polls status distrust un
 none_shown command.Status call run report bundle explain polls status distrust unwritten unread = absurd (status refl)
 none_shown command.Distrust call run report bundle explain polls status distrust unwritten unread = absurd (distrust refl)
 none_shown name call run report bundle explain polls status distrust unwritten unread = (refused_words _ run.sink Usage refl unwritten, unread)
+
+-- how a replica stands, looked at with the limits that are usual
+pub status_as : (call : ShownCall) (format : StatusFormat) (sink : DeviceRun) (answer : Result Bool CommandError) (limits : WarnLimits)
+    → limits ≡ usual_limits call.moment
+    → RunsWriter (IsWarnedStatusIn call.meaning (record { limits = limits; running = call.running; fetches = [] }) format) sink answer
+    → RunsWriter (IsWarnedStatusIn call.meaning (watched_by call) format) sink answer
+status_as call format sink answer limits is runs =
+    subst (λ l. RunsWriter (IsWarnedStatusIn call.meaning (record { limits = l; running = call.running; fetches = [] }) format) sink answer)
+    is runs

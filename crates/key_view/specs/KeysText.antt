@@ -92,7 +92,7 @@ known_key_json domain keys e = digest_member (codes "{\"key\":") e.key.0
     ++ (truth_member (codes ",\"distrusted\":") e.is_distrusted
     ++ (truth_member (codes ",\"same_public_key\":") (has_distrusted_key keys e)
     ++ (array_member (codes ",\"bundles\":") (map quoted_id e.bundles.items) ++ closing
-      (codes "}"))))))
+    (codes "}"))))))
 
 abbrev pub domain_jsons : Option (List ℕ) → DomainKeys → List (List ℕ)
 domain_jsons chosen k = cond (is_of_other chosen k.domain) []

@@ -67,7 +67,13 @@ pub(crate) fn keys_of_domain<C: Closure>(
     let known = known_keys(alloc, closure, domain, accepted.as_slice())?;
     Ok(DomainKeys {
         domain: domain.try_clone(alloc)?,
-        keys: key_entries(alloc, closure, domain, accepted.as_slice(), known.as_slice())?,
+        keys: key_entries(
+            alloc,
+            closure,
+            domain,
+            accepted.as_slice(),
+            known.as_slice(),
+        )?,
     })
 }
 
@@ -93,8 +99,11 @@ fn key_entries<C: Closure>(
     accepted: &[AcceptedBundle<'_>],
     known: &[KnownKey],
 ) -> Result<Vec<KeyEntry>, AllocError>
-    ensures { IfOk result (λ keys. AllZip (IsKeyEntry (record { domain = domain.now;
-        accepted = accepted.now; records = (C.state closure.now).meaning.records })) known.now
+    ensures { IfOk result (λ keys. AllZip (IsKeyEntry (record {
+      domain = domain.now;
+      accepted = accepted.now;
+      records = (C.state closure.now).meaning.records;
+    })) known.now
         keys.items) }
 {
     let mut keys = Vec::new(alloc);

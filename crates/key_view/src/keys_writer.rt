@@ -238,7 +238,11 @@ fn push_parts(out: &mut Vec<u8>, parts: &Option<KeyParts>) -> Result<(), AllocEr
 fn push_read_parts(out: &mut Vec<u8>, parts: &KeyParts) -> Result<(), AllocError>
     ensures { OnOk result (out.new.items ≡ out.old.items ++ read_parts_text parts.now) }
 {
-    let KeyParts { public_key, not_before, not_after } = *parts;
+    let KeyParts {
+        public_key,
+        not_before,
+        not_after,
+    } = *parts;
     push_id(out, b" public-key ", &public_key)?;
     push_number(out, b" from ", not_before)?;
     push_number(out, b" to ", not_after)?;
@@ -386,7 +390,11 @@ fn known_key_json(
     push_string(alloc, &mut text, b",\"domain\":", domain.as_str())?;
     push_parts_json(&mut text, &entry.parts)?;
     push_truth(&mut text, b",\"distrusted\":", entry.is_distrusted)?;
-    push_truth(&mut text, b",\"same_public_key\":", has_distrusted_key(keys, entry))?;
+    push_truth(
+        &mut text,
+        b",\"same_public_key\":",
+        has_distrusted_key(keys, entry),
+    )?;
     push_bundles_json(alloc, &mut text, entry.bundles.as_slice())?;
     push_closing(&mut text, b"}")?;
     Ok(TextLine::new(text))
@@ -404,7 +412,11 @@ fn push_parts_json(out: &mut Vec<u8>, parts: &Option<KeyParts>) -> Result<(), Al
 fn push_read_parts_json(out: &mut Vec<u8>, parts: &KeyParts) -> Result<(), AllocError>
     ensures { OnOk result (out.new.items ≡ out.old.items ++ read_parts_json parts.now) }
 {
-    let KeyParts { public_key, not_before, not_after } = *parts;
+    let KeyParts {
+        public_key,
+        not_before,
+        not_after,
+    } = *parts;
     push_digest(out, b",\"public_key\":", &public_key)?;
     push_number(out, b",\"not_before\":", not_before)?;
     push_number(out, b",\"not_after\":", not_after)?;
@@ -418,11 +430,7 @@ fn push_no_parts_json(out: &mut Vec<u8>) -> Result<(), AllocError>
     out.extend_from_slice(b",\"public_key\":null,\"not_before\":null,\"not_after\":null")
 }
 
-fn push_bundles_json(
-    alloc: Global,
-    out: &mut Vec<u8>,
-    bundles: &[DocId],
-) -> Result<(), AllocError>
+fn push_bundles_json(alloc: Global, out: &mut Vec<u8>, bundles: &[DocId]) -> Result<(), AllocError>
     ensures { OnOk result (out.new.items ≡ out.old.items
         ++ array_member (codes ",\"bundles\":") (map quoted_id bundles.now)) }
 {

@@ -57,9 +57,7 @@ pub fn has_distrusted_key(entries: &[KeyEntry], entry: &KeyEntry) -> bool
 fn has_public_key(entries: &[KeyEntry], wanted: &[u8; 32]) -> bool
     ensures { result ≡ has_public_key entries.now wanted.now }
 {
-    entries
-        .iter()
-        .any(|other| other.is_distrusted && is_one_public_key(&other.parts, wanted))
+    entries.iter().any(|other| other.is_distrusted && is_one_public_key(&other.parts, wanted))
 }
 
 fn is_one_public_key(parts: &Option<KeyParts>, wanted: &[u8; 32]) -> bool
@@ -79,8 +77,11 @@ pub(crate) fn key_entry<C: Closure>(
     accepted: &[AcceptedBundle<'_>],
     known: &KnownKey,
 ) -> Result<KeyEntry, AllocError>
-    ensures { IfOk result (IsKeyEntry (record { domain = domain.now; accepted = accepted.now;
-        records = (C.state closure.now).meaning.records }) known.now) }
+    ensures { IfOk result (IsKeyEntry (record {
+      domain = domain.now;
+      accepted = accepted.now;
+      records = (C.state closure.now).meaning.records;
+    }) known.now) }
 {
     Ok(KeyEntry {
         key: known.key,

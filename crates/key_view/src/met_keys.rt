@@ -87,7 +87,10 @@ fn push_certificate(keys: &mut Vec<KnownKey>, der: &Certificate) -> Result<(), A
 {
     let key = KeyId(Sha256::digest(der.as_bytes()));
     if !knows(keys.as_slice(), &key) {
-        keys.push(KnownKey { key, der: der.try_clone()? })?;
+        keys.push(KnownKey {
+            key,
+            der: der.try_clone()?,
+        })?;
     }
     Ok(())
 }

@@ -1,7 +1,14 @@
 -- What the commands that change what is held answer, and what is replied to their calls.
 use Rattle.std.proofs.Common.{◌≡◌, ◌||◌, ◌⊎◌, ℕ, ◌+◌, ◌<◌, Bool, true, false, List, [], ◌∷◌, ◌++◌, length, map, get_or, drop, drop-cons, add-one, append_assoc}
 use Rattle.std.proofs.Common.{inl, inr, Option, Some, Result, Ok, Err, IfErr, IfOk, OnErr, refl, sym, ap, ◌∙◌, subst}
+use Rattle.std.proofs.Common.{arith}
+use Rattle.std.proofs.lemmas.Bool.{both_ways, cases_lt}
 use Rattle.std.proofs.lemmas.Result.{IfErr-weaker}
+use Rattle.std.specs.Prelude.{◌≢◌, ◌↔◌, ◌≤◌, IsTrue}
+use Rattle.clap.specs.Words.{IsAmong, fault_of, kind_of}
+use Rattle.clap.specs.declared.error.Error.{Error}
+use Rattle.clap.specs.declared.error.kind.ErrorKind.{ErrorKind}
+use Rattle.clap.specs.declared.error.kind.ErrorKind.TheVariants.{DisplayHelp, DisplayVersion}
 use Rattle.std.specs.declared.alloc.AllocError.{AllocError}
 use Rattle.spiffe_name.specs.TrustDomain.{IsDomainText}
 use Rattle.receipt_core.specs.declared.distrust.Distrust.{Distrust}
@@ -14,7 +21,9 @@ use Rattle.fedbundle.specs.CommandRun.{DeviceRun, StateRun, state_run}
 use Rattle.fedbundle.specs.Distrust.{RunsDistrust}
 use Rattle.fedbundle.specs.Observe.{Fetched, IsAsHeld, RefusesToMake}
 use Rattle.command_line.specs.OptionTexts.{SaysFlag}
-use Rattle.command_line.specs.Words.{CallsInRequest}
+use Rattle.command_line.specs.Words.{CallsInRequest, the_command}
+use Rattle.command_line.specs.declared.words.WordsError.{WordsError}
+use Rattle.command_line.specs.declared.words.WordsError.TheVariants as no_call
 use Rattle.command_line.specs.declared.command_name.CommandName.TheVariants as command
 use Rattle.command_line.specs.declared.command_name.OptionName.TheVariants.{Domain, DryRun, Verbose}
 use Rattle.fedbundle.specs.declared.error.CommandError.{CommandError}
@@ -26,9 +35,11 @@ use Rattle.request_lines.specs.declared.request_error.RequestError.TheVariants a
 use Rattle.local_answers.specs.Journalling.{JournalsChange}
 use Rattle.local_answers.specs.Replies.{RefusesWordsLine}
 use Rattle.fedbundle.specs.SaidValues.{SaysRecord, SaysVerdict}
-use Rattle.local_answers.specs.RequestRun.{Answers, AnswersObserve, AnswersShown, CallRun, ChangeRun, Ends, EndsAnyhow, EndsDistrust, EndsMerge}
-use Rattle.local_answers.specs.RequestRun.{EndsObserve, EndsShown}
-use Rattle.local_answers.specs.RequestRun.{HasStreams, IsEnded, IsWith, RepliesTo, RepliesToCall, SaysOfWords, ShowsText}
+use Rattle.local_answers.specs.RequestRun.{Answers, AnswersObserve, AnswersShown, CallRun, ChangeRun, Ends, EndsDistrust, EndsMerge, EndsMergeCall, EndsOver}
+use Rattle.local_answers.specs.RequestRun.{AnswersMerge, IsWithinRoom, exit_of_unread}
+use Rattle.local_answers.specs.RequestRun.{EndsObserve, LeavesRoom}
+use Rattle.local_answers.specs.RequestRun.{HasStreams, IsEnded, IsNoRequest, IsWith, RepliesByKind, RepliesTo, RepliesToCall, RepliesToError}
+use Rattle.local_answers.specs.RequestRun.{SaysOfWords, is_help}
 use Rattle.local_answers.specs.RequestRun.{SaysDistrusted, SaysFetched, change_run, memory_exit, said}
 use Rattle.local_answers.specs.declared.reply.Reply.{Reply}
 use Rattle.local_answers.specs.declared.request_fault.RequestFault.{RequestFault}
@@ -43,31 +54,62 @@ silent reply output errors status nothing with = subst (λ l. IsWith reply l err
 
 -- a complaint beside it
 pub complained : (output errors : List ℕ) (result : Result Reply AllocError) → output ≡ [] → IfOk result (λ reply. IsWith reply output errors 2)
-    → IfOk result ShowsText
+    → IfOk result (RepliesByKind false)
 complained output errors (Ok reply) nothing with =
-    inl (subst (λ l. IsWith reply [] l 2) (sym with.errors) (silent reply output errors 2 nothing with))
+    subst (λ l. IsWith reply [] l 2) (sym with.errors) (silent reply output errors 2 nothing with)
 complained output errors (Err e) nothing with = tt
 
 -- an output, and nothing beside it
-pub printed : (output : List ℕ) (result : Result Reply AllocError) → IfOk result (λ reply. IsWith reply output [] 0) → IfOk result ShowsText
-printed output (Ok reply) with = inr (subst (λ l. IsWith reply l [] 0) (sym with.output) with)
-printed output (Err e) with = tt
+pub printed : (output errors : List ℕ) (result : Result Reply AllocError) → errors ≡ [] → IfOk result (λ reply. IsWith reply output errors 0)
+    → IfOk result (RepliesByKind true)
+printed output errors (Ok reply) nothing with =
+    subst (λ l. IsWith reply l [] 0) (sym with.output) (subst (λ l. IsWith reply output l 0) nothing with)
+printed output errors (Err e) nothing with = tt
 
--- the words are none of a command
-pub ended_by_usage : (result : Result Reply AllocError) → IfOk result (λ reply. IsEnded reply Usage) → IfOk result SaysOfWords
-ended_by_usage (Ok reply) ended = inl ended
-ended_by_usage (Err e) ended = tt
+-- The error of reading words is replied, and tells what they are: for clap they are at fault, or they
+-- are not a call.
+pub said_of_words : (Refuses : WordsError → Type 0) (spelt words : List (List ℕ)) (error : WordsError) (reply : Reply) → spelt ≡ words
+    → ((e : Error) → Refuses (no_call.Words e) → IsAmong (kind_of e) (fault_of the_command spelt))
+    → (Refuses no_call.Usage → IsNoRequest spelt) → Refuses error → RepliesToError error reply → SaysOfWords words reply
+said_of_words Refuses spelt words (no_call.Words e) reply same at_fault none refused replied =
+    inr (record { kind = kind_of e; gives = subst (λ ws. IsAmong (kind_of e) (fault_of the_command ws)) same (at_fault e refused); replied = replied })
+said_of_words Refuses spelt words no_call.Usage reply same at_fault none refused replied = inl (subst IsNoRequest same (none refused), replied)
+said_of_words Refuses spelt words no_call.NoMemory reply same at_fault none refused replied = absurd replied
 
--- they are shown
-pub shown_by_clap : (result : Result Reply AllocError) → IfOk result ShowsText → IfOk result SaysOfWords
-shown_by_clap (Ok reply) shown = inr shown
-shown_by_clap (Err e) shown = tt
+-- a kind that is neither of the two shows no help
+no_help : (kind : ErrorKind) → (kind ≢ DisplayHelp) × (kind ≢ DisplayVersion) → is_help kind ≡ false
+no_help DisplayHelp neither = absurd (neither.0 refl)
+no_help DisplayVersion neither = absurd (neither.1 refl)
+no_help kind neither = refl
 
--- nothing is journalled for words that are no call
-pub words_unjournalled : (reply : Reply) → SaysOfWords reply → reply.journal.items ≡ []
-words_unjournalled reply (inl ended) = ended.2.unjournalled
-words_unjournalled reply (inr (inl with)) = with.unjournalled
-words_unjournalled reply (inr (inr with)) = with.unjournalled
+-- a kind that shows none is neither of them
+other_kind : (kind other : ErrorKind) → is_help kind ≡ false → is_help other ≡ true → kind ≢ other
+other_kind kind other is not same = both_ways (is_help kind) is (ap is_help same ∙ not)
+
+some_help : (kind : ErrorKind) → ((kind ≢ DisplayHelp) × (kind ≢ DisplayVersion) → ⊥) → is_help kind ≡ true
+some_help DisplayHelp one = refl
+some_help DisplayVersion one = refl
+some_help kind one = absurd (one (other_kind kind DisplayHelp refl refl, other_kind kind DisplayVersion refl refl))
+
+-- Clap's answer tells which it is.
+pub complains : (kind : ErrorKind) (told : Bool) → told ≡ true → (IsTrue told ↔ ((kind ≢ DisplayHelp) × (kind ≢ DisplayVersion)))
+    → is_help kind ≡ false
+complains kind told is both = no_help kind (both.0 is)
+
+pub helps : (kind : ErrorKind) (told : Bool) → told ≡ false → (IsTrue told ↔ ((kind ≢ DisplayHelp) × (kind ≢ DisplayVersion)))
+    → is_help kind ≡ true
+helps kind told is both = some_help kind (λ neither. both_ways told is (both.1 neither))
+
+-- nothing is journalled for what clap shows
+by_kind_unjournalled : (helps : Bool) (reply : Reply) → RepliesByKind helps reply → reply.journal.items ≡ []
+by_kind_unjournalled true reply with = with.unjournalled
+by_kind_unjournalled false reply with = with.unjournalled
+
+-- nor for words that are not a call
+pub error_unjournalled : (error : WordsError) (reply : Reply) → RepliesToError error reply → reply.journal.items ≡ []
+error_unjournalled (no_call.Words e) reply replied = by_kind_unjournalled (is_help (kind_of e)) reply replied
+error_unjournalled no_call.Usage reply ended = ended.2.unjournalled
+error_unjournalled no_call.NoMemory reply replied = absurd replied
 
 -- ---- `observe`
 
@@ -99,20 +141,16 @@ source_failed T e new old fault io = fault ∙ ap (λ w. is_io {T = T} (Err w) |
 
 -- however it ends, nothing has changed
 pub merge_unchanged : (run : ChangeRun) (exit : Exit) → EndsMerge run exit → IsAsHeld run.state
+merge_unchanged run (Refused (Sync StreamFailed)) ends = absurd ends
 merge_unchanged run (Refused (Sync e)) ends = ap (λ (s : HeldAndRoom). s.meaning) ends.runs.unchanged
 merge_unchanged run (Refused (Take e)) ends = ends.runs.refused.unchanged.meaning
 merge_unchanged run (Refused NoMemory) ends = ends
 merge_unchanged run exit ends = absurd ends
 
--- that there are too many bytes was said before
-pub merge_within : (run : ChangeRun) (exit : Exit) → EndsMerge run exit → exit ≡ TooManyBytes → ⊥
-merge_within run exit ends is = subst (EndsMerge run) is ends
-
--- the same of a result
-pub no_excess : (run : ChangeRun) (room count : ℕ) (result : Result Reply Exit) → IfErr result (EndsMerge run)
-    → IfErr result (λ exit. exit ≡ TooManyBytes → room < count)
-no_excess run room count (Ok reply) ends = tt
-no_excess run room count (Err exit) ends = λ is. absurd (merge_within run exit ends is)
+-- a fault of the stream, or another refusal of it
+pub exit_of_sync : (e : SyncError) → (e ≡ StreamFailed → ⊥) → Refused (Sync e) ≡ exit_of_unread e
+exit_of_sync StreamFailed other = absurd (other refl)
+exit_of_sync e other = refl
 
 -- ---- `distrust`
 
@@ -150,10 +188,33 @@ pub observe_call_ends : (run : CallRun) (fetched : Fetched) (result : Result Rep
 observe_call_ends run fetched (Ok reply) says ends = tt
 observe_call_ends run fetched (Err exit) says ends = inr (inr (inr (record { fetched = fetched; says = says; ends = ends })))
 
--- how `merge` ends, as the end of its call
-pub merge_call_ends : (run : CallRun) (result : Result Reply Exit) → IfErr result (EndsMerge run.change) → IfErr result (Ends command.Merge run)
-merge_call_ends run (Ok reply) ends = tt
-merge_call_ends run (Err exit) ends = inr (inr ends)
+-- the input was not too long
+pub within_room : (run : CallRun) (room : ℕ) → LeavesRoom run.name run.texts run.running room → length run.change.input ≤ room → IsWithinRoom run
+within_room run room is low = record { room = room; is_room = is; within = low }
+
+-- the input was too long
+pub not_within : (told : Bool) (count room : ℕ) → (IsTrue told ↔ (count ≤ room)) → told ≡ false → room < count
+not_within told count room both is = elim (cases_lt room count) [
+  | inl over ↦ over
+  | inr high ↦ absurd (both_ways told is (both.1 (omega (arith, high))))
+]
+
+-- what `merge` answers, as the answer of its call
+pub merge_called : (run : CallRun) (result : Result Reply Exit) → IsWithinRoom run
+    → IfOk result (λ reply. HasStreams (AnswersMerge run.change) reply) → IfOk result (Answers command.Merge run)
+merge_called run (Ok reply) within answers = record { within = within; answers = answers }
+merge_called run (Err exit) within answers = tt
+
+-- how `merge` ends, by the exit
+merge_ends : (run : CallRun) (exit : Exit) → IsWithinRoom run → EndsMerge run.change exit → EndsMergeCall run exit
+merge_ends run (Refused e) within ends = (within, ends)
+merge_ends run exit within ends = absurd ends
+
+-- the same, as the end of its call
+pub merge_call_ends : (run : CallRun) (result : Result Reply Exit) → IsWithinRoom run → IfErr result (EndsMerge run.change)
+    → IfErr result (Ends command.Merge run)
+merge_call_ends run (Ok reply) within ends = tt
+merge_call_ends run (Err exit) within ends = inr (merge_ends run exit within ends)
 
 -- what a dry run answers, as the answer of its call
 pub dry_run_called : (run : CallRun) (result : Result Reply Exit) → SaysFlag (said run DryRun) true → IfOk result (AnswersShown run)
@@ -163,7 +224,7 @@ dry_run_called run (Err exit) dry answers = tt
 
 -- the same of how it ends
 pub dry_run_ends : (run : CallRun) (result : Result Reply Exit) → SaysFlag (said run DryRun) true
-    → IfErr result (λ exit. EndsAnyhow exit ⊎ EndsShown run exit) → IfErr result (Ends command.Distrust run)
+    → IfErr result (EndsOver run) → IfErr result (Ends command.Distrust run)
 dry_run_ends run (Ok reply) dry ends = tt
 dry_run_ends run (Err exit) dry (inl anyhow) = inl anyhow
 dry_run_ends run (Err exit) dry (inr ends) = inr (record { dry = true; is_dry = dry; ends = ends })

@@ -4,7 +4,7 @@ use Rattle.command_line.specs.Words.{CallsInRequest}
 use Rattle.fedbundle.specs.declared.exits.Exit.{Exit}
 use Rattle.request_lines.specs.RequestLines.{SaysWords}
 use Rattle.local_answers.specs.Looking.{AnswersLook, Changes, EndsLook, LooksAtCall, RepliesToLook}
-use Rattle.local_answers.specs.RequestRun.{AnswersShown, CallRun, EndsAnyhow, EndsShown}
+use Rattle.local_answers.specs.RequestRun.{AnswersShown, CallRun, EndsOver}
 use Rattle.local_answers.specs.declared.reply.Reply.{Reply}
 use Rattle.local_answers.specs.declared.request_fault.RequestFault.{RequestFault}
 
@@ -24,7 +24,7 @@ look_answered run (Ok reply) looks shows = record { looks = looks; shows = shows
 look_answered run (Err exit) looks shows = tt
 
 -- the same of how it ends
-pub look_ended : (run : CallRun) (result : Result Reply Exit) → Changes run false → IfErr result (λ exit. EndsAnyhow exit ⊎ EndsShown run exit)
+pub look_ended : (run : CallRun) (result : Result Reply Exit) → Changes run false → IfErr result (EndsOver run)
     → IfErr result (EndsLook run)
 look_ended run (Ok reply) looks ends = tt
 look_ended run (Err exit) looks (inl anyhow) = inl anyhow

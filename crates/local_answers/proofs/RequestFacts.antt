@@ -25,7 +25,7 @@ use Rattle.fedbundle.specs.declared.error.CommandError.{CommandError}
 use Rattle.fedbundle.specs.declared.error.CommandError.TheVariants.{Io, NoMemory, Observe, Sync, Take}
 use Rattle.fedbundle.specs.declared.exits.Exit.TheVariants.{Refused}
 use Rattle.local_answers.specs.Journalling.{AreLinesOfOther, IsLineIfNew, JournalsChange}
-use Rattle.local_answers.specs.RequestRun.{AnswersMerge, AnswersObserve, EndsMerge, EndsObserve, change_run, memory_exit}
+use Rattle.local_answers.specs.RequestRun.{AnswersMerge, AnswersObserve, EndsMerge, EndsObserve, change_run, exit_of_unread, memory_exit}
 
 -- ---- what is journalled
 
@@ -112,10 +112,11 @@ observe_taken old new source input fetched r text is made observed line = record
   };
 }
 
--- where the input is no snapshot nothing is merged
+-- if the input is not a snapshot, or memory ran out, nothing is merged
 pub merge_unread : (s : HeldAndRoom) (source : DeviceRun) (input : List ℕ) (why : SyncError) → source.before ≡ Some input
     → RefusesSnapshot s.meaning.config source.before why → (why ≡ StreamFailed → HasFailed source)
-    → EndsMerge (change_run (state_run s s) input) (Refused (Sync why))
+    → EndsMerge (change_run (state_run s s) input) (exit_of_unread why)
+merge_unread s source input StreamFailed is cause fault = refl
 merge_unread s source input why is cause fault = record {
   devices = run_of source (memory_sink []);
   over = record { source = is; empty = refl; filled = refl };

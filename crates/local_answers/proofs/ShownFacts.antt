@@ -20,7 +20,7 @@ use Rattle.fedbundle.specs.declared.exits.Exit.TheVariants.{NoBundle, NotAccepte
 use Rattle.command_line.specs.declared.option_texts.BundleFormat.{BundleFormat}
 use Rattle.command_line.specs.declared.option_texts.BundleFormat.TheVariants.{Json, Pem}
 use Rattle.command_line.specs.declared.option_texts.OutputForm.{OutputForm}
-use Rattle.local_answers.specs.RequestRun.{Answers, AnswersShown, CallRun, Ends, EndsAnyhow, EndsShown, IsEnded, IsWith}
+use Rattle.local_answers.specs.RequestRun.{Answers, AnswersShown, CallRun, Ends, EndsAnyhow, EndsOver, EndsShown, IsEnded, IsWith}
 use Rattle.local_answers.specs.RequestRun.{exit_over_memory, memory_exit, shown_in}
 use Rattle.local_answers.specs.declared.reply.Reply.{Reply}
 
@@ -160,7 +160,7 @@ shown_unwritten name call run exit shows sound = shows.0.unwritten.0
 
 -- the command ended: its device failed only where memory ran out
 ended_over : (run : CallRun) (devices : CommandRun) (exit : Exit) → devices.source.before ≡ Some run.change.input → devices.sink.before ≡ Some []
-    → RunsShown (shown_in run) devices (Err exit) → EndsAnyhow (exit_over_memory exit) ⊎ EndsShown run (exit_over_memory exit)
+    → RunsShown (shown_in run) devices (Err exit) → EndsOver run (exit_over_memory exit)
 ended_over run devices (Refused Io) source empty runs = inl tt
 ended_over run devices exit source empty runs = inr (record {
   devices = devices;
@@ -171,9 +171,9 @@ ended_over run devices exit source empty runs = inr (record {
 -- the same of how it is told
 pub shown_ended : (run : CallRun) (devices : CommandRun) (exit why : Exit) → why ≡ exit_over_memory exit
     → devices.source.before ≡ Some run.change.input → devices.sink.before ≡ Some [] → RunsShown (shown_in run) devices (Err exit)
-    → EndsAnyhow why ⊎ EndsShown run why
+    → EndsOver run why
 shown_ended run devices exit why is source empty runs =
-    subst (λ w. EndsAnyhow w ⊎ EndsShown run w) (sym is) (ended_over run devices exit source empty runs)
+    subst (EndsOver run) (sym is) (ended_over run devices exit source empty runs)
 
 -- the command is done, and its output is replied
 pub shown_done : (run : CallRun) (devices : CommandRun) (output errors : List ℕ) (status : ℕ) (reply : Reply)
@@ -202,8 +202,8 @@ ended_with exit reply empty line errors output status written none is nothing ri
 -- ---- calls
 
 -- a number of the words is none, or memory ran out
-pub anyhow : (name : CommandName) (run : CallRun) (exit why : Exit) → exit ≡ why → EndsAnyhow why → Ends name run exit
-anyhow name run exit why is so = inl (subst EndsAnyhow (sym is) so)
+pub anyhow : (name : CommandName) (run : CallRun) (exit why : Exit) → exit ≡ why → EndsAnyhow run why → Ends name run exit
+anyhow name run exit why is so = inl (subst (EndsAnyhow run) (sym is) so)
 
 -- what the command of this name answers is what the call answers
 pub answers_as : (name other : CommandName) (run : CallRun) (result : Result Reply Exit) → name ≡ other → IfOk result (Answers other run)
@@ -226,7 +226,7 @@ answers_shown name run result observe merge distrust stop answers = answers
 
 -- the same of how it ends
 pub ends_shown : (name : CommandName) (run : CallRun) (result : Result Reply Exit) → (name ≡ command.Observe → ⊥) → (name ≡ command.Merge → ⊥)
-    → (name ≡ command.Distrust → ⊥) → (name ≡ command.Stop → ⊥) → IfErr result (λ exit. EndsAnyhow exit ⊎ EndsShown run exit)
+    → (name ≡ command.Distrust → ⊥) → (name ≡ command.Stop → ⊥) → IfErr result (EndsOver run)
     → IfErr result (Ends name run)
 ends_shown command.Observe run result observe merge distrust stop ends = absurd (observe refl)
 ends_shown command.Merge run result observe merge distrust stop ends = absurd (merge refl)

@@ -44,7 +44,7 @@ pub record RefusesChange (run : CallRun) (exit : Exit) : Type 0 where
 
 -- How a command ends that is not done.
 abbrev pub EndsLook : CallRun → Exit → Type 0
-EndsLook run exit = EndsAnyhow exit ⊎ (RefusesChange run exit ⊎ EndsLooking run exit)
+EndsLook run exit = EndsAnyhow run exit ⊎ (RefusesChange run exit ⊎ EndsLooking run exit)
 
 -- The command ended, and that is replied.
 pub record RepliesWithLookEnd (run : CallRun) (reply : Reply) : Type 0 where
@@ -69,4 +69,4 @@ pub record RepliesToLook (line : List ℕ) (running : RunningStatus) (change : C
     (reply : Reply) : Type 0 where
   pub words : List (List ℕ)
   pub says : SaysWords line words
-  pub replied : LooksAsCommand words running change reply ⊎ RepliesToWords change reply
+  pub replied : LooksAsCommand words running change reply ⊎ RepliesToWords words change reply

@@ -1,7 +1,10 @@
 -- What comes of a request, in the words of the command's function over files: its source has the
 -- input, and its sink, which held nothing, holds the output.
 use Rattle.std.specs.Prelude.{◌≡◌, ◌⊎◌, ℕ, List, [], Bool, true, false, Option, Some}
-use Rattle.std.specs.Prelude.{Result, Ok, Err}
+use Rattle.std.specs.Prelude.{Result, Ok, Err, ◌+◌, ◌-◌, ◌^◌, ◌<◌, ◌≤◌, length, codes, min}
+use Rattle.clap.specs.Words.{IsAmong, fault_of, kind_of}
+use Rattle.clap.specs.declared.error.kind.ErrorKind.{ErrorKind}
+use Rattle.clap.specs.declared.error.kind.ErrorKind.TheVariants.{DisplayHelp, DisplayVersion}
 use Rattle.spiffe_name.specs.TrustDomain.{IsDomainText}
 use Rattle.receipt_core.specs.Acceptance.{Meaning}
 use Rattle.receipt_core.specs.declared.distrust.Distrust.{Distrust}
@@ -9,16 +12,22 @@ use Rattle.fedbundle.specs.CommandRun.{CommandRun, DeviceRun, StateRun}
 use Rattle.fedbundle.specs.Distrust.{HoldsRecord, RunsDistrust, ShowsDistrust}
 use Rattle.fedbundle.specs.Merge.{RunsMerge}
 use Rattle.fedbundle.specs.Observe.{Fetched, IsAsHeld, RunsObserve}
-use Rattle.command_line.specs.OptionTexts.{SaysFlag, option_said}
+use Rattle.command_line.specs.OptionTexts.{SaysFlag, SaysManner, SaysNoManner, option_said}
 use Rattle.fedbundle.specs.SaidValues.{EndsAtDomain, SaysNoRecord, SaysNoVerdict, SaysRecord}
 use Rattle.fedbundle.specs.SaidValues.{SaysVerdict}
 use Rattle.fedbundle.specs.Shown.{RunsShown, ShownCall}
 use Rattle.fedbundle.specs.Exits.{IsExitLine, exit_status_of}
-use Rattle.command_line.specs.Words.{CallsInRequest}
+use Rattle.command_line.specs.Words.{CallsInRequest, the_command}
 use Rattle.command_line.specs.declared.command_name.CommandName.{CommandName}
 use Rattle.command_line.specs.declared.command_name.CommandName.TheVariants as command
 use Rattle.command_line.specs.declared.command_name.OptionName.{OptionName}
 use Rattle.command_line.specs.declared.command_name.OptionName.TheVariants.{Domain, DryRun, Verbose}
+use Rattle.command_line.specs.declared.option_error.OptionError.TheVariants as unread
+use Rattle.command_line.specs.declared.option_texts.Manner.{Manner}
+use Rattle.command_line.specs.declared.words.WordsError.{WordsError}
+use Rattle.command_line.specs.declared.words.WordsError.TheVariants as no_call
+use Rattle.replica_core.specs.declared.error.SyncError.{SyncError}
+use Rattle.replica_core.specs.declared.error.SyncError.TheVariants.{Io as StreamFailed}
 use Rattle.fedbundle.specs.declared.error.CommandError.{CommandError}
 use Rattle.fedbundle.specs.declared.error.CommandError.TheVariants.{Io, NoMemory, Observe, Sync}
 use Rattle.fedbundle.specs.declared.error.CommandError.TheVariants.{Take}
@@ -84,14 +93,21 @@ EndsObserve run fetched exit = ⊥
 abbrev pub AnswersMerge : ChangeRun → List ℕ → Type 0
 AnswersMerge run output = Gives (λ devices. RunsMerge devices run.state (Ok tt)) run.input output
 
--- The input is no snapshot, or what it holds is not taken.
+-- The input is not a snapshot, or what it holds is not taken. Bytes in memory never fail to be
+-- read.
 abbrev pub EndsMerge : ChangeRun → Exit → Type 0
+EndsMerge run (Refused (Sync StreamFailed)) = ⊥
 EndsMerge run (Refused (Sync e)) =
     Gives (λ devices. RunsMerge devices run.state (Err (Sync e))) run.input []
 EndsMerge run (Refused (Take e)) =
     Gives (λ devices. RunsMerge devices run.state (Err (Take e))) run.input []
 EndsMerge run (Refused NoMemory) = IsAsHeld run.state
 EndsMerge run exit = ⊥
+
+-- how `merge` ends if the input is not read
+abbrev pub exit_of_unread : SyncError → Exit
+exit_of_unread StreamFailed = Refused NoMemory
+exit_of_unread why = Refused (Sync why)
 
 -- The record is refused.
 abbrev pub EndsDistrust : StateRun → Distrust → Exit → Type 0
@@ -126,11 +142,15 @@ pub record HasStreams (Answers : List ℕ → Type 0) (reply : Reply) : Type 0 w
   pub status : reply.status ≡ 0
   pub goes_on : reply.ends ≡ false
 
--- What a record of distrust changes, where that is asked for: all of it, or a beginning where
--- memory ran out.
+-- what is said if there is no memory to say what a record changes
+abbrev pub unsaid_line : List ℕ
+unsaid_line = codes "fedbundle: no memory to say what changes\n"
+
+-- What a record of distrust changes, if that is asked for: all of it, or that there is no memory
+-- to say it.
 abbrev pub SaysEffect : Meaning → Distrust → Bool → List ℕ → Type 0
-SaysEffect m x true errors = (said : Result (Unit {0}) CommandError)
-    × GivesInto (λ sink. ShowsDistrust m x sink said) errors
+SaysEffect m x true errors = GivesInto (λ sink. ShowsDistrust m x sink (Ok tt)) errors
+    ⊎ (errors ≡ unsaid_line)
 SaysEffect m x false errors = errors ≡ []
 
 -- The record is held, nothing is on standard output, and beside it stands what was asked for.
@@ -177,6 +197,32 @@ abbrev pub call_run : CommandName → List (Option (List ℕ)) → RunningStatus
 call_run name texts running change =
     record { name = name; texts = texts; running = running; change = change }
 
+-- ---- how much may come
+
+-- how many bytes both files of the replica have, as far as 64 bits tell
+abbrev pub bytes_of_files : RunningStatus → ℕ
+bytes_of_files r = min (r.snapshot_bytes + r.journal_bytes) (2 ^ 64 - 1)
+
+-- How many bytes the input of `merge` may have: of the most that the words allow, what the files of
+-- the replica leave.
+pub record LeavesRoom (name : CommandName) (texts : List (Option (List ℕ)))
+    (running : RunningStatus) (room : ℕ) : Type 0 where
+  pub manner : Manner
+  pub says : SaysManner name texts manner
+  pub rest : room ≡ manner.most_bytes - bytes_of_files running
+
+-- The input has no more bytes than there is room for.
+pub record IsWithinRoom (run : CallRun) : Type 0 where
+  pub room : ℕ
+  pub is_room : LeavesRoom run.name run.texts run.running room
+  pub within : length run.change.input ≤ room
+
+-- It has more.
+pub record PassesRoom (run : CallRun) : Type 0 where
+  pub room : ℕ
+  pub is_room : LeavesRoom run.name run.texts run.running room
+  pub over : room < length run.change.input
+
 -- ---- what a call answers, of what the words say
 
 -- the words and what is held, of a command that only shows it, with what the replica says of itself
@@ -202,6 +248,11 @@ pub record AnswersObserveCall (run : CallRun) (reply : Reply) : Type 0 where
   pub fetched : Fetched
   pub says : SaysFetched run fetched
   pub answers : HasStreams (AnswersObserve run.change fetched) reply
+
+-- `merge`
+pub record AnswersMergeCall (run : CallRun) (reply : Reply) : Type 0 where
+  pub within : IsWithinRoom run
+  pub answers : HasStreams (AnswersMerge run.change) reply
 
 -- The record that the words say is held, and beside it stands what it changes where they have
 -- `--verbose`.
@@ -235,24 +286,34 @@ pub record AnswersStop (reply : Reply) : Type 0 where
 -- What is replied, by the command: the others show what is held.
 abbrev pub Answers : CommandName → CallRun → Reply → Type 0
 Answers command.Observe run reply = AnswersObserveCall run reply
-Answers command.Merge run reply = HasStreams (AnswersMerge run.change) reply
+Answers command.Merge run reply = AnswersMergeCall run reply
 Answers command.Distrust run reply = AnswersDistrust run reply
 Answers command.Stop run reply = AnswersStop reply
 Answers name run reply = AnswersShown run reply
 
 -- ---- how a call ends
 
--- How any command may end: a number of the words is none, or memory ran out.
-abbrev pub EndsAnyhow : Exit → Type 0
-EndsAnyhow (BadNumber option) = Unit {0}
-EndsAnyhow (Refused NoMemory) = Unit {0}
-EndsAnyhow exit = ⊥
+-- How any command may end: a number of the words is none of its range, or memory ran out.
+abbrev pub EndsAnyhow : CallRun → Exit → Type 0
+EndsAnyhow run (BadNumber option) = SaysNoManner run.name run.texts (unread.BadNumber option)
+EndsAnyhow run (Refused NoMemory) = Unit {0}
+EndsAnyhow run exit = ⊥
 
 -- A command that shows what is held ends over memory, with no output. No device failed.
 abbrev pub EndsShown : CallRun → Exit → Type 0
 EndsShown run (Refused Io) = ⊥
 EndsShown run exit =
     Gives (λ devices. RunsShown (shown_in run) devices (Err exit)) run.change.input []
+
+-- The same, or memory ran out.
+abbrev pub EndsOver : CallRun → Exit → Type 0
+EndsOver run exit = EndsAnyhow run exit ⊎ EndsShown run exit
+
+-- `merge` ends: the input has too many bytes; or it has not, and is refused.
+abbrev pub EndsMergeCall : CallRun → Exit → Type 0
+EndsMergeCall run TooManyBytes = PassesRoom run
+EndsMergeCall run (Refused e) = IsWithinRoom run × EndsMerge run.change (Refused e)
+EndsMergeCall run exit = ⊥
 
 -- `observe` ends, and nothing is observed
 pub record EndsObserveCall (run : CallRun) (exit : Exit) : Type 0 where
@@ -283,13 +344,13 @@ abbrev pub EndsFor : CommandName → CallRun → Exit → Type 0
 EndsFor command.Stop run exit = ⊥
 EndsFor command.Observe run exit = EndsAtDomain run.name run.texts exit
     ⊎ (SaysNoVerdict run.name run.texts exit ⊎ EndsObserveCall run exit)
-EndsFor command.Merge run exit = (exit ≡ TooManyBytes) ⊎ EndsMerge run.change exit
+EndsFor command.Merge run exit = EndsMergeCall run exit
 EndsFor command.Distrust run exit = EndsDistrustCall run exit
 EndsFor name run exit = EndsShown run exit
 
 -- How a command ends that is not done.
 abbrev pub Ends : CommandName → CallRun → Exit → Type 0
-Ends name run exit = EndsAnyhow exit ⊎ EndsFor name run exit
+Ends name run exit = EndsAnyhow run exit ⊎ EndsFor name run exit
 
 -- ---- a request
 
@@ -312,17 +373,45 @@ pub record RepliesAsCommand (words : List (List ℕ)) (running : RunningStatus) 
   pub call : CallsInRequest words name texts
   pub replied : RepliesToCall (call_run name texts running change) reply
 
--- `clap` says why it refuses the words, or shows what they ask for of its help and its version.
-abbrev pub ShowsText : Reply → Type 0
-ShowsText reply = IsWith reply [] reply.errors.items 2 ⊎ IsWith reply reply.output.items [] 0
+-- clap shows its help or its version
+abbrev pub is_help : ErrorKind → Bool
+is_help DisplayHelp = true
+is_help DisplayVersion = true
+is_help kind = false
 
--- That is replied, or that a subcommand or an option is missing.
-abbrev pub SaysOfWords : Reply → Type 0
-SaysOfWords reply = IsEnded reply Usage ⊎ ShowsText reply
+-- Help and the version are output, and end well; anything else of clap is a complaint, with
+-- status 2.
+abbrev pub RepliesByKind : (helps : Bool) → Reply → Type 0
+RepliesByKind true reply = IsWith reply reply.output.items [] 0
+RepliesByKind false reply = IsWith reply [] reply.errors.items 2
+
+-- Clap gives an error of this kind at these words, and that is replied.
+pub record ShowsText (words : List (List ℕ)) (reply : Reply) : Type 0 where
+  pub kind : ErrorKind
+  pub gives : IsAmong kind (fault_of the_command words)
+  pub replied : RepliesByKind (is_help kind) reply
+
+-- Clap takes the words, and they are not a call: a subcommand or an option is missing, or one
+-- stands there that names a place.
+pub record IsNoRequest (words : List (List ℕ)) : Type 0 where
+  pub taken : fault_of the_command words ≡ []
+  pub none : (name : CommandName) (texts : List (Option (List ℕ)))
+      → CallsInRequest words name texts → ⊥
+
+-- That is replied.
+abbrev pub SaysOfWords : List (List ℕ) → Reply → Type 0
+SaysOfWords words reply = (IsNoRequest words × IsEnded reply Usage) ⊎ ShowsText words reply
+
+-- the same, by the error of reading the words
+abbrev pub RepliesToError : WordsError → Reply → Type 0
+RepliesToError (no_call.Words error) reply = RepliesByKind (is_help (kind_of error)) reply
+RepliesToError no_call.Usage reply = IsEnded reply Usage
+RepliesToError no_call.NoMemory reply = ⊥
 
 -- The words are no call, and nothing has changed.
-pub record RepliesToWords (change : ChangeRun) (reply : Reply) : Type 0 where
-  pub replied : SaysOfWords reply
+pub record RepliesToWords (words : List (List ℕ)) (change : ChangeRun) (reply : Reply)
+    : Type 0 where
+  pub replied : SaysOfWords words reply
   pub held : IsAsHeld change.state
 
 -- What is replied to a line of words.
@@ -330,4 +419,4 @@ pub record RepliesTo (line : List ℕ) (running : RunningStatus) (change : Chang
     (reply : Reply) : Type 0 where
   pub words : List (List ℕ)
   pub says : SaysWords line words
-  pub replied : RepliesAsCommand words running change reply ⊎ RepliesToWords change reply
+  pub replied : RepliesAsCommand words running change reply ⊎ RepliesToWords words change reply

@@ -5,7 +5,9 @@ ghost use Rattle.local_answers.specs.Inside.AskedRun.{run_of_asked};
 ghost use Rattle.local_answers.specs.Journalling.{JournalsChange};
 ghost use Rattle.local_answers.specs.Replies.{RefusesWordsLine};
 ghost use Rattle.local_answers.specs.RequestRun.{Answers, Ends, RepliesTo, RepliesToCall};
-ghost use Rattle.local_answers.specs.RequestRun.{SaysOfWords, ShowsText, change_run};
+ghost use Rattle.local_answers.specs.RequestRun.{RepliesByKind, RepliesToError, bytes_of_files};
+ghost use Rattle.local_answers.specs.RequestRun.{change_run, is_help};
+ghost use Rattle.clap.specs.Words.{kind_of};
 ghost use Rattle.local_answers.specs.declared.request_fault.RequestFault.TheVariants.{NoMemory};
 
 use crate::asked::Asked;
@@ -73,7 +75,7 @@ pub(crate) fn texts_of_words(alloc: Global, words: &[String]) -> Result<Vec<&str
 
 // The words are none of a command, or ask for help or for the version.
 pub(crate) fn reply_by_words(alloc: Global, error: &WordsError) -> Result<Reply, AllocError>
-    ensures { IfOk result SaysOfWords }
+    ensures { IfOk result (RepliesToError error.now) }
 {
     match error {
         WordsError::Words(shown) => reply_of_clap(alloc, shown),
@@ -83,13 +85,13 @@ pub(crate) fn reply_by_words(alloc: Global, error: &WordsError) -> Result<Reply,
 }
 
 fn reply_of_clap(alloc: Global, shown: &clap::Error) -> Result<Reply, AllocError>
-    ensures { IfOk result ShowsText }
+    ensures { IfOk result (RepliesByKind (is_help (kind_of shown.now))) }
 {
     let text = format!(in alloc; "{shown}")?.into_bytes();
     if shown.use_stderr() {
         Reply::of_streams(alloc, 2, Vec::new(alloc), text)
     } else {
-        Reply::done(alloc, text)
+        Reply::of_streams(alloc, 0, text, Vec::new(alloc))
     }
 }
 
@@ -130,11 +132,18 @@ fn carry_out<C: Closure>(
     match asked.call.name {
         CommandName::Observe => observe(alloc, closure, asked),
         CommandName::Merge => {
-            let room = most_bytes.saturating_sub(asked.running.state_bytes());
+            let room = most_bytes.saturating_sub(bytes_of_files(asked.running));
             merge(alloc, closure, room, asked)
         }
         CommandName::Distrust => distrust(alloc, closure, asked),
         CommandName::Stop => stop(alloc, closure, asked),
         _ => shown(alloc, closure, asked),
     }
+}
+
+// How many bytes both files of the replica have, as far as 64 bits tell.
+fn bytes_of_files(running: &RunningStatus<'_>) -> u64
+    ensures { result ≡ bytes_of_files running.now }
+{
+    running.snapshot_bytes.saturating_add(running.journal_bytes)
 }

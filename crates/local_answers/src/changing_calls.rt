@@ -1,11 +1,11 @@
 //! The commands that change what is held, by what the words say.
-ghost use Rattle.std.specs.Prelude.{◌≡◌, ◌<◌, ◌≤◌, IfErr, IfOk, OnErr, OnOk, length};
+ghost use Rattle.std.specs.Prelude.{◌≡◌, ◌↔◌, ◌≤◌, IfErr, IfOk, IsTrue, OnErr, length};
 ghost use Rattle.fedbundle.specs.CommandRun.{state_run};
 ghost use Rattle.command_line.specs.declared.command_name.CommandName.TheVariants as command;
-ghost use Rattle.fedbundle.specs.declared.exits.Exit.TheVariants.{TooManyBytes};
 ghost use Rattle.local_answers.specs.Inside.AskedRun.{run_of_asked};
 ghost use Rattle.local_answers.specs.Journalling.{JournalsChange};
-ghost use Rattle.local_answers.specs.RequestRun.{Answers, Ends};
+ghost use Rattle.fedbundle.specs.SaidValues.{texts_of_call};
+ghost use Rattle.local_answers.specs.RequestRun.{Answers, Ends, LeavesRoom};
 
 use crate::asked::Asked;
 use crate::changing_replies;
@@ -43,6 +43,8 @@ pub(crate) fn merge<C: Closure>(
     room: u64,
     asked: Asked<'_, '_, '_>,
 ) -> Result<Reply, Exit>
+    requires { LeavesRoom asked.call.now.name (texts_of_call asked.call.now) asked.running.now
+        room }
     ensures answers { IfOk result (Answers command.Merge
         (run_of_asked asked.entry (state_run (C.state closure.old) (C.state closure.new)))) }
     ensures ends { IfErr result (Ends command.Merge
@@ -51,14 +53,18 @@ pub(crate) fn merge<C: Closure>(
         (state_run (C.state closure.old) (C.state closure.new))) }
     ensures unchanged { OnErr result
         ((C.state closure.new).meaning ≡ (C.state closure.old).meaning) }
-    ensures within { OnOk result (length asked.entry.input.now ≤ room) }
-    ensures over { IfErr result
-        (λ exit. exit ≡ TooManyBytes → room < length asked.entry.input.now) }
 {
-    if asked.input.len() as u64 > room {
-        return Err(Exit::TooManyBytes);
+    if is_within(asked.input, room) {
+        changing_replies::merge(alloc, closure, asked.input)
+    } else {
+        Err(Exit::TooManyBytes)
     }
-    changing_replies::merge(alloc, closure, asked.input)
+}
+
+fn is_within(input: &[u8], room: u64) -> bool
+    ensures { IsTrue result ↔ (length input.now ≤ room) }
+{
+    input.len() as u64 <= room
 }
 
 pub(crate) fn distrust<C: Closure>(

@@ -7,6 +7,7 @@ ghost use Rattle.local_answers.specs.Journalling.{JournalsChange};
 ghost use Rattle.local_answers.specs.RequestRun.{AnswersMerge, AnswersObserve, EndsDistrust};
 ghost use Rattle.local_answers.specs.RequestRun.{EndsMerge, EndsObserve, HasStreams};
 ghost use Rattle.local_answers.specs.RequestRun.{SaysDistrusted, SaysEffect, change_run};
+ghost use Rattle.local_answers.specs.RequestRun.{exit_of_unread};
 
 use crate::new_lines::{line_of_receipt, line_of_record, lines_of_other};
 use crate::reply::Reply;
@@ -16,7 +17,7 @@ use byte_lines::{FromRead, FromWrite};
 use closure_core::Closure;
 use fedbundle::{CommandError, Exit, prepare_observe, run_distrust, show_distrust, write_counted};
 use receipt_core::Distrust;
-use replica_sync::read_snapshot;
+use replica_sync::{SyncError, read_snapshot};
 use spiffe_name::TrustDomain;
 use std::alloc::{AllocError, Global};
 
@@ -63,7 +64,7 @@ pub(crate) fn merge<C: Closure>(alloc: Global, closure: &mut C, input: &[u8]) ->
     let mut source = FromRead::new(input);
     let other: C = match read_snapshot(alloc, closure.config(), &mut source) {
         Ok(other) => other,
-        Err(why) => return Err(Exit::Refused(CommandError::Sync(why))),
+        Err(why) => return Err(unread(why)),
     };
     let new = lines_of_other(alloc, closure, &other)?;
     let mut reply = Reply::done(alloc, count_line(alloc, new.receipts)?)?;
@@ -73,6 +74,16 @@ pub(crate) fn merge<C: Closure>(alloc: Global, closure: &mut C, input: &[u8]) ->
             Ok(reply)
         }
         Err(why) => Err(Exit::Refused(CommandError::Take(why))),
+    }
+}
+
+// The input is not a snapshot, or memory ran out. Bytes in memory never fail to be read.
+fn unread(why: SyncError) -> Exit
+    ensures { result ≡ exit_of_unread why }
+{
+    match why {
+        SyncError::Io => Exit::Refused(CommandError::NoMemory),
+        why => Exit::Refused(CommandError::Sync(why)),
     }
 }
 
@@ -101,7 +112,7 @@ pub(crate) fn distrust<C: Closure>(
 {
     // What is lent tells the form of what is held.
     let _config = closure.config();
-    let errors = said_of(alloc, closure, record, is_verbose);
+    let errors = said_of(alloc, closure, record, is_verbose)?;
     let journal = line_of_record(alloc, closure, record)?;
     let mut reply = Reply::of_streams(alloc, 0, Vec::new(alloc), errors)?;
     run_distrust(closure, &record.domain, record.key)?;
@@ -109,22 +120,37 @@ pub(crate) fn distrust<C: Closure>(
     Ok(reply)
 }
 
-// What the record changes, where that is asked for, as far as there is memory for it.
-fn said_of<C: Closure>(alloc: Global, closure: &C, record: &Distrust, is_verbose: bool) -> Vec<u8>
-    ensures { SaysEffect (C.state closure.now).meaning record.now is_verbose result.items }
+// What the record changes, if that is asked for.
+fn said_of<C: Closure>(
+    alloc: Global,
+    closure: &C,
+    record: &Distrust,
+    is_verbose: bool,
+) -> Result<Vec<u8>, AllocError>
+    ensures { IfOk result (λ errors.
+        SaysEffect (C.state closure.now).meaning record.now is_verbose errors.items) }
 {
     if is_verbose {
         effect_of(alloc, closure, record)
     } else {
-        Vec::new(alloc)
+        Ok(Vec::new(alloc))
     }
 }
 
-fn effect_of<C: Closure>(alloc: Global, closure: &C, record: &Distrust) -> Vec<u8>
-    ensures { SaysEffect (C.state closure.now).meaning record.now true result.items }
+fn effect_of<C: Closure>(
+    alloc: Global,
+    closure: &C,
+    record: &Distrust,
+) -> Result<Vec<u8>, AllocError>
+    ensures { IfOk result (λ errors.
+        SaysEffect (C.state closure.now).meaning record.now true errors.items) }
 {
+    let unsaid = Vec::from_slice(alloc, b"fedbundle: no memory to say what changes\n")?;
     let mut errors = FromWrite::new(Vec::new(alloc));
-    // That it cannot be said keeps no key from being distrusted.
-    let _ = show_distrust(alloc, closure, record, &mut errors);
-    errors.into_inner()
+    match show_distrust(alloc, closure, record, &mut errors) {
+        Ok(()) => Ok(errors.into_inner()),
+        // That it cannot be said keeps no key from being distrusted. A record that is refused is
+        // refused again when it is made.
+        Err(_) => Ok(unsaid),
+    }
 }

@@ -1,11 +1,11 @@
 //! The commands that show what is held, over memory: their source has the input, and their sink is
 //! a text, whose growth is all that can fail. Beside them `stop`, which does nothing but end.
-ghost use Rattle.std.specs.Prelude.{◌≡◌, ◌⊎◌, [], IfErr, IfOk};
+ghost use Rattle.std.specs.Prelude.{◌≡◌, [], IfErr, IfOk};
 ghost use Rattle.fedbundle.specs.CommandRun.{state_run};
 ghost use Rattle.command_line.specs.declared.command_name.CommandName.TheVariants as command;
 ghost use Rattle.local_answers.specs.Inside.AskedRun.{run_of_asked};
-ghost use Rattle.local_answers.specs.RequestRun.{Answers, AnswersShown, Ends, EndsAnyhow};
-ghost use Rattle.local_answers.specs.RequestRun.{EndsShown, exit_over_memory, memory_exit};
+ghost use Rattle.local_answers.specs.RequestRun.{Answers, AnswersShown, Ends, EndsOver};
+ghost use Rattle.local_answers.specs.RequestRun.{exit_over_memory, memory_exit};
 
 use crate::asked::Asked;
 use crate::reply::Reply;
@@ -21,8 +21,8 @@ pub(crate) fn shown<C: Closure>(
 ) -> Result<Reply, Exit>
     ensures answers { IfOk result (AnswersShown
         (run_of_asked asked.entry (state_run (C.state closure.now) (C.state closure.now)))) }
-    ensures ends { IfErr result (λ exit. EndsAnyhow exit ⊎ EndsShown
-        (run_of_asked asked.entry (state_run (C.state closure.now) (C.state closure.now))) exit) }
+    ensures ends { IfErr result (EndsOver
+        (run_of_asked asked.entry (state_run (C.state closure.now) (C.state closure.now)))) }
     ensures unjournalled { IfOk result (λ reply. reply.journal.items ≡ []) }
 {
     let shown = Shown {

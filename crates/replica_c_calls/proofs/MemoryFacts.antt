@@ -1,6 +1,6 @@
 -- Bytes in memory never fail to be read
-use Rattle.std.proofs.Common.{◌≡◌, ◌||◌, ◌==◌, ℕ, zero, suc, ◌<◌, Bool, false, true, List, length, Option, Some, Result, Ok, Err}
-use Rattle.std.proofs.Common.{MatchResult, inl, inr, refl, ap, arith, rules, ◌∙◌}
+use Rattle.std.proofs.Common.{◌≡◌, ◌||◌, ◌==◌, ℕ, zero, suc, ◌<◌, Bool, false, List, length}
+use Rattle.std.proofs.Common.{Some, Result, Ok, Err, MatchResult, inl, inr, refl, ap, arith, rules, ◌∙◌}
 use Rattle.std.proofs.lemmas.Bool.{both_ways}
 use Rattle.fed_config.specs.Configuration.{Configuration}
 use Rattle.fed_config.specs.Reading.{IsConfig}

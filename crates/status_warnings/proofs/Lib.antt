@@ -1,1 +1,2 @@
+mod PartFacts
 mod WarningFacts

@@ -12,14 +12,16 @@ use Rattle.status_view.specs.Running.{running_lines, running_members, running_me
 use Rattle.status_view.specs.StatusLines.{status_lines}
 use Rattle.status_view.specs.StatusJson.{status_members}
 use Rattle.status_view.specs.StatusMetrics.{status_metrics}
+use Rattle.status_warnings.specs.declared.seen.CertificateEnd.{CertificateEnd}
 use Rattle.status_warnings.specs.declared.seen.Fetch.{Fetch}
 use Rattle.status_warnings.specs.declared.seen.WarnLimits.{WarnLimits}
 use Rattle.status_warnings.specs.declared.seen.Watch.{Watch}
 use Rattle.status_warnings.specs.declared.warning_kinds.Warning.{Warning}
+use Rattle.status_warnings.specs.CertificateEnds.{AreAllEnds}
 use Rattle.status_warnings.specs.Warnings.{Sight, warnings_of}
 use Rattle.status_warnings.specs.WarningLines.{lines_of_warnings}
 use Rattle.status_warnings.specs.WarningJson.{warning_member}
-use Rattle.status_warnings.specs.WarningMetrics.{warning_gauge}
+use Rattle.status_warnings.specs.WarningMetrics.{certificate_gauge, warning_gauge}
 
 -- ---- what is known beside what is held
 
@@ -45,17 +47,17 @@ abbrev pub began_of : Option RunningStatus → ℕ
 began_of None = 0
 began_of (Some r) = r.began
 
-abbrev pub sight_with : Watching → Status → Sight
-sight_with w s = record {
+abbrev pub sight_with : Watching → Status → List CertificateEnd → Sight
+sight_with w s certificates = record {
   status = s;
-  certificates = [];
+  certificates = certificates;
   fetches = w.fetches;
   peers = peers_of w.running;
   began = began_of w.running;
 }
 
-abbrev pub found_in : Watching → Status → List Warning
-found_in w s = warnings_of w.limits (sight_with w s)
+abbrev pub found_in : Watching → Status → List CertificateEnd → List Warning
+found_in w s certificates = warnings_of w.limits (sight_with w s certificates)
 
 -- ---- the texts: what was written without warnings stands first
 
@@ -80,18 +82,26 @@ warned_json running s warnings = codes "{"
     ++ (status_members s
     ++ (members_of_running running ++ (warning_member warnings ++ codes "}\n")))
 
-abbrev pub warned_metrics : Option RunningStatus → Status → List Warning → List ℕ
-warned_metrics running s warnings =
-    status_metrics s ++ (metrics_of_running running ++ warning_gauge warnings)
+abbrev pub warned_metrics : Option RunningStatus → Sight → List Warning → List ℕ
+warned_metrics running sight warnings = status_metrics sight.status
+    ++ (metrics_of_running running
+    ++ (certificate_gauge sight.certificates ++ warning_gauge warnings))
 
-abbrev pub warned_text : StatusFormat → Option RunningStatus → Status → List Warning → List ℕ
-warned_text Text running s warnings = warned_lines running s warnings
-warned_text Json running s warnings = warned_json running s warnings
-warned_text Prometheus running s warnings = warned_metrics running s warnings
+abbrev pub warned_text : StatusFormat → Option RunningStatus → Sight → List Warning → List ℕ
+warned_text Text running sight warnings = warned_lines running sight.status warnings
+warned_text Json running sight warnings = warned_json running sight.status warnings
+warned_text Prometheus running sight warnings = warned_metrics running sight warnings
+
+-- the text of what is seen, and of what is found in that
+abbrev pub seen_text : StatusFormat → Watching → Status → List CertificateEnd → List ℕ
+seen_text format w s certificates =
+    warned_text format w.running (sight_with w s certificates) (found_in w s certificates)
 
 -- the text of how the replica stands
 pub record IsWarnedStatusIn (m : Meaning) (w : Watching) (format : StatusFormat)
     (text : List ℕ) : Type 0 where
   pub status : Status
   pub is_status : IsStatus m status
-  pub is : text ≡ warned_text format w.running status (found_in w status)
+  pub certificates : List CertificateEnd
+  pub are_ends : AreAllEnds m certificates
+  pub is : text ≡ seen_text format w status certificates

@@ -4,33 +4,35 @@ ghost use Rattle.status_warnings.specs.WarnedStatus.{began_of, lines_of_running}
 ghost use Rattle.status_warnings.specs.WarnedStatus.{members_of_running, metrics_of_running};
 ghost use Rattle.status_warnings.specs.WarnedStatus.{peers_of, warned_json, warned_lines};
 ghost use Rattle.status_warnings.specs.WarnedStatus.{warned_metrics, warned_text};
+ghost use Rattle.status_warnings.specs.Warnings.{sight_of};
 
+use crate::seen::Seen;
 use crate::warning_json::push_warning_member;
 use crate::warning_kinds::Warning;
 use crate::warning_lines::push_warning_lines;
-use crate::warning_metrics::push_warning_metrics;
+use crate::warning_metrics::{push_certificate_metrics, push_warning_metrics};
 use status_view::{
     PeerStatus, RunningStatus, Status, StatusFormat, push_running_lines, push_running_members,
     push_running_metrics, push_status_members, status_lines, status_metrics,
 };
 use std::alloc::{AllocError, Global};
 
-/// The text of the status in this format, then what a running replica says of itself, and then the
-/// warnings.
+/// The text of the status in this format, then what a running replica says of itself, then the
+/// certificates where the format is that of metrics, and then the warnings.
 pub(crate) fn warned_text(
     alloc: Global,
     running: Option<&RunningStatus<'_>>,
-    status: &Status,
+    seen: &Seen<'_>,
     warnings: &[Warning],
     format: StatusFormat,
 ) -> Result<Vec<u8>, AllocError>
     ensures { IfOk result (λ text. text.items ≡ warned_text format
-        (option_map (λ r. r.now) running.entry) status.now warnings.now) }
+        (option_map (λ r. r.now) running.entry) (sight_of seen.now) warnings.now) }
 {
     match format {
-        StatusFormat::Text => warned_lines(alloc, running, status, warnings),
-        StatusFormat::Json => warned_json(alloc, running, status, warnings),
-        StatusFormat::Prometheus => warned_metrics(alloc, running, status, warnings),
+        StatusFormat::Text => warned_lines(alloc, running, seen.status, warnings),
+        StatusFormat::Json => warned_json(alloc, running, seen.status, warnings),
+        StatusFormat::Prometheus => warned_metrics(alloc, running, seen, warnings),
     }
 }
 
@@ -96,14 +98,15 @@ fn push_members_of_running(
 fn warned_metrics(
     alloc: Global,
     running: Option<&RunningStatus<'_>>,
-    status: &Status,
+    seen: &Seen<'_>,
     warnings: &[Warning],
 ) -> Result<Vec<u8>, AllocError>
     ensures { IfOk result (λ text. text.items ≡ warned_metrics
-        (option_map (λ r. r.now) running.entry) status.now warnings.now) }
+        (option_map (λ r. r.now) running.entry) (sight_of seen.now) warnings.now) }
 {
-    let mut out = status_metrics(alloc, status)?;
+    let mut out = status_metrics(alloc, seen.status)?;
     push_metrics_of_running(&mut out, running)?;
+    push_certificate_metrics(&mut out, seen.certificates)?;
     push_warning_metrics(&mut out, warnings)?;
     Ok(out)
 }

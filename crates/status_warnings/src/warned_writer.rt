@@ -4,11 +4,11 @@ ghost use Rattle.byte_lines.specs.Device.{is_source_fault};
 ghost use Rattle.byte_lines.specs.declared.error.DeviceError.TheVariants.{Io, NoMemory};
 ghost use Rattle.text_lines.specs.TextLines.{BeginsSome, WritesSome};
 ghost use Rattle.status_view.specs.StatusRuns.{IsWarned};
-ghost use Rattle.status_warnings.specs.WarnedStatus.{IsWarnedStatusIn, found_in, watching_of};
+ghost use Rattle.status_warnings.specs.WarnedStatus.{IsWarnedStatusIn, seen_text, watching_of};
 
-use crate::seen::{Seen, Watch};
+use crate::certificates::certificate_ends;
+use crate::seen::{CertificateEnd, Seen, Watch};
 use crate::warned_text::{began_of, peers_of, warned_text};
-use crate::warning_kinds::Warning;
 use crate::warning_search::find_warnings;
 use byte_lines::{DeviceError, Sink, write_all};
 use closure_core::Closure;
@@ -42,22 +42,30 @@ pub fn write_warned_status<C: Closure, W: Sink>(
     ensures fault { W.has_failed sink.new ≡ (is_source_fault result || W.has_failed sink.old) }
 {
     let status = read_status(alloc, closure)?;
-    let warnings = found_in(alloc, watch, &status)?;
-    let text = warned_text(alloc, watch.running, &status, warnings.as_slice(), format)?;
+    let certificates = certificate_ends(alloc, closure)?;
+    let text = seen_text(alloc, watch, &status, certificates.as_slice(), format)?;
     write_all(sink, text.as_slice())?;
     Ok(has_warning(&status))
 }
 
-fn found_in(alloc: Global, watch: &Watch<'_>, status: &Status) -> Result<Vec<Warning>, AllocError>
-    ensures { IfOk result (λ warnings. warnings.items
-        ≡ found_in (watching_of watch.now) status.now) }
+fn seen_text(
+    alloc: Global,
+    watch: &Watch<'_>,
+    status: &Status,
+    certificates: &[CertificateEnd],
+    format: StatusFormat,
+) -> Result<Vec<u8>, AllocError>
+    ensures { IfOk result (λ text. text.items
+        ≡ seen_text format (watching_of watch.now) status.now certificates.now) }
 {
     let seen = Seen {
         status,
-        certificates: &[],
+        certificates,
         fetches: watch.fetches,
         peers: peers_of(watch.running),
         began: began_of(watch.running),
     };
-    find_warnings(alloc, &watch.limits, &seen)
+    let warnings = find_warnings(alloc, &watch.limits, &seen)?;
+    let text = warned_text(alloc, watch.running, &seen, warnings.as_slice(), format)?;
+    Ok(text)
 }

@@ -1,6 +1,6 @@
 // The subcommands that show what a state file holds, and write no file: they take no lock. The
 // replica is made and given back in one place, and each command only borrows it.
-use crate::commands::{diff, graph, list, migrate, reseed};
+use crate::commands::{diff, distrust, graph, list, migrate, reseed};
 use crate::state_access::{leave, load, state_access_of};
 use crate::streams::{input, output};
 use fed_config::Config;
@@ -28,6 +28,11 @@ fn show_of(
         CommandName::Graph => graph::run(rt, closure, call),
         CommandName::Migrate => migrate::run(rt, closure, call),
         CommandName::Reseed => reseed::run(rt, closure, call),
+        CommandName::Distrust => {
+            let status = show_as_replica(rt, closure, call)?;
+            distrust::show_same_keys(rt, closure, call)?;
+            Ok(status)
+        }
         _ => show_as_replica(rt, closure, call),
     }
 }

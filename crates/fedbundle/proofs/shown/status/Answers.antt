@@ -1,6 +1,10 @@
-use Rattle.std.proofs.Common.{Err, Ok, inl, inr, refl, ap, ◌∙◌}
+use Rattle.std.proofs.Common.{Err, Ok, inl, inr, refl, ap, rules, ◌∙◌}
+use Rattle.std.specs.Int.{w64}
+use Rattle.std.proofs.lemmas.Int.{to_z-of_z}
 use Rattle.std.proofs.lemmas.Result.{err_from_is_err_and}
-use Rattle.fedbundle.proofs.ShownCallFacts.{byte_of_warning, refused_words}
+use Rattle.fedbundle.specs.CommandRun.{device_run}
+use Rattle.fedbundle.specs.Shown.{shown_call, usual_limits}
+use Rattle.fedbundle.proofs.ShownCallFacts.{byte_of_warning, refused_words, status_as}
 use Rattle.fedbundle.proofs.shown.status.Goals as goal
 
 pub returns-in_err-format : goal.returns-in_err-format
@@ -16,7 +20,10 @@ returns-in_err-is_warned g c =
       format = c.in_ok-format.format;
       is_format = rw c.given.ensures at c.in_ok-format.ensures.ok;
       answer = Err c.in_err-is_warned.field-0.0;
-      runs = c.in_err-is_warned.ensures.runs;
+      runs = status_as (shown_call c.args.shown (g.C.Closure.state c.args.closure.now).meaning) c.in_ok-format.format
+          (device_run g.W.Sink.contents g.W.Sink.has_failed c.args.sink.now c.status_in.new.sink)
+          (Err c.in_err-is_warned.field-0.0) _
+          (c.usual_limits.ensures ∙ ap usual_limits (to_z-of_z w64 c.args.shown.moment (search rules))) c.in_err-is_warned.ensures.runs;
       warned = tt;
       is = refl;
     }))
@@ -26,7 +33,10 @@ returns g c = inr (record {
   format = c.in_ok-format.format;
   is_format = rw c.given.ensures at c.in_ok-format.ensures.ok;
   answer = Ok c.in_ok-is_warned.is_warned;
-  runs = c.in_ok-is_warned.ensures.runs;
+  runs = status_as (shown_call c.args.shown (g.C.Closure.state c.args.closure.now).meaning) c.in_ok-format.format
+      (device_run g.W.Sink.contents g.W.Sink.has_failed c.args.sink.now c.status_in.new.sink)
+      (Ok c.in_ok-is_warned.is_warned) _
+      (c.usual_limits.ensures ∙ ap usual_limits (to_z-of_z w64 c.args.shown.moment (search rules))) c.in_ok-is_warned.ensures.runs;
   warned = c.in_ok-is_warned.ensures.warned;
   is = ap Ok (c.from.ensures ∙ byte_of_warning c.in_ok-is_warned.is_warned);
 })

@@ -5,4 +5,4 @@ use Rattle.key_view.proofs.keys_writer.keys_lines.Given as goal
 abbrev pub invariant-loop-keys : goal.invariant-loop-keys
 invariant-loop-keys l =
     l.text.items ++ flat_map (domain_lines (option_copied l.fn.chosen)) (drop l.keys-index l.all) ≡ flat_map (domain_lines
-      (option_copied l.fn.chosen)) l.all
+    (option_copied l.fn.chosen)) l.all

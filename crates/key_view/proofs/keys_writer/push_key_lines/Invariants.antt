@@ -5,4 +5,4 @@ use Rattle.key_view.proofs.keys_writer.push_key_lines.Given as goal
 abbrev pub invariant-loop-entry : goal.invariant-loop-entry
 invariant-loop-entry l =
     l.out.items ++ flat_map (known_key_line l.domain l.keys) (drop l.entry-index l.keys) ≡ l.fn.out.items ++ flat_map
-      (known_key_line l.domain l.keys) l.keys
+    (known_key_line l.domain l.keys) l.keys

@@ -5,4 +5,4 @@ use Rattle.key_view.proofs.keys_writer.push_same_among.Given as goal
 abbrev pub invariant-loop-entry : goal.invariant-loop-entry
 invariant-loop-entry l =
     l.out.items ++ flat_map (same_key_lines l.domain l.keys) (drop l.entry-index l.keys) ≡ l.fn.out.items ++ flat_map
-      (same_key_lines l.domain l.keys) l.keys
+    (same_key_lines l.domain l.keys) l.keys

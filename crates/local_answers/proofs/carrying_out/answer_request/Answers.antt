@@ -2,10 +2,10 @@ use Rattle.std.proofs.Common.{◌∙◌, ℕ, List, ap, inr, map, refl, subst}
 use Rattle.std.proofs.lemmas.Result.{err_from_is_err_and}
 use Rattle.std.specs.Prelude.{string_bytes}
 use Rattle.fedbundle.specs.CommandRun.{state_run}
-use Rattle.command_line.specs.Words.{CallsInRequest}
+use Rattle.command_line.specs.Words.{CallsInRequest, RefusesWords}
 use Rattle.fedbundle.specs.SaidValues.{texts_of_call}
 use Rattle.local_answers.specs.RequestRun.{CallRun, call_run, change_run}
-use Rattle.local_answers.proofs.ChangingFacts.{lacks_memory, line_called, result_lacks_memory, words_unjournalled}
+use Rattle.local_answers.proofs.ChangingFacts.{error_unjournalled, lacks_memory, line_called, result_lacks_memory, said_of_words}
 use Rattle.local_answers.proofs.RequestFacts.{same_journalled}
 use Rattle.local_answers.proofs.carrying_out.answer_request.Goals as goal
 
@@ -39,13 +39,22 @@ returns-in_err-reply_by_words-in-Err-clause-fault g c =
     rw exit.1 (lacks_memory _ _ exit.2)
 
 pub returns-clause-answers : goal.returns-clause-answers
-returns-clause-answers g c = record {
-  words = map string_bytes c.in_ok-words.words.items;
-  says = c.in_ok-words.ensures;
-  replied = inr (record { replied = c.in_ok-reply_by_words-in-Err.ensures; held = refl });
-}
+returns-clause-answers g c =
+    let words = map string_bytes c.in_ok-words.words.items in
+    let spelt = map (λ w. w.now) c.as_slice-2.result.now in
+    record {
+      words = words;
+      says = c.in_ok-words.ensures;
+      replied = inr (record {
+        replied = said_of_words (λ e. RefusesWords _ spelt e) spelt words c.in-Err.error c.in_ok-reply_by_words-in-Err.field-0
+            (ap (map (λ w. w.now)) c.as_slice-2.ensures.value ∙ c.in_ok-texts.ensures ∙ ap (map string_bytes) c.as_slice.ensures.value)
+            (λ e at_fault. at_fault) (λ none. record { taken = none.taken; none = λ name texts calls. none.none name texts calls })
+            c.in-Err.ensures c.in_ok-reply_by_words-in-Err.ensures;
+        held = refl;
+      });
+    }
 
 pub returns-clause-journals : goal.returns-clause-journals
 returns-clause-journals g c =
     let state = g.C.Closure.state c.args.closure.now in
-    same_journalled state state _ (words_unjournalled _ c.in_ok-reply_by_words-in-Err.ensures) refl
+    same_journalled state state _ (error_unjournalled _ _ c.in_ok-reply_by_words-in-Err.ensures) refl

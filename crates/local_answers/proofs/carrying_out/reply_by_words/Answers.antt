@@ -1,8 +1,10 @@
-use Rattle.local_answers.proofs.ChangingFacts.{ended_by_usage, shown_by_clap}
+use Rattle.std.proofs.Common.{IfOk, subst, sym}
+use Rattle.command_line.specs.declared.words.WordsError.{WordsError}
+use Rattle.local_answers.specs.RequestRun.{RepliesToError}
 use Rattle.local_answers.proofs.carrying_out.reply_by_words.Goals as goal
 
 pub returns-in-Words : goal.returns-in-Words
-returns-in-Words c = shown_by_clap c.reply_of_clap.result c.reply_of_clap.ensures
+returns-in-Words c = subst (λ (e : WordsError). IfOk c.reply_of_clap.result (RepliesToError e)) (sym c.in-Words.is) c.reply_of_clap.ensures
 
 pub returns-in-Usage : goal.returns-in-Usage
-returns-in-Usage c = ended_by_usage c.ended.result c.ended.ensures
+returns-in-Usage c = subst (λ (e : WordsError). IfOk c.ended.result (RepliesToError e)) (sym c.in-Usage.is) c.ended.ensures

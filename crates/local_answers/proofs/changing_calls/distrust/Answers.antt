@@ -14,7 +14,9 @@ returns-then-is_flag_given-clause-answers g c =
 
 pub returns-then-is_flag_given-clause-ends : goal.returns-then-is_flag_given-clause-ends
 returns-then-is_flag_given-clause-ends g c =
-    dry_run_ends _ c.shown.result (flag_said _ _ _ true c.given.ensures c.is_flag_given.ensures c.if-is_flag_given.true) c.shown.ensures.ends
+    let state = g.C.Closure.state c.args.closure.now in
+    let run : CallRun = run_of_asked c.args.asked (state_run state state) in
+    dry_run_ends run c.shown.result (flag_said _ _ _ true c.given.ensures c.is_flag_given.ensures c.if-is_flag_given.true) c.shown.ensures.ends
 
 pub returns-then-is_flag_given-clause-journals : goal.returns-then-is_flag_given-clause-journals
 returns-then-is_flag_given-clause-journals g c =

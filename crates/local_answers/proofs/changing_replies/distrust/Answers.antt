@@ -13,8 +13,8 @@ pub returns-clause-answers : goal.returns-clause-answers
 returns-clause-answers g c =
     let with = silent _ _ _ _ c.new.ensures.items c.in_ok-reply.ensures in
     record {
-      errors = c.said_of-errors.result.items;
-      said = c.said_of-errors.ensures;
+      errors = c.in_ok-errors.errors.items;
+      said = c.in_ok-errors.ensures;
       held = c.in_ok-run_distrust.ensures;
       head = with.head;
       output = with.output;

@@ -1,7 +1,8 @@
-use Rattle.std.proofs.Common.{◌≡◌, ℕ, Some, ap, subst}
+use Rattle.std.proofs.Common.{◌≡◌, ℕ, Some, ap, subst, sym}
 use Rattle.fed_config.specs.Configuration.{Configuration}
 use Rattle.replica_texts.specs.Snapshots.{IsSnapshot, RefusesSnapshot}
-use Rattle.fedbundle.specs.CommandRun.{DeviceRun}
+use Rattle.fedbundle.specs.CommandRun.{DeviceRun, state_run}
+use Rattle.local_answers.specs.RequestRun.{EndsMerge, change_run}
 use Rattle.local_answers.proofs.ChangingFacts.{source_failed}
 use Rattle.local_answers.proofs.RequestFacts.{merge_journals, merge_taken, merge_unread, merge_untaken}
 use Rattle.local_answers.proofs.changing_replies.merge.Goals as goal
@@ -15,9 +16,11 @@ returns-in-Err-clause-ends g c =
       had_failed = c.new-source.result.failed;
       has_failed = c.read_snapshot.new.source.failed;
     } in
-    merge_unread (g.C.Closure.state c.args.closure.now) source c.args.input.now c.in-Err.why (ap Some before)
+    let old = g.C.Closure.state c.args.closure.now in
+    subst (EndsMerge (change_run (state_run old old) c.args.input.now)) (sym c.unread.ensures)
+    (merge_unread old source c.args.input.now c.in-Err.why (ap Some before)
     (subst (λ (k : Configuration). RefusesSnapshot k source.before c.in-Err.why) c.config.ensures.config c.in-Err.ensures.refused)
-    (source_failed ℕ c.in-Err.why _ _ c.in-Err.ensures.fault)
+    (source_failed ℕ c.in-Err.why _ _ c.in-Err.ensures.fault))
 
 pub returns-in-Ok-merge-clause-answers : goal.returns-in-Ok-merge-clause-answers
 returns-in-Ok-merge-clause-answers g c =

@@ -1,5 +1,6 @@
 use Rattle.std.proofs.Common.{◌∙◌, ap, inl, inr, refl, subst, sym}
 use Rattle.std.proofs.lemmas.Result.{err_from_is_err_and}
+use Rattle.command_line.specs.OptionTexts.{SaysNoManner}
 use Rattle.fedbundle.specs.CommandRun.{state_run}
 use Rattle.fedbundle.specs.Exits.{exit_of_option}
 use Rattle.local_answers.specs.Inside.AskedRun.{run_of_asked}
@@ -12,7 +13,9 @@ pub returns-in_err-_manner-clause-ends : goal.returns-in_err-_manner-clause-ends
 returns-in_err-_manner-clause-ends g c =
     let exit = err_from_is_err_and c.from_residual.result c.from_residual.ensures.1 in
     let refused = c.in_err-_manner.ensures.refused in
-    rw (exit.1, exit.2) (inl (subst EndsAnyhow (sym (ap exit_of_option refused.1)) tt))
+    let run : CallRun = run_of_asked c.args.asked (state_run (g.C.Closure.state c.args.closure.now) (g.C.Closure.state c.args.closure.now)) in
+    rw (exit.1, exit.2) (inl (subst (EndsAnyhow run) (sym (ap exit_of_option refused.1))
+    (subst (SaysNoManner run.name run.texts) refused.1 c.in_err-_manner.ensures.none)))
 
 pub returns-then-is_change-clause-ends : goal.returns-then-is_change-clause-ends
 returns-then-is_change-clause-ends g c = inr (inl (record {

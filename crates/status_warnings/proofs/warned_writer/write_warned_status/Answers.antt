@@ -1,7 +1,7 @@
 use Rattle.std.proofs.Common.{◌∙◌, ap, rules, subst}
 use Rattle.std.specs.Io.KnownBytes.{Appends}
 use Rattle.byte_lines.specs.Device.{AppendsBeginning}
-use Rattle.status_warnings.specs.WarnedStatus.{warned_text, watching_of}
+use Rattle.status_warnings.specs.WarnedStatus.{seen_text, watching_of}
 use Rattle.status_warnings.proofs.warned_writer.write_warned_status.Goals as goal
 
 pub returns-in_err-write_all-clause-io : goal.returns-in_err-write_all-clause-io
@@ -12,9 +12,10 @@ returns-in_err-write_all-clause-io g c = λ _. (
     is = record {
       status = c.in_ok-status.status;
       is_status = c.in_ok-status.ensures;
+      certificates = c.in_ok-certificates.certificates.items;
+      are_ends = c.in_ok-certificates.ensures;
       is = c.in_ok-text.ensures
-          ∙ ap (λ w. warned_text c.args.format (watching_of c.args.watch.now).running c.in_ok-status.status w)
-          (c.as_slice.ensures.value ∙ c.in_ok-warnings.ensures);
+          ∙ ap (seen_text c.args.format (watching_of c.args.watch.now) c.in_ok-status.status) c.as_slice.ensures.value;
     };
     begun = subst (AppendsBeginning (g.W.Sink.contents c.args.sink.now) (g.W.Sink.contents c.write_all.new.sink)) c.as_slice-2.ensures.value
         c.in_err-write_all.ensures.beginning;
@@ -27,9 +28,10 @@ returns-clause-ok g c = record {
   is = record {
     status = c.in_ok-status.status;
     is_status = c.in_ok-status.ensures;
+    certificates = c.in_ok-certificates.certificates.items;
+    are_ends = c.in_ok-certificates.ensures;
     is = c.in_ok-text.ensures
-        ∙ ap (λ w. warned_text c.args.format (watching_of c.args.watch.now).running c.in_ok-status.status w)
-        (c.as_slice.ensures.value ∙ c.in_ok-warnings.ensures);
+        ∙ ap (seen_text c.args.format (watching_of c.args.watch.now) c.in_ok-status.status) c.as_slice.ensures.value;
   };
   written = subst (Appends (g.W.Sink.contents c.args.sink.now) (g.W.Sink.contents c.write_all.new.sink)) c.as_slice-2.ensures.value
       c.in_ok-write_all.ensures.ok;
