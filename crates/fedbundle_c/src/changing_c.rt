@@ -1,7 +1,9 @@
 //! Exports: what changes a replica.
-ghost use Rattle.std.specs.Prelude.{◌≡◌, ◌≤◌};
+ghost use Rattle.std.specs.Prelude.{◌≡◌, ◌≤◌, codes};
+ghost use Rattle.std.specs.declared.option.Option.TheVariants.{None};
 ghost use Rattle.fedbundle_c.specs.Exports.{DistrustsByHandle, MergesByHandle};
 ghost use Rattle.fedbundle_c.specs.Exports.{ObservesByHandle, TakesByHandle};
+ghost use Rattle.replica_c_calls.specs.Outcomes.{TellsFault, fault_text};
 
 use crate::handle::Handle;
 use closure_core::{Distrusted, Taken};
@@ -28,6 +30,8 @@ pub extern "C" fn fedbundle_raw_take(
     }) line.now }
     ensures length { outcome.new.length ≡ 0 }
     ensures fault { outcome.new.fault_length ≤ 240 }
+    ensures told { TellsFault result outcome.new.fault_length }
+    ensures closed { handle.old.value ≡ None → fault_text outcome.new ≡ codes "usage" }
 {
     outcome.clear();
     let Some(mut replica) = handle.take_out(alloc) else {
@@ -60,6 +64,8 @@ pub extern "C" fn fedbundle_raw_distrust(
     }) domain.now key.now }
     ensures length { outcome.new.length ≡ 0 }
     ensures fault { outcome.new.fault_length ≤ 240 }
+    ensures told { TellsFault result outcome.new.fault_length }
+    ensures closed { handle.old.value ≡ None → fault_text outcome.new ≡ codes "usage" }
 {
     outcome.clear();
     let Some(mut replica) = handle.take_out(alloc) else {
@@ -90,6 +96,8 @@ pub extern "C" fn fedbundle_raw_merge(
     }) snapshot.now }
     ensures length { outcome.new.length ≡ 0 }
     ensures fault { outcome.new.fault_length ≤ 240 }
+    ensures told { TellsFault result outcome.new.fault_length }
+    ensures closed { handle.old.value ≡ None → fault_text outcome.new ≡ codes "usage" }
 {
     outcome.clear();
     let Some(mut replica) = handle.take_out(alloc) else {
@@ -132,6 +140,8 @@ pub extern "C" fn fedbundle_raw_observe(
         }) }
     ensures count { outcome.new.count ≡ 0 }
     ensures fault { outcome.new.fault_length ≤ 240 }
+    ensures told { TellsFault result outcome.new.fault_length }
+    ensures closed { handle.old.value ≡ None → fault_text outcome.new ≡ codes "usage" }
 {
     outcome.clear();
     let Some(mut replica) = handle.take_out(alloc) else {

@@ -1,6 +1,8 @@
 //! Exports: the messages between replicas.
-ghost use Rattle.std.specs.Prelude.{◌≡◌, ◌≤◌};
+ghost use Rattle.std.specs.Prelude.{◌≡◌, ◌≤◌, codes};
+ghost use Rattle.std.specs.declared.option.Option.TheVariants.{None};
 ghost use Rattle.fedbundle_c.specs.Exports.{AbsorbsByHandle, AnswersByHandle, HavesByHandle};
+ghost use Rattle.replica_c_calls.specs.Outcomes.{TellsFault, fault_text};
 
 use crate::handle::Handle;
 use replica_c_calls::{CallError, CallOutcome, absorb_bytes, answer_bytes, have_bytes};
@@ -24,6 +26,8 @@ pub extern "C" fn fedbundle_raw_have(
         }) }
     ensures count { outcome.new.count ≡ 0 }
     ensures fault { outcome.new.fault_length ≤ 240 }
+    ensures told { TellsFault result outcome.new.fault_length }
+    ensures closed { handle.old.value ≡ None → fault_text outcome.new ≡ codes "usage" }
 {
     outcome.clear();
     let Some(replica) = handle.take_out(alloc) else {
@@ -52,6 +56,8 @@ pub extern "C" fn fedbundle_raw_answer(
         }) }
     ensures count { outcome.new.count ≡ 0 }
     ensures fault { outcome.new.fault_length ≤ 240 }
+    ensures told { TellsFault result outcome.new.fault_length }
+    ensures closed { handle.old.value ≡ None → fault_text outcome.new ≡ codes "usage" }
 {
     outcome.clear();
     let Some(replica) = handle.take_out(alloc) else {
@@ -78,6 +84,8 @@ pub extern "C" fn fedbundle_raw_absorb(
     }) answered.now }
     ensures length { outcome.new.length ≡ 0 }
     ensures fault { outcome.new.fault_length ≤ 240 }
+    ensures told { TellsFault result outcome.new.fault_length }
+    ensures closed { handle.old.value ≡ None → fault_text outcome.new ≡ codes "usage" }
 {
     outcome.clear();
     let Some(mut replica) = handle.take_out(alloc) else {

@@ -1,7 +1,9 @@
 //! Exports: what a replica holds and accepts, as texts. They change nothing.
-ghost use Rattle.std.specs.Prelude.{◌≡◌, ◌≤◌};
+ghost use Rattle.std.specs.Prelude.{◌≡◌, ◌≤◌, codes};
+ghost use Rattle.std.specs.declared.option.Option.TheVariants.{None};
 ghost use Rattle.fedbundle_c.specs.Exports.{CurrentByHandle, ExplainsByHandle, ReportsByHandle};
 ghost use Rattle.fedbundle_c.specs.Exports.{SnapshotsByHandle};
+ghost use Rattle.replica_c_calls.specs.Outcomes.{TellsFault, fault_text};
 
 use crate::handle::Handle;
 use replica_c_calls::{
@@ -26,6 +28,8 @@ pub extern "C" fn fedbundle_raw_replica_report(
         }) }
     ensures count { outcome.new.count ≡ 0 }
     ensures fault { outcome.new.fault_length ≤ 240 }
+    ensures told { TellsFault result outcome.new.fault_length }
+    ensures closed { handle.old.value ≡ None → fault_text outcome.new ≡ codes "usage" }
 {
     outcome.clear();
     let Some(replica) = handle.take_out(alloc) else {
@@ -53,6 +57,8 @@ pub extern "C" fn fedbundle_raw_snapshot(
         }) }
     ensures count { outcome.new.count ≡ 0 }
     ensures fault { outcome.new.fault_length ≤ 240 }
+    ensures told { TellsFault result outcome.new.fault_length }
+    ensures closed { handle.old.value ≡ None → fault_text outcome.new ≡ codes "usage" }
 {
     outcome.clear();
     let Some(replica) = handle.take_out(alloc) else {
@@ -82,6 +88,8 @@ pub extern "C" fn fedbundle_raw_current(
         }) }
     ensures count { outcome.new.count ≡ 0 }
     ensures fault { outcome.new.fault_length ≤ 240 }
+    ensures told { TellsFault result outcome.new.fault_length }
+    ensures closed { handle.old.value ≡ None → fault_text outcome.new ≡ codes "usage" }
 {
     outcome.clear();
     let Some(replica) = handle.take_out(alloc) else {
@@ -113,6 +121,8 @@ pub extern "C" fn fedbundle_raw_explain(
         }) }
     ensures count { outcome.new.count ≡ 0 }
     ensures fault { outcome.new.fault_length ≤ 240 }
+    ensures told { TellsFault result outcome.new.fault_length }
+    ensures closed { handle.old.value ≡ None → fault_text outcome.new ≡ codes "usage" }
 {
     outcome.clear();
     let Some(replica) = handle.take_out(alloc) else {

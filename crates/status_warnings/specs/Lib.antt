@@ -1,5 +1,5 @@
--- `Warnings` says what is found, the next three how it is written, `CertificateEnds` which certificates
--- there are, and `WarnedStatus` has the whole texts.
+-- `Warnings` says what is found, the next three how it is written, `CertificateEnds` which
+-- certificates there are, and `WarnedStatus` has the whole texts.
 pub mod Warnings
 pub mod WarningLines
 pub mod WarningJson

@@ -6,7 +6,7 @@ ghost use Rattle.text_lines.specs.TextLines.{BeginsSome, WritesSome};
 ghost use Rattle.status_view.specs.StatusRuns.{IsWarned};
 ghost use Rattle.status_warnings.specs.WarnedStatus.{IsWarnedStatusIn, seen_text, watching_of};
 
-use crate::certificates::certificate_ends;
+use crate::ending_certificates::certificate_ends;
 use crate::seen::{CertificateEnd, Seen, Watch};
 use crate::warned_text::{began_of, peers_of, warned_text};
 use crate::warning_search::find_warnings;

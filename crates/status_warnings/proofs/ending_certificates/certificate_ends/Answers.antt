@@ -2,7 +2,7 @@ use Rattle.std.proofs.Common.{[], ◌++◌, ap, refl, subst}
 use Rattle.fed_config.specs.Configuration.{AreDomains}
 use Rattle.status_warnings.specs.CertificateEnds.{AreEndsOf, AreParts}
 use Rattle.status_warnings.proofs.PartFacts.{all_begun, begun_more}
-use Rattle.status_warnings.proofs.certificates.certificate_ends.Goals as goal
+use Rattle.status_warnings.proofs.ending_certificates.certificate_ends.Goals as goal
 
 pub loop-domain-init : goal.loop-domain-init
 loop-domain-init g c = λ rest are. (rest, are, ap (λ t. t ++ rest) c.new-ends.ensures.items)

@@ -1,7 +1,7 @@
 use Rattle.std.proofs.Common.{[], drop}
 use Rattle.status_warnings.specs.CertificateEnds.{AreEndsOf}
 use Rattle.status_warnings.proofs.PartFacts.{IsBegun}
-use Rattle.status_warnings.proofs.certificates.certificate_ends.Given as goal
+use Rattle.status_warnings.proofs.ending_certificates.certificate_ends.Given as goal
 
 abbrev pub invariant-loop-domain : goal.invariant-loop-domain
 invariant-loop-domain g l =

@@ -1,4 +1,4 @@
-use Rattle.status_warnings.proofs.certificates.push_ends.Goals as goal
+use Rattle.status_warnings.proofs.ending_certificates.push_ends.Goals as goal
 
 pub returns : goal.returns
 returns g c =

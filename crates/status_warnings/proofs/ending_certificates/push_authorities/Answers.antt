@@ -1,7 +1,7 @@
 use Rattle.std.proofs.Common.{refl}
 use Rattle.status_warnings.specs.CertificateEnds.{IsEndOfAuthority}
 use Rattle.status_warnings.proofs.PartFacts.{begun_all, begun_more}
-use Rattle.status_warnings.proofs.certificates.push_authorities.Goals as goal
+use Rattle.status_warnings.proofs.ending_certificates.push_authorities.Goals as goal
 
 pub loop-authority-init : goal.loop-authority-init
 loop-authority-init c = λ rest are. (rest, are, refl)
