@@ -9,8 +9,9 @@ use Rattle.fedbundle.specs.Distrust.{ShowsDistrust}
 use Rattle.fedbundle.specs.Exits.{AppendsExit, exit_status_of}
 use Rattle.fedbundle.specs.Explain.{ExplanationCall, RunsExplain, explanation_call}
 use Rattle.fedbundle.specs.Polls.{RunsPollsIn, polls_call}
-use Rattle.fedbundle.specs.Shown.{IsReportIn, IsStatusShown, RunsShown, RunsWriter, ShownCall, ShowsBundle, ShowsBy, ShowsEffect, ShowsExplanation}
-use Rattle.fedbundle.specs.Shown.{ShowsPolls, ShowsReport, ShowsStatus, exit_if_done, exit_if_warned, exit_if_written, polls_form}
+use Rattle.fedbundle.specs.Shown.{IsReportIn, RunsShown, RunsWriter, ShownCall, ShowsBundle, ShowsBy, ShowsEffect, ShowsExplanation}
+use Rattle.fedbundle.specs.Shown.{ShowsPolls, ShowsReport, ShowsStatus, exit_if_done, exit_if_warned, exit_if_written, polls_form, watched_by}
+use Rattle.status_warnings.specs.WarnedStatus.{IsWarnedStatusIn}
 use Rattle.command_line.specs.declared.command_name.CommandName.{CommandName}
 use Rattle.command_line.specs.declared.command_name.CommandName.TheVariants as command
 use Rattle.fedbundle.specs.declared.error.CommandError.{CommandError}
@@ -118,7 +119,7 @@ report_unwritten call sink exit (inr shows) sound =
 status_unwritten : (call : ShownCall) (sink : DeviceRun) (exit : Exit) → ShowsStatus call sink (Err exit) → (exit ≡ Refused Io → ⊥) → WritesNothing sink
 status_unwritten call sink exit (inl refused) sound = refused.unwritten.0
 status_unwritten call sink exit (inr shows) sound =
-    warned_unwritten (IsStatusShown call.running call.meaning shows.format) sink shows.answer exit shows.runs shows.is sound
+    warned_unwritten (IsWarnedStatusIn call.meaning (watched_by call) shows.format) sink shows.answer exit shows.runs shows.is sound
 
 bundle_call_unwritten : (call : ShownCall) (sink : DeviceRun) (exit : Exit) → ShowsBundle call sink (Err exit) → (exit ≡ Refused Io → ⊥)
     → WritesNothing sink
@@ -157,6 +158,11 @@ shown_unwritten command.Distrust call run exit shows sound = effect_call_unwritt
 shown_unwritten name call run exit shows sound = shows.0.unwritten.0
 
 -- ---- what is shown, over memory
+
+-- what runs at a second that is the one of the replica
+pub runs_at : (run : CallRun) (devices : CommandRun) (result : Result ℕ Exit) (told : ℤ) → told ≡ run.running.moment
+    → RunsShown (record (shown_in run) { moment = told }) devices result → RunsShown (shown_in run) devices result
+runs_at run devices result told same runs = subst (λ (z : ℤ). RunsShown (record (shown_in run) { moment = z }) devices result) same runs
 
 -- the command ended: its device failed only where memory ran out
 ended_over : (run : CallRun) (devices : CommandRun) (exit : Exit) → devices.source.before ≡ Some run.change.input → devices.sink.before ≡ Some []

@@ -1,9 +1,10 @@
-use Rattle.std.proofs.Common.{◌≡◌, [], Some, ap, inl, sym}
+use Rattle.std.proofs.Common.{◌≡◌, [], Some, ap, inl, rules, sym, w64}
+use Rattle.std.proofs.lemmas.Int.{to_z-of_z}
 use Rattle.std.proofs.lemmas.Result.{err_from_is_err_and}
 use Rattle.fedbundle.specs.CommandRun.{state_run}
 use Rattle.local_answers.specs.Inside.AskedRun.{run_of_asked}
 use Rattle.local_answers.specs.RequestRun.{CallRun}
-use Rattle.local_answers.proofs.ShownFacts.{shown_done, shown_ended}
+use Rattle.local_answers.proofs.ShownFacts.{runs_at, shown_done, shown_ended}
 use Rattle.local_answers.proofs.shown_calls.shown.Goals as goal
 
 pub returns-in_err-of_streams-in-Ok-clause-ends : goal.returns-in_err-of_streams-in-Ok-clause-ends
@@ -16,7 +17,10 @@ returns-in_ok-of_streams-in-Ok-clause-answers g c =
     let empty : c.new-output.result.writer.items ≡ [] = cc in
     let source : c.new-source.result.reader.now ≡ c.args.asked.input.now = cc in
     let is : c.into_inner-text.result.items ≡ c.run_shown.new.sink.writer.items = cc in
-    shown_done _ _ _ _ _ _ (ap Some source) (ap Some empty) (ap Some (sym is)) c.in-Ok.ensures c.new-in-Ok.ensures.items
+    let run : CallRun = run_of_asked c.args.asked (state_run (g.C.Closure.state c.args.closure.now) (g.C.Closure.state c.args.closure.now)) in
+    shown_done run _ _ _ _ _ (ap Some source) (ap Some empty) (ap Some (sym is))
+    (runs_at run _ _ _ (to_z-of_z w64 c.args.asked.running.now.moment (search rules)) c.in-Ok.ensures)
+    c.new-in-Ok.ensures.items
     c.in_ok-of_streams-in-Ok.ensures
 
 pub returns-in-Err-clause-ends : goal.returns-in-Err-clause-ends
@@ -24,4 +28,5 @@ returns-in-Err-clause-ends g c =
     let empty : c.new-output.result.writer.items ≡ [] = cc in
     let source : c.new-source.result.reader.now ≡ c.args.asked.input.now = cc in
     let run : CallRun = run_of_asked c.args.asked (state_run (g.C.Closure.state c.args.closure.now) (g.C.Closure.state c.args.closure.now)) in
-    shown_ended run _ _ _ c.over_memory.ensures (ap Some source) (ap Some empty) c.in-Err.ensures
+    shown_ended run _ _ _ c.over_memory.ensures (ap Some source) (ap Some empty)
+    (runs_at run _ _ _ (to_z-of_z w64 c.args.asked.running.now.moment (search rules)) c.in-Err.ensures)
