@@ -3,11 +3,11 @@ _fedbundle() {
     local word=${COMP_WORDS[COMP_CWORD]} before=${COMP_WORDS[COMP_CWORD - 1]} words
     COMPREPLY=()
     if [ "$COMP_CWORD" -eq 1 ]; then
-        COMPREPLY=($(compgen -W 'canon config report list diff graph status bundle explain observe merge migrate reseed polls distrust serve pull replica stop help --help --version' -- "$word"))
+        COMPREPLY=($(compgen -W 'canon config new report list diff graph status bundle explain observe merge migrate reseed polls distrust serve pull replica stop help --help --version' -- "$word"))
         return
     fi
     case $before in
-        --at|--config|--socket|--state|--to|--with)
+        --at|--config|--read-socket|--socket|--state|--to|--with)
             compopt -o filenames 2>/dev/null
             COMPREPLY=($(compgen -f -- "$word"))
             return
@@ -17,11 +17,12 @@ _fedbundle() {
     case ${COMP_WORDS[1]} in
         canon) words='--domain --format --verbose --help' ;;
         config) words='--config --with --format --verbose --help' ;;
-        report) words='--config --state --format --wait --verbose --at --help' ;;
-        list) words='--config --state --domain --keys --format --verbose --help' ;;
-        diff) words='--config --state --with --verbose --help' ;;
-        graph) words='--config --state --domain --verbose --help' ;;
-        status) words='--config --state --format --wait --verbose --at --help' ;;
+        new) words='--config --state --wait --verbose --help' ;;
+        report) words='--config --state --format --new --wait --verbose --at --help' ;;
+        list) words='--config --state --domain --keys --format --new --verbose --help' ;;
+        diff) words='--config --state --with --new --verbose --help' ;;
+        graph) words='--config --state --domain --new --verbose --help' ;;
+        status) words='--config --state --format --new --wait --verbose --at --help' ;;
         bundle) words='--config --state --domain --format --wait --verbose --at --help' ;;
         explain) words='--config --state --domain --short --format --wait --verbose --at --help' ;;
         observe) words='--config --state --domain --endpoint --key --wait --verbose --at --help' ;;
@@ -29,12 +30,12 @@ _fedbundle() {
         migrate) words='--config --state --to --records-only --verbose --help' ;;
         reseed) words='--config --state --allow --verbose --help' ;;
         polls) words='--config --state --now --format --wait --verbose --at --help' ;;
-        distrust) words='--config --state --domain --key --dry-run --wait --verbose --at --help' ;;
+        distrust) words='--config --state --domain --key --dry-run --new --wait --verbose --at --help' ;;
         serve) words='--config --state --listen --sessions --verbose --help' ;;
         pull) words='--config --state --peer --wait --most-bytes --verbose --help' ;;
-        replica) words='--config --state --socket --listen --peers --every --most-bytes --most-request-bytes --new --verbose --help' ;;
+        replica) words='--config --state --socket --read-socket --listen --listen-anywhere --peers --every --most-bytes --most-request-bytes --new --verbose --help' ;;
         stop) words='--wait --verbose --at --help' ;;
-        help) words='canon config report list diff graph status bundle explain observe merge migrate reseed polls distrust serve pull replica stop help' ;;
+        help) words='canon config new report list diff graph status bundle explain observe merge migrate reseed polls distrust serve pull replica stop help' ;;
         *) return ;;
     esac
     COMPREPLY=($(compgen -W "$words" -- "$word"))
