@@ -264,11 +264,11 @@ fn do_asked<C: Closure>(
     let (input, output) = (&mut devices.input, &mut devices.output);
     match (asked.name, asked.given) {
         (CommandName::Report, [form, ..]) => report_held(case, closure, *form, devices),
-        (CommandName::List, [domain, form, _]) => {
+        (CommandName::List, [domain, _keys, form, ..]) => {
             list_held(case, closure, *domain, *form, devices)
         }
-        (CommandName::Graph, [domain, _]) => graph_held(case, closure, *domain, devices),
-        (CommandName::Diff, [Some(with), _]) => compare_held(case, closure, with, devices),
+        (CommandName::Graph, [domain, ..]) => graph_held(case, closure, *domain, devices),
+        (CommandName::Diff, [Some(with), ..]) => compare_held(case, closure, with, devices),
         (CommandName::Status, [format, ..]) => status_of(case, closure, *format, devices),
         (CommandName::Bundle, [Some(domain), format, ..]) => {
             bundle(case, closure, domain, *format, devices)
@@ -427,7 +427,7 @@ fn distrust<C: Closure>(
     if is_dry(flags) {
         return show_distrust(case.alloc, closure, record, &mut devices.output);
     }
-    if flags.get(2) == Some(&Some("true")) {
+    if flags.get(3) == Some(&Some("true")) {
         let _ = show_distrust(case.alloc, closure, record, &mut devices.errors);
     }
     run_distrust(closure, &record.domain, record.key)
