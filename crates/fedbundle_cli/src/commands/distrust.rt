@@ -11,11 +11,10 @@ use trust_closure::IndexedClosure;
 
 /// How many authorities of a domain are looked at for one public key: the work grows with their
 /// square, and the record is not made before it is done.
-const MOST_AUTHORITIES: usize = 4_096;
+const MOST_AUTHORITIES: usize = 512;
 
 /// What is printed where there are more.
-static NOT_LOOKED_FOR: &[u8] =
-    b"same public key: not looked for among more than 4096 authorities\n";
+static NOT_LOOKED_FOR: &[u8] = b"same public key: not looked for among more than 512 authorities\n";
 
 /// Takes the record of distrust that the options say.
 pub(crate) fn run(rt: &HostRuntime, config: &Config, call: &Call<'_>) -> Result<u8, Exit> {
