@@ -4,8 +4,8 @@ use crate::command_name::{CommandName, OptionName};
 /// The version; then the kit with which it is proved and built, and the formats: the numbers are
 /// those in the first lines that are written.
 pub(crate) const VERSION: &str = "\
-0.5.0
-kit rattle-kit-13f logic dac8208d650f15bf
+0.6.0
+kit rattle-kit-13b logic dac8208d650f15bf
 state format 2, and 1 is read
 journal format 2
 have format 2 of 256
@@ -17,15 +17,15 @@ pub(crate) const USAGE: &str = "fedbundle <COMMAND>";
 /// What help says after the list of subcommands.
 pub(crate) const NOTES: &str = "\
 `fedbundle <COMMAND> --help` says what a subcommand reads, what it writes, and how it ends.
-A state that is not there holds nothing, unless that says that it is refused.
+A missing state holds nothing, unless that says that it is refused.
 
-A fault is one line on standard error, `fedbundle: ` and a code. Exit status:
+An error is one line on standard error, `fedbundle: ` and a code. Exit status:
   0  done
   1  an input was refused, or what was asked for is not there
-  2  the words are none that the command has
+  2  invalid arguments
   3  a file, a stream or a connection failed
   4  memory ran out
-Of several it is the greatest.";
+Of several exit statuses the greatest counts.";
 
 const CANON_NOTES: &str = "\
 Reads from standard input a bundle document, JSON of at most 1,048,576 bytes.
@@ -67,7 +67,7 @@ there already, which is left as it is; with 3 where the state is locked.";
 
 const REPORT_NOTES: &str = "\
 Reads the configuration. With --state it reads the state file, and nothing from standard
-input; a state that is not there is refused without --new. Without --state it reads from
+input; a missing state is refused without --new. Without --state it reads from
 standard input receipts, each a line of at most 8,388,608 bytes, as `observe` prints them.
 At most 65,536 different ones are taken, and no record of distrust is known.
 
@@ -76,24 +76,24 @@ held and how many of them are pending, and for each domain its current document,
 accepted documents, their conflicts and the keys that are distrusted there. Writes to
 standard error the number of each line that is not taken, and why. It writes no file.
 
---format json needs --state and prints one object: `config`, `receipts`, `pending`,
-`domains` with `current` and `accepted`, `conflicts`, and `records`.
+--format json needs --state or --at, and prints one object: `config`, `receipts`,
+`pending`, `domains` with `current` and `accepted`, `conflicts`, and `records`.
 
 Ends with 0; with 1 where a line was not taken, and the report is printed all the same;
 with 1 and no report where the configuration or the state is refused or too many receipts
 fit; with 2 where the format is neither text nor json.";
 
 const LIST_NOTES: &str = "\
-Reads the configuration and the state file, and nothing from standard input. A state that
-is not there is refused without --new.
+Reads the configuration and the state file, and nothing from standard input. A missing
+state is refused without --new.
 
 Writes to standard output a line for each receipt, in the order of the state file, and
 then one for each record of distrust; with --domain those of the domain alone:
   receipt <id> domain <domain> sequence <number> document <id> endpoint <SPIFFE ID>
     key <key id> voucher <document id> <status>
   distrust <key id> domain <domain>
-The status is `accepted` where an accepted document vouches for the receipt, `distrusted`
-where its key is distrusted in the endpoint's domain, and else `pending`. It writes no
+The status is `accepted` if an accepted document vouches for the receipt, `distrusted` if
+its key is distrusted in the endpoint's domain, and otherwise `pending`. It writes no
 file.
 
 --keys prints what is known of each key instead: a line for each X.509 authority that an
@@ -125,8 +125,8 @@ Ends with 0 where both hold the same, and then nothing is printed; with 1 where 
 not; with 1 and nothing printed where anything read is refused.";
 
 const GRAPH_NOTES: &str = "\
-Reads the configuration and the state file, and nothing from standard input. A state that
-is not there is refused without --new.
+Reads the configuration and the state file, and nothing from standard input. A missing
+state is refused without --new.
 
 Writes to standard output which document vouches for which, as a graph in the language of
 Graphviz: `fedbundle graph .. | dot -Tsvg` draws it. A box is a document, with two borders
@@ -140,21 +140,35 @@ Ends with 0; with 1 and nothing printed where anything read or the name of the d
 refused.";
 
 const STATUS_NOTES: &str = "\
-Reads the configuration and the state file, and nothing from standard input. A state that
-is not there is refused without --new.
+Reads the configuration and the state file, and nothing from standard input. A missing
+state is refused without --new. With --polls it also reads the polls so far, lines as
+`polls` reads them.
 
 Writes to standard output how the replica stands: the configuration's digest, how many
 receipts and records of distrust are held, and for each trust domain its current bundle
 with the keys of that, and how many bundles are accepted and are in conflict. It writes
-no file. A line `warning` at the end comes for each configured bundle without an X.509
-authority, for each distrusted key that a current bundle lists, and where more than nine
-tenths of the receipts or of the records of distrust are held that may be.
+no file. A line `warning` follows for each configured bundle without an X.509 authority,
+for each distrusted key that a current bundle lists, and if more than nine tenths of the
+receipts or of the records of distrust that are allowed are held.
+
+At the end it writes a line `warning: KIND: ..` for all that needs attention:
+  no-current   a domain has no current bundle
+  locked-out   a current bundle has no X.509 authority that is not distrusted
+  conflict     accepted bundles of a domain have one sequence number
+  no-sequence  a current bundle without a sequence number is one of several
+  same-key     a key that can vouch has the public key of a distrusted one
+  expires      a certificate of a current bundle ends within --expires-within
+  not-fetched  no poll of a domain succeeded for three times its wait, by --polls
+  quiet-peer   no session with a peer ended well for --peer-quiet, with --at
+  nearly-full  more than nine tenths of the receipts or of the records are held
+The second at which this holds is --now, or that of the clock.
 
 --format json prints one object, and --format prometheus gauges in the text format of
-Prometheus. Both have whether there is a warning.
+Prometheus. Both have the warnings.
 
-Ends with 0; with 1 where there is a warning, and all is printed; with 1 and nothing
-printed where anything read is refused; with 2 where the format is none of the three.";
+Ends with 0; with 1 if there is a warning of the first sort, and all is printed; with 1
+and nothing printed if anything read is refused; with 2 if the format is none of the
+three.";
 
 const BUNDLE_NOTES: &str = "\
 Reads the configuration and the state file, and nothing from standard input.
@@ -258,7 +272,12 @@ that the key vouches for nothing in the domain any more; at most 4,096 records a
 and none is ever taken back. It prints nothing; with --verbose it first writes to standard
 error what the record changes.
 
-With --dry-run it writes no file, refuses a state that is not there without --new, and
+A key id is that of one certificate. With --public-key in place of --key it makes a record
+for each key of the domain that is known now and whose certificate has this public key, as
+`list --keys` prints it, and prints a line `distrusted KEY_ID` for each. A certificate that
+is issued later for that public key is not refused: `status` warns of it as `same-key`.
+
+With --dry-run it writes no file, refuses a missing state without --new, and
 writes to standard output what the record would change, domain by domain:
   falls DOMAIN document ID sequence N
   current DOMAIN before ID sequence N after ID sequence N
@@ -271,13 +290,13 @@ writes to standard output what the record would change, domain by domain:
 the earlier one has, the distrusted ones that the later one still lists, and `locked-out`
 where none of its keys can vouch. A line begins with `warning` where no document of the
 domain that is held lists the key. Last comes a line for each key of an accepted document
-of the domain that is not distrusted, though a distrusted one has its public key, as where
-its certificate was issued again; it can still vouch:
+of the domain that is not distrusted though a distrusted one has its public key, for
+example since its certificate was issued again; it can still vouch:
   same public key: KEY_ID of DOMAIN in ID
-With --at these lines are left out.
 
-Ends with 0, also where the record was held; with 1 where the domain is none of the
-configuration or anything read is refused. Then the state file is left as it was.";
+Ends with 0, even if the record was held; with 1 if the domain is not one of the
+configuration, if no known key has the public key, or if anything read is refused. Then
+the state file is as it was.";
 
 const SERVE_NOTES: &str = "\
 Reads the configuration and the state file once, and writes no file. It waits at the
@@ -322,11 +341,17 @@ At the one of --read-socket, whose mode is 0660, it refuses all that would chang
 holds, and `stop`: whoever may only look is in that socket's group.
 Answers other replicas at the address of --listen, as `serve` does, and pulls from each of
 --peers, as `pull` does. Whoever reaches that address is given all that is held, so one that
-is not a loopback address is refused without --listen-anywhere. At most 144 connections are
-open at once: 64 requests of this machine, 48 on which other replicas ask, and one with each
-peer. One on which nothing moves for 30 seconds, or which is older than 600 seconds, is
-closed, and so is a pull in which fewer than 1,000 bytes move in a second. Where there are
-too many, the one that has asked nothing whole for the longest is closed.
+is not a loopback address is refused without --listen-anywhere. At most 160 connections are
+open at once: 64 requests of this machine, 48 on which other replicas ask, 16 at the
+address of --health, one with each peer, and some that are only refused. A connection on
+which nothing moves for 30 seconds, or which is older than 600 seconds, is closed, and so is
+a pull in which fewer than 1,000 bytes move in a second. If there are too many, the one that
+has asked nothing whole for the longest is closed.
+
+At the address of --health it answers HTTP requests, GET and HEAD: /live, /ready, /metrics
+for Prometheus, /status.json, /report.json, /keys.json, /graph.dot and / for people. Nothing
+can be changed there. A certificate is warned of --expires-within before its end, and a peer
+that was quiet for --peer-quiet.
 
 Each change is appended to FILE.journal and put on the disk before it is acknowledged. The
 journal is folded into the state file at the start, and when it has more than 8,388,608
@@ -385,6 +410,13 @@ impl OptionName {
             OptionName::ReadSocket => "PATH",
             OptionName::ListenAnywhere => "",
             OptionName::Keys => "",
+            OptionName::OptionalKey => "KEY_ID",
+            OptionName::PublicKey => "DIGEST",
+            OptionName::OptionalNow => "SECONDS",
+            OptionName::ExpiresWithin => "DAYS",
+            OptionName::PeerQuiet => "SECONDS",
+            OptionName::Polls => "FILE",
+            OptionName::Health => "ADDRESS",
         }
     }
 
@@ -435,8 +467,21 @@ impl OptionName {
             OptionName::ReadSocket =>
                 "The path of a second socket, at which nothing can be changed",
             OptionName::ListenAnywhere =>
-                "Allows an address of --listen that is not a loopback one",
+                "Allows an address of --listen or --health that is not a loopback one",
             OptionName::Keys => "Prints what is known of each X.509 key, in place of what is held",
+            OptionName::OptionalKey =>
+                "The SHA-256 of an authority's certificate, 64 digits of 0-9 and a-f",
+            OptionName::PublicKey =>
+                "The SHA-256 of the public key in certificates, 64 digits of 0-9 and a-f",
+            OptionName::OptionalNow =>
+                "The present time, in Unix seconds; a negative one as --now=-5 [that of the clock]",
+            OptionName::ExpiresWithin =>
+                "How long before its end a certificate is warned of, from 0 to 36525 days [7]",
+            OptionName::PeerQuiet =>
+                "How long a peer may be quiet, from 0 to 31536000 seconds [600]",
+            OptionName::Polls => "The polls so far, as `polls` reads them",
+            OptionName::Health =>
+                "The address of health, metrics and a page: an IP address and a port",
         }
     }
 }
@@ -497,23 +542,29 @@ impl CommandName {
             CommandName::Report => {
                 "fedbundle report --config <FILE> [--state <FILE>] [--format <FORMAT>] [--new] \
                 [--verbose]\n       \
-                fedbundle report --at <PATH> [--wait <SECONDS>] [--verbose]"
+                fedbundle report --at <PATH> [--format <FORMAT>] [--wait <SECONDS>] [--verbose]"
             }
             CommandName::List => {
                 "fedbundle list --config <FILE> --state <FILE> [--domain <DOMAIN>] [--keys] \
-                [--format <FORMAT>] [--new] [--verbose]"
+                [--format <FORMAT>] [--new] [--verbose]\n       \
+                fedbundle list --at <PATH> [--domain <DOMAIN>] [--keys] [--format <FORMAT>] \
+                [--wait <SECONDS>] [--verbose]"
             }
             CommandName::Diff => {
                 "fedbundle diff --config <FILE> --state <FILE> --with <FILE> [--new] [--verbose]"
             }
             CommandName::Graph => {
                 "fedbundle graph --config <FILE> --state <FILE> [--domain <DOMAIN>] [--new] \
-                [--verbose]"
+                [--verbose]\n       \
+                fedbundle graph --at <PATH> [--domain <DOMAIN>] [--wait <SECONDS>] [--verbose]"
             }
             CommandName::Status => {
-                "fedbundle status --config <FILE> --state <FILE> [--format <FORMAT>] [--new] \
+                "fedbundle status --config <FILE> --state <FILE> [--format <FORMAT>] \
+                [--now <SECONDS>] [--expires-within <DAYS>] [--polls <FILE>] [--new] \
                 [--verbose]\n       \
-                fedbundle status --at <PATH> [--format <FORMAT>] [--wait <SECONDS>] [--verbose]"
+                fedbundle status --at <PATH> [--format <FORMAT>] [--now <SECONDS>] \
+                [--expires-within <DAYS>] [--peer-quiet <SECONDS>] [--polls <FILE>] \
+                [--wait <SECONDS>] [--verbose]"
             }
             CommandName::Bundle => {
                 "fedbundle bundle --config <FILE> --state <FILE> --domain <DOMAIN> \
@@ -524,8 +575,8 @@ impl CommandName {
             CommandName::Explain => {
                 "fedbundle explain --config <FILE> --state <FILE> --domain <DOMAIN> [--short] \
                 [--format <FORMAT>] [--verbose]\n       \
-                fedbundle explain --at <PATH> --domain <DOMAIN> [--short] [--wait <SECONDS>] \
-                [--verbose]"
+                fedbundle explain --at <PATH> --domain <DOMAIN> [--short] [--format <FORMAT>] \
+                [--wait <SECONDS>] [--verbose]"
             }
             CommandName::Observe => {
                 "fedbundle observe --config <FILE> --state <FILE> --domain <DOMAIN> \
@@ -548,12 +599,15 @@ impl CommandName {
             CommandName::Polls => {
                 "fedbundle polls --config <FILE> --state <FILE> --now <SECONDS> \
                 [--format <FORMAT>] [--verbose]\n       \
-                fedbundle polls --at <PATH> --now <SECONDS> [--wait <SECONDS>] [--verbose]"
+                fedbundle polls --at <PATH> --now <SECONDS> [--format <FORMAT>] \
+                [--wait <SECONDS>] [--verbose]"
             }
             CommandName::Distrust => {
                 "fedbundle distrust --config <FILE> --state <FILE> --domain <DOMAIN> \
                 --key <KEY_ID> [--dry-run] [--new] [--wait <SECONDS>] [--verbose]\n       \
                 fedbundle distrust --at <PATH> --domain <DOMAIN> --key <KEY_ID> [--dry-run] \
+                [--wait <SECONDS>] [--verbose]\n       \
+                fedbundle distrust .. --domain <DOMAIN> --public-key <DIGEST> \
                 [--wait <SECONDS>] [--verbose]"
             }
             CommandName::Serve => {
@@ -566,8 +620,9 @@ impl CommandName {
             }
             CommandName::Replica => {
                 "fedbundle replica --config <FILE> --state <FILE> --socket <PATH> \
-                [--read-socket <PATH>] [--listen <ADDRESS>] [--listen-anywhere] \
-                [--peers <ADDRESS,..>] [--every <SECONDS>] \
+                [--read-socket <PATH>] [--listen <ADDRESS>] [--health <ADDRESS>] \
+                [--listen-anywhere] [--peers <ADDRESS,..>] [--every <SECONDS>] \
+                [--peer-quiet <SECONDS>] [--expires-within <DAYS>] \
                 [--most-bytes <BYTES>] [--most-request-bytes <BYTES>] [--new] [--verbose]"
             }
             CommandName::Stop => "fedbundle stop --at <PATH> [--wait <SECONDS>] [--verbose]",
