@@ -1,0 +1,152 @@
+"""Answers in the place of a replica's address of health: the output of the program's commands, over HTTP/1.1.
+
+It reads one request of a connection, answers, and closes. It takes GET and HEAD of the paths that it knows, refuses all else,
+and holds at most 16 connections. What a replica cannot be asked by `--at`, it asks over the files.
+"""
+import re
+import socket
+import subprocess
+import threading
+import time
+from pathlib import Path
+from urllib.parse import unquote
+
+WEB = Path(__file__).resolve().parent.parent.parent / "web"
+MOST_BYTES, MOST_SECONDS, MOST_CONNECTIONS = 8192, 10, 16
+POLICY = ("default-src 'none'; script-src 'self'; style-src 'self'; connect-src 'self'; base-uri 'none'; "
+          "form-action 'none'; frame-ancestors 'none'")
+FILES = {"/": ("index.html", "text/html"), "/page.css": ("page.css", "text/css"),
+         "/page.js": ("page.js", "text/javascript")}
+REASONS = {200: "OK", 400: "Bad Request", 404: "Not Found", 405: "Method Not Allowed", 408: "Request Timeout",
+           414: "URI Too Long", 431: "Request Header Fields Too Large", 501: "Not Implemented",
+           503: "Service Unavailable", 505: "HTTP Version Not Supported"}
+TOKEN = rb"[!#$%&'*+.^_`|~0-9A-Za-z-]+"
+FIRST = re.compile(rb"(%s) (/[!-~]*) HTTP/(\d)\.(\d)" % TOKEN)
+FIELD = re.compile(rb"(%s):[ \t]*([ -~\t]*)" % TOKEN)
+
+
+class Refusal(Exception):
+    """A request that is not answered, and the status for it."""
+
+
+def target_of(head):
+    """The method and the target of a request, or why it is refused."""
+    lines = head.split(b"\r\n")
+    first = FIRST.fullmatch(lines[0])
+    if not first:
+        raise Refusal(400)
+    if first[3] != b"1":
+        raise Refusal(505)
+    fields = [FIELD.fullmatch(line) for line in lines[1:]]
+    if not all(fields):
+        raise Refusal(400)
+    names = [field[1].lower() for field in fields]
+    if names.count(b"host") != 1 or b"content-length" in names or b"transfer-encoding" in names:
+        raise Refusal(400)
+    if first[1] not in (b"GET", b"HEAD"):
+        raise Refusal(405)
+    return first[1].decode(), first[2].decode()
+
+
+def read_head(stream, until):
+    read = b""
+    while b"\r\n\r\n" not in read:
+        if len(read) > MOST_BYTES:
+            raise Refusal(431)
+        stream.settimeout(max(0.01, until - time.monotonic()))
+        piece = stream.recv(4096)
+        if not piece:
+            raise Refusal(400)
+        read += piece
+    head, _, rest = read.partition(b"\r\n\r\n")
+    if rest:
+        raise Refusal(400)
+    return head
+
+
+class StandIn:
+    """An address of health for a replica that runs in `folder`, with these names of its files there."""
+
+    def __init__(self, program, folder, config="config", state="state", path="socket", port=0):
+        self.program, self.folder = program, folder
+        self.files = ["--config", config, "--state", state]
+        self.at = ["--at", path]
+        self.listener = socket.create_server(("127.0.0.1", port), backlog=64)
+        self.address = f"127.0.0.1:{self.listener.getsockname()[1]}"
+        self.room = threading.Semaphore(MOST_CONNECTIONS)
+        threading.Thread(target=self.accept, daemon=True).start()
+
+    def close(self):
+        self.listener.shutdown(socket.SHUT_RDWR)
+        self.listener.close()
+
+    def accept(self):
+        while True:
+            try:
+                stream, _ = self.listener.accept()
+            except OSError:
+                return
+            threading.Thread(target=self.serve, args=[stream], daemon=True).start()
+
+    def serve(self, stream):
+        with stream:
+            try:
+                if not self.room.acquire(blocking=False):
+                    stream.sendall(reply_of(503, b"too many connections\n"))
+                    return
+                try:
+                    self.answer(stream)
+                finally:
+                    self.room.release()
+            except OSError:
+                pass
+
+    def answer(self, stream):
+        method = "GET"
+        try:
+            method, target = target_of(read_head(stream, time.monotonic() + MOST_SECONDS))
+            reply = self.reply(target)
+        except Refusal as refusal:
+            reply = reply_of(refusal.args[0], b"refused\n")
+        except TimeoutError:
+            reply = reply_of(408, b"too slow\n")
+        stream.sendall(reply.partition(b"\r\n\r\n")[0] + b"\r\n\r\n" if method == "HEAD" else reply)
+
+    def printed(self, *words):
+        ran = subprocess.run([self.program, *words], cwd=self.folder, capture_output=True, timeout=60)
+        if ran.returncode > 1 or not ran.stdout:
+            raise Refusal(503 if ran.returncode > 1 else 404)
+        return ran.stdout
+
+    def reply(self, target):
+        path, _, query = target.partition("?")
+        domain = re.fullmatch(r"domain=([^&]+)", query)
+        if query and not (path == "/graph.dot" and domain):
+            raise Refusal(400)
+        if path in FILES:
+            name, kind = FILES[path]
+            return reply_of(200, (WEB / name).read_bytes(), kind + "; charset=utf-8", path == "/")
+        if path in ("/live", "/ready"):
+            self.printed("polls", *self.at, "--now", "0")
+            return reply_of(200, path[1:].encode() + b"\n")
+        if path == "/metrics":
+            body = self.printed("status", *self.at, "--format", "prometheus")
+            return reply_of(200, body, "text/plain; version=0.0.4; charset=utf-8")
+        if path == "/status.json":
+            return reply_of(200, self.printed("status", *self.at, "--format", "json"), "application/json")
+        if path == "/report.json":
+            return reply_of(200, self.printed("report", *self.files, "--format", "json"), "application/json")
+        if path == "/keys.json":
+            return reply_of(200, self.printed("list", "--keys", *self.files, "--format", "json"), "application/json")
+        if path == "/graph.dot":
+            words = ["--domain", unquote(domain[1])] if domain else []
+            return reply_of(200, self.printed("graph", *self.files, *words), "text/vnd.graphviz; charset=utf-8")
+        raise Refusal(404)
+
+
+def reply_of(status, body, kind="text/plain; charset=utf-8", is_page=False):
+    fields = [f"HTTP/1.1 {status} {REASONS[status]}", "Connection: close", f"Content-Length: {len(body)}",
+              f"Content-Type: {kind}", "X-Content-Type-Options: nosniff", "Cache-Control: no-store"]
+    fields += [f"Content-Security-Policy: {POLICY}"] if is_page else []
+    fields += ["Allow: GET, HEAD"] if status == 405 else []
+    return "\r\n".join([*fields, "", ""]).encode() + body
