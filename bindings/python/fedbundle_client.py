@@ -22,7 +22,10 @@ import socket
 import threading
 import time
 from dataclasses import dataclass
-from typing import Any, Callable, Dict, Iterable, Iterator, List, Optional, Sequence, Tuple, Union
+from typing import Any, Callable, Dict, Iterable, Iterator, List, Optional, Sequence, Tuple, Type, TypeVar, Union
+
+SocketPath = Union[str, bytes, "os.PathLike[str]"]
+"""The path of a replica's socket, of at most 107 bytes."""
 
 DEFAULT_TIMEOUT = 60.0
 """How many seconds a request may take if nothing else is said."""
@@ -61,6 +64,7 @@ _PIECE = 65_536
 _CONNECT_PAUSE = 0.02
 _CANCEL_PAUSE = 0.1
 _NUMBERED = re.compile(r"[A-Z][0-9]+\b")
+_Kind = TypeVar("_Kind")
 
 
 class ReplicaError(Exception):
@@ -239,7 +243,7 @@ class Client:
 
     def __init__(
         self,
-        path: Union[str, bytes, os.PathLike],
+        path: SocketPath,
         timeout: float = DEFAULT_TIMEOUT,
         most_reply_bytes: int = DEFAULT_MOST_REPLY_BYTES,
     ) -> None:
@@ -440,13 +444,15 @@ class Watch:
 def parse_bundle(domain: str, document: bytes) -> Bundle:
     """Reads the canonical JSON of a bundle, as Client.bundle returns it. The code is BAD_REPLY if it is not a bundle."""
     said = _Members(_parse_json(document))
-    authorities = []
-    for key in said.objects("keys"):
-        if key.value.get("use") == "x509-svid":
-            authorities.append(_certificate(key.value.get("x5c")))
-    digest = hashlib.sha256(domain.encode() + b"\n" + document).hexdigest()
-    numbers = (said.number_if_any(name) for name in ("spiffe_sequence", "spiffe_refresh_hint"))
-    return Bundle(domain, digest, document, *numbers, tuple(authorities))
+    authorities = [key for key in said.objects("keys") if key.value.get("use") == "x509-svid"]
+    return Bundle(
+        domain=domain,
+        id=hashlib.sha256(domain.encode() + b"\n" + document).hexdigest(),
+        document=document,
+        sequence=said.number_if_any("spiffe_sequence"),
+        refresh_hint=said.number_if_any("spiffe_refresh_hint"),
+        x509_authorities=tuple(_certificate(key.value.get("x5c")) for key in authorities),
+    )
 
 
 # ---- errors
@@ -502,7 +508,7 @@ class _Limit:
         return min(left, _CANCEL_PAUSE) if self._cancelled else left
 
 
-def _path(path: Union[str, bytes, os.PathLike]) -> bytes:
+def _path(path: SocketPath) -> bytes:
     found = os.fsencode(path)
     if not found or b"\0" in found:
         raise _usage()
@@ -626,7 +632,7 @@ class _Members:
             raise _bad_reply()
         self.value = value
 
-    def _of(self, name: str, kind: type) -> Any:
+    def _of(self, name: str, kind: Type[_Kind]) -> _Kind:
         found = self.value.get(name)
         # In Python a truth value is a number, too.
         if not isinstance(found, kind) or (kind is int and isinstance(found, bool)):
@@ -660,15 +666,20 @@ class _Members:
 
 def _parse_status(text: bytes) -> Status:
     said = _Members(_parse_json(text))
-    counts = ("receipts", "receipt_limit", "pending", "record_limit", "records", "snapshot_bytes", "journal_bytes")
     return Status(
         config=said.text("config"),
+        receipts=said.count("receipts"),
+        receipt_limit=said.count("receipt_limit"),
+        pending=said.count("pending"),
+        record_limit=said.count("record_limit"),
+        records=said.count("records"),
         domains=tuple(_parse_domain(one) for one in said.objects("domains")),
         keyless_seeds=tuple(KeylessSeed(one.text("domain"), one.text("id")) for one in said.objects("keyless_seeds")),
         warning=said.flag("warning"),
+        snapshot_bytes=said.count("snapshot_bytes"),
+        journal_bytes=said.count("journal_bytes"),
         peers=tuple(_parse_peer(one) for one in said.objects("peers")),
         warnings=tuple(_parse_warning(one) for one in said.objects("warnings")),
-        **{name: said.count(name) for name in counts},
     )
 
 
@@ -694,15 +705,28 @@ def _parse_peer(said: _Members) -> PeerStatus:
 
 
 def _parse_warning(said: _Members) -> StatusWarning:
-    texts = {name: said.text_if_any(name) for name in ("domain", "key", "peer", "what")}
-    numbers = {name: said.number_if_any(name) for name in ("not_after", "since", "held")}
-    return StatusWarning(said.text("kind"), **texts, **numbers)
+    return StatusWarning(
+        kind=said.text("kind"),
+        domain=said.text_if_any("domain"),
+        key=said.text_if_any("key"),
+        not_after=said.number_if_any("not_after"),
+        peer=said.text_if_any("peer"),
+        since=said.number_if_any("since"),
+        what=said.text_if_any("what"),
+        held=said.number_if_any("held"),
+    )
 
 
 def _parse_receipt(line: str) -> Receipt:
     said = _Members(_parse_json(line))
-    names = (said.text(name) for name in ("domain", "endpoint", "key", "voucher"))
-    return Receipt(line.encode(), *names, document=_document_of(line))
+    return Receipt(
+        line=line.encode(),
+        domain=said.text("domain"),
+        endpoint=said.text("endpoint"),
+        key=said.text("key"),
+        voucher=said.text("voucher"),
+        document=_document_of(line),
+    )
 
 
 def _document_of(line: str) -> bytes:
