@@ -142,7 +142,7 @@ class Requests(Case):
 
     def test_refusals(self):
         for errors, status, code, text in [
-            (b"fedbundle: O5 Document: B2 NotJson\n", 1, "O5", "O5 Document: B2 NotJson"),
+            (b"fedbundle: O5 Document B2 NotJson\n", 1, "O5", "O5 Document B2 NotJson"),
             (b"fedbundle: no current bundle\n", 1, client.NO_BUNDLE, "no current bundle"),
             (b"fedbundle: read only\n", 1, client.READ_ONLY, "read only"),
             (b"fedbundle: usage\n", 2, client.USAGE, "usage"),

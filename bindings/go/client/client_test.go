@@ -273,7 +273,7 @@ func TestRefusals(t *testing.T) {
 		code, text   string
 		shownAsError string
 	}{
-		{"fedbundle: O5 Document: B2 NotJson\n", 1, "O5", "O5 Document: B2 NotJson", ""},
+		{"fedbundle: O5 Document B2 NotJson\n", 1, "O5", "O5 Document B2 NotJson", ""},
 		{"fedbundle: no current bundle\n", 1, NoBundle, "no current bundle", ""},
 		{"fedbundle: read only\n", 1, ReadOnly, "read only", ""},
 		{"fedbundle: usage\n", 2, Usage, "usage", ""},

@@ -106,7 +106,7 @@ func (c *Client) connect(ctx context.Context) (*net.UnixConn, error) {
 			return connection.(*net.UnixConn), nil
 		case ctx.Err() != nil:
 			return nil, noReply(ctx.Err())
-		case errors.Is(err, os.ErrDeadlineExceeded):
+		case errors.Is(err, context.DeadlineExceeded):
 			return nil, noReply(context.DeadlineExceeded)
 		case errors.Is(err, fs.ErrPermission):
 			return nil, ioFailed(err)
