@@ -14,6 +14,7 @@ from __future__ import annotations
 
 import base64
 import copy
+import errno
 import hashlib
 import json
 import os
@@ -71,14 +72,16 @@ class ReplicaError(Exception):
     """A request that was refused, or that has no reply.
 
     `code` is the letter and the number, as "O4", or the whole text if it has none, as NO_BUNDLE. `text` is what the
-    command prints after "fedbundle: ", as "O4 KeyNotInCurrent". `status` is the exit status with which it ends.
+    command prints after "fedbundle: ", as "O4 KeyNotInCurrent". `status` is the exit status with which it ends. `reason`
+    is why the client itself gave up, if it did.
     """
 
-    def __init__(self, code: str, text: str, status: int) -> None:
-        super().__init__(text)
+    def __init__(self, code: str, text: str, status: int, reason: str = "") -> None:
+        super().__init__(f"{text}: {reason}" if reason else text)
         self.code = code
         self.text = text
         self.status = status
+        self.reason = reason
 
 
 # ---- what is asked and answered
@@ -443,39 +446,33 @@ class Watch:
 
 def parse_bundle(domain: str, document: bytes) -> Bundle:
     """Reads the canonical JSON of a bundle, as Client.bundle returns it. The code is BAD_REPLY if it is not a bundle."""
-    said = _Members(_parse_json(document))
-    authorities = [key for key in said.objects("keys") if key.value.get("use") == "x509-svid"]
-    return Bundle(
-        domain=domain,
-        id=hashlib.sha256(domain.encode() + b"\n" + document).hexdigest(),
-        document=document,
-        sequence=said.number_if_any("spiffe_sequence"),
-        refresh_hint=said.number_if_any("spiffe_refresh_hint"),
-        x509_authorities=tuple(_certificate(key.value.get("x5c")) for key in authorities),
-    )
+    try:
+        return _parse_bundle(domain, document)
+    except ReplicaError as error:
+        raise _bad_reply(f"the bundle of {domain}: {error.reason}") from None
 
 
 # ---- errors
 
 
-def _no_replica() -> ReplicaError:
-    return ReplicaError(NO_REPLICA, NO_REPLICA, 3)
+def _no_replica(reason: str) -> ReplicaError:
+    return ReplicaError(NO_REPLICA, NO_REPLICA, 3, reason)
 
 
-def _no_reply() -> ReplicaError:
-    return ReplicaError(NO_REPLY, NO_REPLY, 3)
+def _no_reply(reason: str) -> ReplicaError:
+    return ReplicaError(NO_REPLY, NO_REPLY, 3, reason)
 
 
-def _bad_reply() -> ReplicaError:
-    return ReplicaError(BAD_REPLY, BAD_REPLY, 3)
+def _bad_reply(reason: str) -> ReplicaError:
+    return ReplicaError(BAD_REPLY, BAD_REPLY, 3, reason)
 
 
-def _usage() -> ReplicaError:
-    return ReplicaError(USAGE, USAGE, 2)
+def _usage(reason: str) -> ReplicaError:
+    return ReplicaError(USAGE, USAGE, 2, reason)
 
 
-def _io_failed() -> ReplicaError:
-    return ReplicaError(IO, "S9 Io", 3)
+def _io_failed(reason: str) -> ReplicaError:
+    return ReplicaError(IO, "S9 Io", 3, reason)
 
 
 def _refusal(reply: Reply) -> ReplicaError:
@@ -503,25 +500,30 @@ class _Limit:
     def slice(self) -> float:
         """How long to wait before the limit is to be asked again. Raises NO_REPLY if the time is over."""
         left = self._end - time.monotonic()
-        if left <= 0 or (self._cancelled and self._cancelled.is_set()):
-            raise _no_reply()
+        if self._cancelled and self._cancelled.is_set():
+            raise _no_reply("cancelled")
+        if left <= 0:
+            raise _no_reply("the time is over")
         return min(left, _CANCEL_PAUSE) if self._cancelled else left
 
 
 def _path(path: SocketPath) -> bytes:
-    found = os.fsencode(path)
+    try:
+        found = os.fsencode(path)
+    except UnicodeEncodeError as error:
+        raise _usage(str(error)) from None
     if not found or b"\0" in found:
-        raise _usage()
+        raise _usage(f"{path!r} is not the path of a socket")
     if len(found) > _PATH_LIMIT:
-        raise _io_failed()
+        raise _io_failed(os.strerror(errno.ENAMETOOLONG))
     return found
 
 
 def _words_line(words: Sequence[str]) -> bytes:
     try:
         return json.dumps(list(words), ensure_ascii=False).encode() + b"\n"
-    except UnicodeEncodeError:
-        raise _usage() from None
+    except UnicodeEncodeError as error:
+        raise _usage(str(error)) from None
 
 
 def _connect(path: bytes, limit: _Limit) -> socket.socket:
@@ -537,7 +539,8 @@ def _connect(path: bytes, limit: _Limit) -> socket.socket:
             time.sleep(min(limit.slice(), _CONNECT_PAUSE))
         except OSError as error:
             stream.close()
-            raise (_io_failed() if isinstance(error, PermissionError) else _no_replica()) from error
+            failed = _io_failed if isinstance(error, PermissionError) else _no_replica
+            raise failed(str(error)) from None
         except BaseException:
             stream.close()
             raise
@@ -584,13 +587,13 @@ def _read_reply(receive: Callable[[], bytes], most: int) -> Reply:
     while (end := text.find(b"\n")) < 0 and len(text) <= _HEAD_LIMIT:
         piece = receive()
         if not piece:
-            raise _no_replica()
+            raise _no_replica("the reply has no first line")
         text += piece
     if not 0 <= end <= _HEAD_LIMIT:
-        raise _no_replica()
+        raise _no_replica("the first line of the reply is too long")
     output, errors, status = _parse_head(bytes(text[:end]))
     if output + errors > most:
-        raise _no_replica()
+        raise _no_replica(f"the reply has more than {most} bytes")
     del text[: end + 1]
     while len(text) <= output + errors:
         piece = receive()
@@ -598,7 +601,7 @@ def _read_reply(receive: Callable[[], bytes], most: int) -> Reply:
             break
         text += piece
     if len(text) != output + errors:
-        raise _no_replica()
+        raise _no_replica(f"the reply does not have the {output + errors} bytes that its first line says")
     return Reply(bytes(text[:output]), bytes(text[output:]), status)
 
 
@@ -607,10 +610,10 @@ def _parse_head(line: bytes) -> Tuple[int, int, int]:
     try:
         said = _Members(_parse_json(line))
         output, errors, status = (said.count(name) for name in ("output", "errors", "status"))
-    except ReplicaError:
-        raise _no_replica() from None
+    except ReplicaError as error:
+        raise _no_replica(f"the first line of the reply: {error.reason}") from None
     if status > 255:
-        raise _no_replica()
+        raise _no_replica(f"the first line of the reply: the exit status {status}")
     return output, errors, status
 
 
@@ -620,8 +623,8 @@ def _parse_head(line: bytes) -> Tuple[int, int, int]:
 def _parse_json(text: Union[bytes, str]) -> Any:
     try:
         return json.loads(_decoded(text) if isinstance(text, bytes) else text)
-    except (ValueError, RecursionError):
-        raise _bad_reply() from None
+    except (ValueError, RecursionError) as error:
+        raise _bad_reply(str(error)) from None
 
 
 class _Members:
@@ -629,14 +632,14 @@ class _Members:
 
     def __init__(self, value: Any) -> None:
         if not isinstance(value, dict):
-            raise _bad_reply()
+            raise _bad_reply("not an object")
         self.value = value
 
     def _of(self, name: str, kind: Type[_Kind]) -> _Kind:
         found = self.value.get(name)
         # In Python a truth value is a number, too.
         if not isinstance(found, kind) or (kind is int and isinstance(found, bool)):
-            raise _bad_reply()
+            raise _bad_reply(f"{name} is not {kind.__name__}")
         return found
 
     def text(self, name: str) -> str:
@@ -651,7 +654,7 @@ class _Members:
     def count(self, name: str) -> int:
         found = self.number(name)
         if found < 0:
-            raise _bad_reply()
+            raise _bad_reply(f"{name} is below 0")
         return found
 
     def text_if_any(self, name: str) -> Optional[str]:
@@ -662,6 +665,19 @@ class _Members:
 
     def objects(self, name: str) -> List[_Members]:
         return [_Members(one) for one in self._of(name, list)]
+
+
+def _parse_bundle(domain: str, document: bytes) -> Bundle:
+    said = _Members(_parse_json(document))
+    authorities = [key for key in said.objects("keys") if key.value.get("use") == "x509-svid"]
+    return Bundle(
+        domain=domain,
+        id=hashlib.sha256(domain.encode() + b"\n" + document).hexdigest(),
+        document=document,
+        sequence=said.number_if_any("spiffe_sequence"),
+        refresh_hint=said.number_if_any("spiffe_refresh_hint"),
+        x509_authorities=tuple(_certificate(key.value.get("x5c")) for key in authorities),
+    )
 
 
 def _parse_status(text: bytes) -> Status:
@@ -733,7 +749,7 @@ def _document_of(line: str) -> bytes:
     """The document as the line spells it. It is the first member."""
     begin = '{"doc":'
     if not line.startswith(begin):
-        raise _bad_reply()
+        raise _bad_reply("a receipt does not begin with its document")
     _, end = json.JSONDecoder().raw_decode(line, len(begin))
     return line[len(begin):end].encode()
 
@@ -742,7 +758,7 @@ def _parse_merged(line: bytes) -> int:
     """Reads "new 5"."""
     found = re.fullmatch(rb"new ([0-9]{1,20})", line)
     if not found:
-        raise _bad_reply()
+        raise _bad_reply("not a count of receipts")
     return int(found.group(1))
 
 
@@ -751,12 +767,12 @@ def _poll_lines(polls: Iterable[Poll]) -> bytes:
     lines = []
     for poll in polls:
         if " " in poll.domain or "\n" in poll.domain:
-            raise _usage()
+            raise _usage(f"{poll.domain!r} is not the name of a trust domain")
         lines.append(f"{poll.domain} {'ok' if poll.ok else 'fail'} {poll.second:d}\n")
     try:
         return "".join(lines).encode()
-    except UnicodeEncodeError:
-        raise _usage() from None
+    except UnicodeEncodeError as error:
+        raise _usage(str(error)) from None
 
 
 def _parse_next_poll(line: str) -> NextPoll:
@@ -765,25 +781,25 @@ def _parse_next_poll(line: str) -> NextPoll:
     if when in ("due", "past range"):
         return NextPoll(domain, when == "due", None)
     if not re.fullmatch(r"-?[0-9]{1,19}", when):
-        raise _bad_reply()
+        raise _bad_reply(f"{line!r} does not say when a bundle is to be fetched")
     return NextPoll(domain, False, int(when))
 
 
 def _certificate(chain: Any) -> bytes:
     """The certificate of an X.509 authority, as DER."""
     if not isinstance(chain, list) or len(chain) != 1 or not isinstance(chain[0], str):
-        raise _bad_reply()
+        raise _bad_reply("an X.509 authority does not have one certificate")
     try:
         return base64.b64decode(chain[0], validate=True)
-    except ValueError:
-        raise _bad_reply() from None
+    except ValueError as error:
+        raise _bad_reply(str(error)) from None
 
 
 def _decoded(text: bytes) -> str:
     try:
         return text.decode()
-    except UnicodeDecodeError:
-        raise _bad_reply() from None
+    except UnicodeDecodeError as error:
+        raise _bad_reply(str(error)) from None
 
 
 def _lines(text: bytes) -> List[str]:
@@ -795,5 +811,5 @@ def _lines(text: bytes) -> List[str]:
 def _only_line(text: bytes) -> bytes:
     """The text without its line feed, which it has only at its end."""
     if not text or text.find(b"\n") != len(text) - 1:
-        raise _bad_reply()
+        raise _bad_reply("the answer is not one line")
     return text[:-1]

@@ -151,7 +151,7 @@ class Requests(Case):
             (b"", 7, "status 7", "status 7"),
         ]:
             found = self.fails(code, status, self.replying(replied(b"", errors, status)).report)
-            self.assertEqual((text, text), (found.text, str(found)))
+            self.assertEqual((text, text, ""), (found.text, str(found), found.reason))
         refusing = self.replying(replied(b"", b"fedbundle: too many requests\n", 1))
         self.fails(client.TOO_MANY_REQUESTS, 1, refusing.status)
 
@@ -160,7 +160,7 @@ class Requests(Case):
             file = Path(folder) / "file"
             file.touch()
             for path, code, status in [
-                ("", client.USAGE, 2), ("a\0b", client.USAGE, 2), ("\0abstract", client.USAGE, 2),
+                ("", client.USAGE, 2), ("a\0b", client.USAGE, 2), ("\0abstract", client.USAGE, 2), ("\ud800", client.USAGE, 2),
                 ("/" + "x" * 107, client.IO, 3), ("/" + "x" * 106, client.NO_REPLICA, 3), (file, client.NO_REPLICA, 3),
                 (folder, client.NO_REPLICA, 3), (f"{folder}/none".encode(), client.NO_REPLICA, 3),
             ]:
@@ -329,7 +329,8 @@ class Servers(Case):
             self.fails(client.NO_REPLY, 3, self.silent(head).report, timeout=0.05)
         asked = self.silent()
         asked.timeout = 0.05
-        self.fails(client.NO_REPLY, 3, asked.report)
+        found = self.fails(client.NO_REPLY, 3, asked.report)
+        self.assertEqual("no reply: the time is over", str(found))
         self.fails(client.NO_REPLY, 3, asked.merge, bytes(16 << 20))
         self.quick(start)
 

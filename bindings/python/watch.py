@@ -8,7 +8,7 @@ from fedbundle_client import Client
 try:
     for update in Client(sys.argv[1]).watch(every=1.0):
         if update.error:
-            print(update.domain, update.error, file=sys.stderr, flush=True)  # no replica
+            print(update.error, file=sys.stderr, flush=True)  # no replica: ..
         elif update.bundle:
             keys = [hashlib.sha256(certificate).hexdigest() for certificate in update.bundle.x509_authorities]
             print(update.domain, update.bundle.id, f"[{' '.join(keys)}]", flush=True)

@@ -33,7 +33,7 @@ type Update struct {
 // An error is given for each poll that fails, as if the replica is away. Watch then goes on. The channel is closed soon
 // after the context ends, and no poll is made while an update waits to be received.
 func (c *Client) Watch(ctx context.Context, options WatchOptions) <-chan Update {
-	if options.Every == 0 {
+	if options.Every <= 0 {
 		options.Every = DefaultEvery
 	}
 	w := &watch{client: c, options: options, given: map[string]string{}, updates: make(chan Update)}

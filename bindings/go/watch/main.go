@@ -18,7 +18,7 @@ func watch(ctx context.Context, replica *client.Client) {
 	for update := range replica.Watch(ctx, client.WatchOptions{Every: time.Second}) {
 		switch {
 		case update.Err != nil:
-			log.Print(update.Domain, " ", update.Err) // fedbundle: no replica: ..
+			log.Print(update.Err) // fedbundle: no replica: ..
 		case update.Bundle == nil:
 			fmt.Println(update.Domain, "none")
 		default:
