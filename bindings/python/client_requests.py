@@ -1,5 +1,5 @@
-"""Makes the requests that it reads, one a line, and prints what came of each, as bindings/go/requests does, which says how
-a line is written."""
+"""Makes the requests that it reads, one a line, and prints what came of each, as bindings/go/requests does. That says how a
+line is written."""
 import base64
 import dataclasses
 import json

@@ -420,7 +420,7 @@ class Watch:
                 yield from self._look(domain, current.get(domain, ""))
             except ReplicaError as error:
                 yield Update(domain, error=error)
-                # A bundle that cannot be read says nothing about the others. Without a reply there is none for them, either.
+                # A bundle that cannot be read says nothing about the others. Without a reply none of them is asked for.
                 if error.code != BAD_REPLY:
                     return
 

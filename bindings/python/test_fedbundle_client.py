@@ -160,8 +160,9 @@ class Requests(Case):
             file = Path(folder) / "file"
             file.touch()
             for path, code, status in [
-                ("", client.USAGE, 2), ("a\0b", client.USAGE, 2), ("\0abstract", client.USAGE, 2), ("\ud800", client.USAGE, 2),
-                ("/" + "x" * 107, client.IO, 3), ("/" + "x" * 106, client.NO_REPLICA, 3), (file, client.NO_REPLICA, 3),
+                ("", client.USAGE, 2), ("a\0b", client.USAGE, 2), ("\0abstract", client.USAGE, 2),
+                ("\ud800", client.USAGE, 2), ("/" + "x" * 107, client.IO, 3), ("/" + "x" * 106, client.NO_REPLICA, 3),
+                (file, client.NO_REPLICA, 3),
                 (folder, client.NO_REPLICA, 3), (f"{folder}/none".encode(), client.NO_REPLICA, 3),
             ]:
                 self.fails(code, status, Client(path).report)
@@ -202,7 +203,8 @@ STATUS = {
     ],
     "warnings": [
         {"kind": "no-current", "domain": "b"}, {"kind": "expires", "domain": "a", "key": "k1", "not_after": -1},
-        {"kind": "quiet-peer", "peer": "127.0.0.1:2", "since": 9}, {"kind": "nearly-full", "what": "receipts", "held": 60000},
+        {"kind": "quiet-peer", "peer": "127.0.0.1:2", "since": 9},
+        {"kind": "nearly-full", "what": "receipts", "held": 60000},
     ],
 }
 
@@ -370,7 +372,8 @@ class Changing:
         if self.away:
             return
         if words[0] == "status":
-            stream.sendall(replied(json.dumps({**STATUS, "domains": [self.domain(*one) for one in self.current.items()]}).encode()))
+            domains = [self.domain(*one) for one in self.current.items()]
+            stream.sendall(replied(json.dumps({**STATUS, "domains": domains}).encode()))
             return
         document = self.current[words[1][len("--domain="):]]
         refusal = replied(b"", b"fedbundle: no current bundle\n", 1)
@@ -391,7 +394,8 @@ class Watches(Case):
     def gives(self, watch, domain, document):
         """The next update that is not an error of the whole replica."""
         update = next(one for one in watch if one.domain)
-        self.assertEqual((domain, document, None), (update.domain, update.bundle and update.bundle.document, update.error))
+        given = update.bundle and update.bundle.document
+        self.assertEqual((domain, document, None), (update.domain, given, update.error))
 
     def test_changes(self):
         first, second = b'{"keys":[],"spiffe_sequence":1}', b'{"keys":[],"spiffe_sequence":2}'

@@ -70,7 +70,7 @@ func (w *watch) poll(ctx context.Context) {
 		if err != nil {
 			w.give(ctx, Update{Domain: domain, Err: err})
 		}
-		// A bundle that cannot be read says nothing about the others. Without a reply there is none for them, either.
+		// A bundle that cannot be read says nothing about the others. Without a reply none of them is asked for.
 		if err != nil && !HasCode(err, BadReply) {
 			return
 		}
