@@ -481,7 +481,7 @@ func TestPaths(t *testing.T) {
 		path, code string
 		status     int
 	}{
-		{"", Usage, 2}, {"a\x00b", Usage, 2}, {"/" + strings.Repeat("x", 107), Io, 3}, {"/" + strings.Repeat("x", 106), NoReplica, 3},
+		{"", Usage, 2}, {"a\x00b", Usage, 2}, {"/" + strings.Repeat("x", 107), IO, 3}, {"/" + strings.Repeat("x", 106), NoReplica, 3},
 		{file, NoReplica, 3}, {folder, NoReplica, 3}, {filepath.Join(folder, "none"), NoReplica, 3}, {file + "/x", NoReplica, 3},
 	} {
 		_, err := New(row.path).Report(context.Background())

@@ -27,8 +27,8 @@ const (
 	ReadOnly = "read only"
 	// TooManyRequests: the replica has no room for one more request. Nothing was changed.
 	TooManyRequests = "too many requests"
-	// Io: a file or a socket failed, or access to it was refused.
-	Io = "S9"
+	// IO: a file or a socket failed, or access to it was refused.
+	IO = "S9"
 )
 
 // Error is a request that was refused, or that has no reply.
@@ -96,5 +96,5 @@ func usage(cause error) *Error {
 }
 
 func ioFailed(cause error) *Error {
-	return &Error{Code: Io, Text: "S9 Io", Status: 3, cause: cause}
+	return &Error{Code: IO, Text: "S9 Io", Status: 3, cause: cause}
 }
