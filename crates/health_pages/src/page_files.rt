@@ -177,7 +177,7 @@ th, td { text-align: left; vertical-align: top; padding: .4rem 1rem .4rem 0; bor
 var(--line); }
 thead th { border: 0; color: var(--quiet); font-size: .9rem; font-weight: 600; white-space: \
 nowrap; }
-tbody th { font-weight: 600; overflow-wrap: anywhere; }
+tbody th { font-weight: 600; overflow-wrap: anywhere; min-width: 7rem; }
 td li { display: flex; flex-wrap: wrap; gap: 0 .7rem; }
 /* The whole id is there, to be copied, and its beginning shows. */
 code { font: .92em/1.5 ui-monospace, monospace; user-select: all; }
