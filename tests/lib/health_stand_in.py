@@ -25,6 +25,15 @@ FIRST = re.compile(rb"(%s) (/[!-~]*) HTTP/(\d)\.(\d)" % TOKEN)
 FIELD = re.compile(rb"(%s):[ \t]*([ -~\t]*)" % TOKEN)
 
 
+# What only the loop of a replica counts. A stand-in has no loop.
+COUNTS = ["requests", "pages", "sessions", "faults", "received_bytes", "sent_bytes", "folds"]
+GAUGES = {"info": '{version="none"} 1', "start_time_seconds": f" {int(time.time())}", "longest_turn_seconds": " 0.000"}
+LOOP = "".join([*(f"# HELP fedbundle_loop_{name}_total Of a stand-in.\n# TYPE fedbundle_loop_{name}_total counter\n"
+                  f"fedbundle_loop_{name}_total 0\n" for name in COUNTS),
+                *(f"# HELP fedbundle_loop_{name} Of a stand-in.\n# TYPE fedbundle_loop_{name} gauge\n"
+                  f"fedbundle_loop_{name}{value}\n" for name, value in GAUGES.items())]).encode()
+
+
 class Refusal(Exception):
     """A request that is not answered, and the status for it."""
 
@@ -136,7 +145,7 @@ class StandIn:
             return reply_of(200, b"ready\n") if is_ready else reply_of(503, b"no peer was heard yet\n")
         if path == "/metrics":
             body = self.printed("status", *self.at, "--format", "prometheus")
-            return reply_of(200, body, "text/plain; version=0.0.4; charset=utf-8")
+            return reply_of(200, body + LOOP, "text/plain; version=0.0.4; charset=utf-8")
         if path == "/status.json":
             return reply_of(200, self.printed("status", *self.at, "--format", "json"), "application/json")
         if path == "/report.json":

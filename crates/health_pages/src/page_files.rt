@@ -162,7 +162,7 @@ border-radius: .3rem; }
 .warn { color: var(--warn); }
 .good { color: var(--good); }
 
-dl { display: grid; grid-template-columns: repeat(auto-fit, minmax(9.5rem, 1fr)); gap: .8rem \
+dl { display: grid; grid-template-columns: repeat(auto-fit, minmax(8.5rem, 1fr)); gap: .8rem \
 1.5rem; margin: 0; }
 dt { font-size: .9rem; }
 dd { margin: 0; font-size: 1.35rem; font-variant-numeric: tabular-nums; }
