@@ -88,8 +88,18 @@ fn say_why(rt: &HostRuntime, call: &Call<'_>, exit: &Exit) -> Result<(), AllocEr
         Exit::TooManyBytes => say_option(rt, call, OptionName::MostBytes, "would be passed"),
         Exit::System(fault) => say_system(rt, call, fault),
         Exit::Refused(error) => say_refusal(rt, call, error),
-        Exit::Usage => Ok(()),
+        Exit::Usage => say_keys(rt, call),
     }
+}
+
+// `distrust` wants one of two options.
+fn say_keys(rt: &HostRuntime, call: &Call<'_>) -> Result<(), AllocError> {
+    if call.name == CommandName::Distrust && given(call, OptionName::OptionalKey).is_none() {
+        say(rt, "distrust: --key is missing");
+    } else if call.name == CommandName::Distrust && given(call, OptionName::PublicKey).is_some() {
+        say(rt, "distrust: --public-key may not stand beside --key");
+    }
+    Ok(())
 }
 
 // The option, its text, and what is wrong with that.

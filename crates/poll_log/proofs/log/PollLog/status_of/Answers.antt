@@ -1,11 +1,10 @@
-use Rattle.std.proofs.Common.{◌≡◌, ◌∙◌, ◌<◌, refl, Err, None, Some, length, subst, sym, ap, arith}
+use Rattle.std.proofs.Common.{◌≡◌, ◌∙◌, ◌<◌, None, Some, length, subst, sym, ap, arith}
 use Rattle.std.specs.List.{slice_get, Contains}
 use Rattle.std.proofs.lemmas.List.{length-map}
-use Rattle.poll_log.specs.Polling.{IsLog, IsNext, polled_domains, standing_in}
+use Rattle.poll_log.specs.Polling.{IsLog, polled_domains, standing_in}
 use Rattle.poll_log.specs.Inside.Statuses.{kept_status}
-use Rattle.poll_log.specs.declared.error.PollError.TheVariants.{NoRelationship}
 use Rattle.poll_log.proofs.PollFacts.{standing_in-held, standing_in-none, within_log}
-use Rattle.poll_log.proofs.log.PollLog.next_poll.Goals as goal
+use Rattle.poll_log.proofs.log.PollLog.status_of.Goals as goal
 
 pub returns-in-Some : goal.returns-in-Some
 returns-in-Some c =
@@ -20,14 +19,10 @@ returns-in-Some c =
       length-map c.self.inside.statuses.items kept_status,
       within_log c.args.self.now c.in-Some.place c.args.domain.now at,
     ) in
-    subst (λ s. IsNext c.args.hint s c.next_poll.result)
-    (sym (standing_in-held c.self.inside.statuses.items c.args.self.now c.args.domain.now c.in-Some.place
-    c.index.result.now c.self.view_is is at c.index.ensures within))
-    c.next_poll.ensures
+    sym (standing_in-held c.self.inside.statuses.items c.args.self.now c.args.domain.now c.in-Some.place
+    c.index.result.now c.self.view_is is at c.index.ensures within)
 
 pub returns-in-None : goal.returns-in-None
 returns-in-None c =
     let same : c.as_bytes.result.now ≡ c.args.domain.now = c.as_bytes.ensures.value ∙ c.as_str.ensures.text in
-    let none : standing_in c.args.self.now c.args.domain.now ≡ None =
-    standing_in-none c.args.self.now c.args.domain.now (λ has. c.in-None.ensures.place (subst (Contains (polled_domains c.args.self.now)) (sym same) has)) in
-    subst (λ s. IsNext c.args.hint s (Err NoRelationship)) (sym none) refl
+    sym (standing_in-none c.args.self.now c.args.domain.now (λ has. c.in-None.ensures.place (subst (Contains (polled_domains c.args.self.now)) (sym same) has)))
