@@ -3,7 +3,7 @@
 // the keys and the graph cost the replica more, so they are read again only if the status says something else.
 const EVERY = 15000, LONGEST = 60000, ROWS = 1000, BOXES = 60, DAY = 86400;
 const byId = (id) => document.getElementById(id);
-const seen = {};
+const seen = { keys: [] };
 
 // ---- what is read
 
@@ -23,15 +23,18 @@ async function readAll() {
   const held = JSON.stringify([config, receipts, pending, records, domains]);
   if (seen.held !== held) {
     seen.report = await objectOf("report.json");
-    Object.assign(seen, { status, held, drawn: "", keys: null });
+    Object.assign(seen, { status, held, drawn: "", isWhole: false });
     show();
     seen.keys = (await objectOf("keys.json")).keys;
+    seen.isWhole = true;
   }
   seen.status = status;
   show();
   const domain = byId("chosen").value;
   if (domain && seen.drawn !== domain) {
-    showGraph(graphOf(await textOf(`graph.dot?domain=${encodeURIComponent(domain)}`)), domain);
+    const graph = graphOf(await textOf(`graph.dot?domain=${encodeURIComponent(domain)}`));
+    if (byId("chosen").value !== domain) return;
+    showGraph(graph, domain);
     seen.drawn = domain;
   }
 }
@@ -192,18 +195,17 @@ function showRest(status, report) {
 }
 
 function showChoice(status) {
-  const chosen = byId("chosen"), wanted = chosen.value || decodeURIComponent(location.hash.slice(1));
+  const chosen = byId("chosen"), wanted = chosen.value || location.hash.slice(1);
   put(chosen, status.domains.map(({ domain }) => make("option", {}, domain)));
   chosen.value = wanted;
   if (!chosen.value) chosen.selectedIndex = 0;
 }
 
 function show() {
-  if (!seen.status) return;
   showWarnings(seen.status);
   showNumbers(seen.status);
-  showDomains(seen.status, seen.keys || []);
-  showKeys(seen.keys || []);
+  showDomains(seen.status, seen.keys);
+  showKeys(seen.keys);
   showRest(seen.status, seen.report);
   showChoice(seen.status);
 }
@@ -326,10 +328,9 @@ async function look() {
   try {
     await readAll();
     seen.at = now();
-    if (!seen.keys) failed = "The keys were not read. Look now tries it again.";
+    if (!seen.isWhole) failed = "The keys were not read. Look now tries it again.";
     byId("looked").textContent = `Seen at ${clock(seen.at)} UTC, and again every ${EVERY / 1000} s.`;
   } catch (error) {
-    show();
     failed = `The last look failed at ${clock(now())} UTC (${error.message}). `
       + (seen.at ? `What is below was seen at ${clock(seen.at)}.` : "Not all was seen yet.");
   }
@@ -342,7 +343,7 @@ async function look() {
 byId("again").addEventListener("click", () => { seen.held = ""; look(); });
 byId("chosen").addEventListener("change", look);
 addEventListener("hashchange", () => {
-  byId("chosen").value = decodeURIComponent(location.hash.slice(1));
+  byId("chosen").value = location.hash.slice(1);
   look();
 });
 look();

@@ -3,16 +3,16 @@
 It reads one request of a connection, answers, and closes. It takes GET and HEAD of the paths that it knows, refuses all else,
 and holds at most 16 connections. What a replica cannot be asked by `--at`, it asks over the files.
 """
+import json
 import re
 import socket
 import subprocess
 import threading
 import time
 from pathlib import Path
-from urllib.parse import unquote
 
 WEB = Path(__file__).resolve().parent.parent.parent / "web"
-MOST_BYTES, MOST_SECONDS, MOST_CONNECTIONS = 8192, 10, 16
+MOST_BYTES, MOST_FIELDS, MOST_SECONDS, MOST_CONNECTIONS = 8192, 64, 10, 16
 POLICY = ("default-src 'none'; script-src 'self'; style-src 'self'; connect-src 'self'; base-uri 'none'; "
           "form-action 'none'; frame-ancestors 'none'")
 FILES = {"/": ("index.html", "text/html"), "/page.css": ("page.css", "text/css"),
@@ -25,6 +25,15 @@ FIRST = re.compile(rb"(%s) (/[!-~]*) HTTP/(\d)\.(\d)" % TOKEN)
 FIELD = re.compile(rb"(%s):[ \t]*([ -~\t]*)" % TOKEN)
 
 
+# What only the loop of a replica counts. A stand-in has no loop.
+COUNTS = ["requests", "pages", "sessions", "faults", "received_bytes", "sent_bytes", "folds"]
+GAUGES = {"info": '{version="none"} 1', "start_time_seconds": f" {int(time.time())}", "longest_turn_seconds": " 0.000"}
+LOOP = "".join([*(f"# HELP fedbundle_loop_{name}_total Of a stand-in.\n# TYPE fedbundle_loop_{name}_total counter\n"
+                  f"fedbundle_loop_{name}_total 0\n" for name in COUNTS),
+                *(f"# HELP fedbundle_loop_{name} Of a stand-in.\n# TYPE fedbundle_loop_{name} gauge\n"
+                  f"fedbundle_loop_{name}{value}\n" for name, value in GAUGES.items())]).encode()
+
+
 class Refusal(Exception):
     """A request that is not answered, and the status for it."""
 
@@ -35,13 +44,14 @@ def target_of(head):
     first = FIRST.fullmatch(lines[0])
     if not first:
         raise Refusal(400)
-    if first[3] != b"1":
+    if first[3] != b"1" or first[4] not in b"01":
         raise Refusal(505)
     fields = [FIELD.fullmatch(line) for line in lines[1:]]
     if not all(fields):
         raise Refusal(400)
     names = [field[1].lower() for field in fields]
-    if names.count(b"host") != 1 or b"content-length" in names or b"transfer-encoding" in names:
+    hosts = (1,) if first[4] == b"1" else (0, 1)
+    if len(names) > MOST_FIELDS or names.count(b"host") not in hosts or {b"content-length", b"transfer-encoding"} & set(names):
         raise Refusal(400)
     if first[1] not in (b"GET", b"HEAD"):
         raise Refusal(405)
@@ -58,10 +68,7 @@ def read_head(stream, until):
         if not piece:
             raise Refusal(400)
         read += piece
-    head, _, rest = read.partition(b"\r\n\r\n")
-    if rest:
-        raise Refusal(400)
-    return head
+    return read.partition(b"\r\n\r\n")[0]
 
 
 class StandIn:
@@ -77,7 +84,10 @@ class StandIn:
         threading.Thread(target=self.accept, daemon=True).start()
 
     def close(self):
-        self.listener.shutdown(socket.SHUT_RDWR)
+        try:
+            self.listener.shutdown(socket.SHUT_RDWR)
+        except OSError:
+            pass
         self.listener.close()
 
     def accept(self):
@@ -120,18 +130,22 @@ class StandIn:
 
     def reply(self, target):
         path, _, query = target.partition("?")
-        domain = re.fullmatch(r"domain=([^&]+)", query)
+        domain = re.fullmatch(r"domain=([a-z0-9._-]+)", query)
         if query and not (path == "/graph.dot" and domain):
             raise Refusal(400)
         if path in FILES:
             name, kind = FILES[path]
             return reply_of(200, (WEB / name).read_bytes(), kind + "; charset=utf-8", path == "/")
-        if path in ("/live", "/ready"):
+        if path == "/live":
             self.printed("polls", *self.at, "--now", "0")
-            return reply_of(200, path[1:].encode() + b"\n")
+            return reply_of(200, b"live\n")
+        if path == "/ready":
+            peers = json.loads(self.printed("status", *self.at, "--format", "json"))["peers"]
+            is_ready = not peers or any(peer["ended_well"] is not None for peer in peers)
+            return reply_of(200, b"ready\n") if is_ready else reply_of(503, b"no peer was heard yet\n")
         if path == "/metrics":
             body = self.printed("status", *self.at, "--format", "prometheus")
-            return reply_of(200, body, "text/plain; version=0.0.4; charset=utf-8")
+            return reply_of(200, body + LOOP, "text/plain; version=0.0.4; charset=utf-8")
         if path == "/status.json":
             return reply_of(200, self.printed("status", *self.at, "--format", "json"), "application/json")
         if path == "/report.json":
@@ -139,7 +153,7 @@ class StandIn:
         if path == "/keys.json":
             return reply_of(200, self.printed("list", "--keys", *self.files, "--format", "json"), "application/json")
         if path == "/graph.dot":
-            words = ["--domain", unquote(domain[1])] if domain else []
+            words = ["--domain", domain[1]] if domain else []
             return reply_of(200, self.printed("graph", *self.files, *words), "text/vnd.graphviz; charset=utf-8")
         raise Refusal(404)
 

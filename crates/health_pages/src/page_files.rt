@@ -14,8 +14,8 @@ pub(crate) const INDEX_HTML: &str = "\
 <body>
 <header>
 <h1>fedbundle <span class=\"quiet\">one replica</span></h1>
-<p><span id=\"looked\" role=\"status\">Not looked yet.</span> <button type=\"button\" \
-id=\"again\">Look now</button></p>
+<p><span id=\"looked\">Not looked yet.</span> <button type=\"button\" id=\"again\">Look \
+now</button></p>
 </header>
 <main>
 <noscript>
@@ -162,7 +162,7 @@ border-radius: .3rem; }
 .warn { color: var(--warn); }
 .good { color: var(--good); }
 
-dl { display: grid; grid-template-columns: repeat(auto-fit, minmax(9.5rem, 1fr)); gap: .8rem \
+dl { display: grid; grid-template-columns: repeat(auto-fit, minmax(8.5rem, 1fr)); gap: .8rem \
 1.5rem; margin: 0; }
 dt { font-size: .9rem; }
 dd { margin: 0; font-size: 1.35rem; font-variant-numeric: tabular-nums; }
@@ -177,7 +177,7 @@ th, td { text-align: left; vertical-align: top; padding: .4rem 1rem .4rem 0; bor
 var(--line); }
 thead th { border: 0; color: var(--quiet); font-size: .9rem; font-weight: 600; white-space: \
 nowrap; }
-tbody th { font-weight: 600; overflow-wrap: anywhere; }
+tbody th { font-weight: 600; overflow-wrap: anywhere; min-width: 7rem; }
 td li { display: flex; flex-wrap: wrap; gap: 0 .7rem; }
 /* The whole id is there, to be copied, and its beginning shows. */
 code { font: .92em/1.5 ui-monospace, monospace; user-select: all; }
@@ -222,7 +222,7 @@ The report,
 something else.
 const EVERY = 15000, LONGEST = 60000, ROWS = 1000, BOXES = 60, DAY = 86400;
 const byId = (id) => document.getElementById(id);
-const seen = {};
+const seen = { keys: [] };
 
 // ---- what is read
 
@@ -243,15 +243,18 @@ async function readAll() {
   const held = JSON.stringify([config, receipts, pending, records, domains]);
   if (seen.held !== held) {
     seen.report = await objectOf(\"report.json\");
-    Object.assign(seen, { status, held, drawn: \"\", keys: null });
+    Object.assign(seen, { status, held, drawn: \"\", isWhole: false });
     show();
     seen.keys = (await objectOf(\"keys.json\")).keys;
+    seen.isWhole = true;
   }
   seen.status = status;
   show();
   const domain = byId(\"chosen\").value;
   if (domain && seen.drawn !== domain) {
-    showGraph(graphOf(await textOf(`graph.dot?domain=${encodeURIComponent(domain)}`)), domain);
+    const graph = graphOf(await textOf(`graph.dot?domain=${encodeURIComponent(domain)}`));
+    if (byId(\"chosen\").value !== domain) return;
+    showGraph(graph, domain);
     seen.drawn = domain;
   }
 }
@@ -438,19 +441,17 @@ ${ERRORS[fault]}` : orNone(fault),
 }
 
 function showChoice(status) {
-  const chosen = byId(\"chosen\"), wanted = chosen.value || \
-decodeURIComponent(location.hash.slice(1));
+  const chosen = byId(\"chosen\"), wanted = chosen.value || location.hash.slice(1);
   put(chosen, status.domains.map(({ domain }) => make(\"option\", {}, domain)));
   chosen.value = wanted;
   if (!chosen.value) chosen.selectedIndex = 0;
 }
 
 function show() {
-  if (!seen.status) return;
   showWarnings(seen.status);
   showNumbers(seen.status);
-  showDomains(seen.status, seen.keys || []);
-  showKeys(seen.keys || []);
+  showDomains(seen.status, seen.keys);
+  showKeys(seen.keys);
   showRest(seen.status, seen.report);
   showChoice(seen.status);
 }
@@ -591,11 +592,10 @@ async function look() {
   try {
     await readAll();
     seen.at = now();
-    if (!seen.keys) failed = \"The keys were not read. Look now tries it again.\";
+    if (!seen.isWhole) failed = \"The keys were not read. Look now tries it again.\";
     byId(\"looked\").textContent = `Seen at ${clock(seen.at)} UTC, and again every ${EVERY / 1000} \
 s.`;
   } catch (error) {
-    show();
     failed = `The last look failed at ${clock(now())} UTC (${error.message}). `
       + (seen.at ? `What is below was seen at ${clock(seen.at)}.` : \"Not all was seen yet.\");
   }
@@ -608,7 +608,7 @@ s.`;
 byId(\"again\").addEventListener(\"click\", () => { seen.held = \"\"; look(); });
 byId(\"chosen\").addEventListener(\"change\", look);
 addEventListener(\"hashchange\", () => {
-  byId(\"chosen\").value = decodeURIComponent(location.hash.slice(1));
+  byId(\"chosen\").value = location.hash.slice(1);
   look();
 });
 look();

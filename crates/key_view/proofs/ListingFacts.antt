@@ -47,8 +47,8 @@ pub key_listed : (id : DocId) (number : ℕ) (key : KeyId) (old mid new : BTreeM
     → listing.ids.items ≡ with_id id number before → listing.last ≡ number → AddsKey id number (Some key) old new
 key_listed id number key old mid new before listing was out put ids last =
     let at : (q : KeyId) → listing_at new q ≡ cond (is_one_key key q) (Some listing) (cond (is_one_key key q) None (listing_at old q))
-        = λ q. put q ∙ ap (λ b. cond b (Some listing) (listing_at mid q)) (same_key key q)
-        ∙ ap (λ l. cond (is_one_key key q) (Some listing) l) (out q ∙ ap (λ b. cond b None (listing_at old q)) (same_key key q)) in
+    = λ q. put q ∙ ap (λ b. cond b (Some listing) (listing_at mid q)) (same_key key q)
+    ∙ ap (λ l. cond (is_one_key key q) (Some listing) l) (out q ∙ ap (λ b. cond b None (listing_at old q)) (same_key key q)) in
     record {
       ids = λ q. new_ids (is_one_key key q) (listing_at new q) (listing_at old q) listing (with_id id number (listing_at old q)) (at q)
           (λ same. ids ∙ ap (with_id id number) (was ∙ ap (listing_at old) (one_key key q same)));
@@ -152,7 +152,7 @@ pub listings_more : (domain : List ℕ) (accepted : List Bundle) (k : ℕ) (d : 
     → AddsListed id number d.authorities old new → AreListed domain accepted (k + 1) new
 listings_more domain accepted k d id number old new low is so is_id is_number more =
     let taken : take (k + 1) accepted ≡ take k accepted ++ d ∷ [] =
-        ap (λ n. take n accepted) (add-one k) ∙ take-suc accepted k d low ∙ ap (λ z. take k accepted ++ z ∷ []) (sym is) in
+    ap (λ n. take n accepted) (add-one k) ∙ take-suc accepted k d low ∙ ap (λ z. take k accepted ++ z ∷ []) (sym is) in
     record {
       are = record {
         ids = λ key. more.ids key

@@ -73,7 +73,7 @@ pub public_keys_more : (entries : List KeyEntry) (k : ℕ) (e : KeyEntry) (old n
     → HasPublicKeys (take k entries) old → AddsPublicKey e old new → HasPublicKeys (take (k + 1) entries) new
 public_keys_more entries k e old new low is so more =
     let taken : take (k + 1) entries ≡ take k entries ++ e ∷ [] =
-        ap (λ n. take n entries) (add-one k) ∙ take-suc entries k e low ∙ ap (λ z. take k entries ++ z ∷ []) (sym is) in
+    ap (λ n. take n entries) (add-one k) ∙ take-suc entries k e low ∙ ap (λ z. take k entries ++ z ∷ []) (sym is) in
     record {
       same = λ wanted. more.same wanted
           ∙ ap (λ b. b || (e.is_distrusted && is_one_public_key e.parts wanted)) (so.same wanted)

@@ -45,9 +45,7 @@ impl<'a> DomainEntries<'a> {
     pub(crate) fn has_distrusted_key(&self, entry: &KeyEntry) -> bool
         ensures { result ≡ has_distrusted_key self.now entry.now }
     {
-        !entry.is_distrusted
-            && !entry.bundles.is_empty()
-            && self.has_distrusted_parts(&entry.parts)
+        !entry.is_distrusted && !entry.bundles.is_empty() && self.has_distrusted_parts(&entry.parts)
     }
 
     fn has_distrusted_parts(&self, parts: &Option<KeyParts>) -> bool
@@ -71,10 +69,7 @@ fn public_keys_of(alloc: Global, entries: &[KeyEntry]) -> Result<BTreeSet<[u8; 3
     Ok(public_keys)
 }
 
-fn push_public_key(
-    public_keys: &mut BTreeSet<[u8; 32]>,
-    entry: &KeyEntry,
-) -> Result<(), AllocError>
+fn push_public_key(public_keys: &mut BTreeSet<[u8; 32]>, entry: &KeyEntry) -> Result<(), AllocError>
     ensures { OnOk result (AddsPublicKey entry.now public_keys.old public_keys.new) }
 {
     if entry.is_distrusted {

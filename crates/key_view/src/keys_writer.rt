@@ -76,11 +76,7 @@ pub fn same_keys_text<C: Closure>(
     Ok(text)
 }
 
-fn push_same_keys(
-    alloc: Global,
-    out: &mut Vec<u8>,
-    keys: &DomainKeys,
-) -> Result<(), AllocError>
+fn push_same_keys(alloc: Global, out: &mut Vec<u8>, keys: &DomainKeys) -> Result<(), AllocError>
     ensures { OnOk result (out.new.items ≡ out.old.items ++ same_keys keys.now) }
 {
     let entries = DomainEntries::new(alloc, keys.keys.as_slice())?;
@@ -368,13 +364,7 @@ fn push_domain_jsons(
 {
     if !is_of_other(chosen, &keys.domain) {
         let entries = DomainEntries::new(alloc, keys.keys.as_slice())?;
-        push_key_jsons(
-            alloc,
-            texts,
-            &keys.domain,
-            &entries,
-            keys.keys.as_slice(),
-        )?;
+        push_key_jsons(alloc, texts, &keys.domain, &entries, keys.keys.as_slice())?;
     }
     Ok(())
 }

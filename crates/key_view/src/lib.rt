@@ -4,7 +4,7 @@
 //!
 //! `met_keys` finds the different keys, `listings` which documents list each, and `known_entry`
 //! what is known of one; `key_listing` puts that together. `domain_entries` has the public keys of
-//! those that are distrusted. `same_keys` and `keys_writer` select and write.
+//! those that are distrusted. `matching_keys` and `keys_writer` select and write.
 #![tactic(auto)]
 
 mod domain_entries;
@@ -12,10 +12,10 @@ mod key_listing;
 mod keys_writer;
 mod known_entry;
 mod listings;
+mod matching_keys;
 mod met_keys;
-mod same_keys;
 
 pub use key_listing::{DomainKeys, domain_keys};
 pub use keys_writer::{KeysForm, keys_text, same_keys_text};
 pub use known_entry::{KeyEntry, KeyParts};
-pub use same_keys::{keys_with, same_keys};
+pub use matching_keys::{keys_with, same_keys};

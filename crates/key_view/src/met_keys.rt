@@ -44,10 +44,7 @@ pub(crate) fn known_keys<C: Closure>(
     Ok(met.keys)
 }
 
-fn keys_of_documents(
-    alloc: Global,
-    accepted: &[AcceptedBundle<'_>],
-) -> Result<MetKeys, AllocError>
+fn keys_of_documents(alloc: Global, accepted: &[AcceptedBundle<'_>]) -> Result<MetKeys, AllocError>
     ensures keys { IfOk result (λ met. met.keys.items ≡ keys_of_documents accepted.now) }
     ensures ids { IfOk result HasIds }
 {

@@ -1,6 +1,6 @@
 use Rattle.std.proofs.Common.{◌≡◌, ◌++◌, drop}
 use Rattle.key_view.specs.SameKeys.{same_ids_among}
-use Rattle.key_view.proofs.same_keys.same_ids_among.Given as goal
+use Rattle.key_view.proofs.matching_keys.same_ids_among.Given as goal
 
 abbrev pub invariant-loop-entry : goal.invariant-loop-entry
 invariant-loop-entry l =

@@ -1,6 +1,6 @@
 use Rattle.std.proofs.Common.{◌≡◌, ◌++◌, drop}
 use Rattle.key_view.specs.SameKeys.{ids_with}
-use Rattle.key_view.proofs.same_keys.ids_with.Given as goal
+use Rattle.key_view.proofs.matching_keys.ids_with.Given as goal
 
 abbrev pub invariant-loop-entry : goal.invariant-loop-entry
 invariant-loop-entry l =
