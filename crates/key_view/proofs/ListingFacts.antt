@@ -14,10 +14,13 @@ use Rattle.jwk_set.specs.declared.authority.Authority.{Authority}
 use Rattle.jwk_set.specs.declared.authority.KeyId.{KeyId}
 use Rattle.bundle_doc.specs.Bundle.{Bundle, doc_id_of}
 use Rattle.bundle_doc.specs.declared.document.DocId.{DocId}
+use Rattle.receipt_core.specs.Acceptance.{Meaning}
 use Rattle.receipt_core.specs.Receipt.{key_cmp}
 use Rattle.receipt_core.specs.declared.distrust.Distrust.{Distrust}
-use Rattle.key_view.specs.KnownKeys.{is_one_key}
-use Rattle.key_view.specs.KeyEntries.{IsKeyEntry, bundle_ids, bundle_lists, is_own_id, is_some_key}
+use Rattle.closure_core.specs.AcceptedList.{IsAcceptedList}
+use Rattle.key_view.specs.KnownKeys.{is_one_key, known_keys}
+use Rattle.key_view.specs.KeyEntries.{IsDomainKeys, IsKeyEntry, bundle_ids, bundle_lists, is_own_id, is_some_key}
+use Rattle.key_view.specs.declared.key_listing.DomainKeys.{DomainKeys}
 use Rattle.key_view.specs.declared.known_entry.KeyEntry.{KeyEntry}
 use Rattle.key_view.specs.declared.listings.Listing.{Listing}
 use Rattle.key_view.specs.declared.met_keys.KnownKey.{KnownKey}
@@ -193,3 +196,21 @@ entries_listed domain accepted records listings [] (e ∷ keys) are zip = absurd
 entries_listed domain accepted records listings (k ∷ known) [] are zip = absurd zip
 entries_listed domain accepted records listings (k ∷ known) (e ∷ keys) are zip =
     (entry_listed domain accepted records listings k e are zip.0, entries_listed domain accepted records listings known keys are zip.1)
+
+-- The entries that were made of a domain's accepted documents, of the keys that they list and of these listings are its keys.
+pub keys_listed : (m : Meaning) (domain : List ℕ) (accepted one other : List Bundle) (known slice : List KnownKey)
+    (listings : BTreeMap KeyId Listing) (keys : DomainKeys) → keys.domain ≡ domain → IsAcceptedList m domain accepted
+    → one ≡ accepted → known ≡ known_keys m.held domain one → other ≡ accepted → AreListings domain other listings → slice ≡ known
+    → AllZip (IsListedEntry domain m.records listings) slice keys.keys.items → IsDomainKeys m keys
+keys_listed m domain accepted one other known slice listings keys is are is_one are_known is_other are_listed is_slice zip =
+    let listed = subst (λ ds. AreListings domain ds listings) is_other are_listed in
+    let made = subst (λ ks. AllZip (IsListedEntry domain m.records listings) ks keys.keys.items)
+    (is_slice ∙ are_known ∙ ap (known_keys m.held domain) is_one) zip in
+    record {
+      accepted = accepted;
+      are_accepted = subst (λ d. IsAcceptedList m d accepted) (sym is) are;
+      each = subst
+          (λ d. AllZip (IsKeyEntry (record { domain = d; accepted = accepted; records = m.records })) (known_keys m.held d accepted) keys.keys.items)
+          (sym is)
+          (entries_listed domain accepted m.records listings (known_keys m.held domain accepted) keys.keys.items listed made);
+    }
