@@ -1,5 +1,5 @@
 -- What a command that shows what is held does, by what its functions answer
-use Rattle.std.proofs.Common.{◌≡◌, ℕ, ℤ, Bool, true, false, if◌then◌else◌, inl, List, [], Result, Ok, Err, refl, subst, sym}
+use Rattle.std.proofs.Common.{◌≡◌, ℕ, ℤ, Bool, true, false, if◌then◌else◌, List, Option, Some, Result, Ok, Err, refl, subst, sym}
 use Rattle.std.specs.Int.{from_bool}
 use Rattle.byte_lines.specs.declared.error.DeviceError.{DeviceError}
 use Rattle.byte_lines.specs.declared.error.DeviceError.TheVariants.{Io as SourceFailed}
@@ -13,7 +13,7 @@ use Rattle.text_lines.specs.TextLines.{BeginsSome}
 use Rattle.fedbundle.specs.CommandRun.{CommandRun, DeviceRun, HasFailed, WritesNothing}
 use Rattle.fedbundle.specs.Errors.{of_read, of_report, of_run}
 use Rattle.fedbundle.specs.Polls.{RunsPollsIn, polls_call}
-use Rattle.fedbundle.specs.Shown.{IsUntouched, RefusesUnwritten, RunsWriter, ShownCall, ShowsBy, polls_form}
+use Rattle.fedbundle.specs.Shown.{IsUntouched, RefusesUnwritten, RunsWriter, ShownCall, ShowsBy, ShowsPolled, ShowsSight, StatusSight, polls_form}
 use Rattle.poll_view.specs.declared.polls_writer.PollsForm.{PollsForm}
 use Rattle.command_line.specs.declared.option_texts.OutputForm.{OutputForm}
 use Rattle.fedbundle.specs.declared.error.CommandError.{CommandError}
@@ -70,3 +70,8 @@ none_shown command.Status call run report list graph bundle explain polls status
 none_shown command.Distrust call run report list graph bundle explain polls status distrust unwritten unread = absurd (distrust refl)
 none_shown name call run report list graph bundle explain polls status distrust unwritten unread =
     (refused_words _ run.sink Usage refl unwritten, unread)
+
+-- the words name a file of polls, so the source has them
+pub sight_by : (path : List ℕ) (said : Option (List ℕ)) (sight : StatusSight) (run : CommandRun) (result : Result ℕ Exit) → Some path ≡ said
+    → ShowsPolled sight run result → ShowsSight said sight run result
+sight_by path said sight run result is shows = subst (λ text. ShowsSight text sight run result) is shows

@@ -12,6 +12,7 @@ use Rattle.fedbundle.specs.declared.exits.Exit.TheVariants.{TooManyBytes, System
 use Rattle.fedbundle.specs.declared.exits.Exit.TheVariants.{EmptyPath, BadNumber, NoReplica}
 use Rattle.fedbundle.specs.declared.exits.Exit.TheVariants.{NoReply, ReplicaRuns, SocketTaken}
 use Rattle.fedbundle.specs.declared.exits.Exit.TheVariants.{NoState, ReadOnly, StateExists}
+use Rattle.fedbundle.specs.declared.exits.Exit.TheVariants.{NoKnownKey}
 
 -- 2 for usage; 3 for a lock, a socket, or a replica that does not answer; what the refusal or the
 -- fault has; and else 1
@@ -38,6 +39,7 @@ IsExitLine BadMoment line = line ≡ codes "fedbundle: bad moment\n"
 IsExitLine BadAddress line = line ≡ codes "fedbundle: bad address\n"
 IsExitLine NoBundle line = line ≡ codes "fedbundle: no current bundle\n"
 IsExitLine NotAccepted line = line ≡ codes "fedbundle: not accepted\n"
+IsExitLine NoKnownKey line = line ≡ codes "fedbundle: no known key\n"
 IsExitLine Locked line = line ≡ codes "fedbundle: locked\n"
 IsExitLine ReplicaRuns line = line ≡ codes "fedbundle: a replica is running\n"
 IsExitLine SocketTaken line = line ≡ codes "fedbundle: socket taken\n"

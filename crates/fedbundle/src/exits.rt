@@ -35,6 +35,8 @@ pub enum Exit {
     NoBundle,
     /// The document is not accepted.
     NotAccepted,
+    /// No key that is known in the domain has the public key.
+    NoKnownKey,
     /// Another command had the lock of the state for the whole time.
     Locked,
     /// A running replica has the lock of the state.
@@ -110,7 +112,7 @@ pub fn exit_status(exit: &Exit) -> u8
     match exit {
         Exit::Usage | Exit::EmptyPath(_) | Exit::BadNumber(_) => 2,
         Exit::BadKey | Exit::BadMoment | Exit::BadAddress => 1,
-        Exit::NoBundle | Exit::NotAccepted | Exit::TooManyBytes => 1,
+        Exit::NoBundle | Exit::NotAccepted | Exit::NoKnownKey | Exit::TooManyBytes => 1,
         Exit::Locked | Exit::ReplicaRuns | Exit::SocketTaken => 3,
         Exit::NoReplica | Exit::NoReply => 3,
         Exit::NoState | Exit::StateExists | Exit::ReadOnly => 1,
@@ -133,6 +135,7 @@ pub fn write_exit<W: Sink>(exit: &Exit, sink: &mut W) -> Result<(), CommandError
         Exit::BadAddress => b"fedbundle: bad address\n",
         Exit::NoBundle => b"fedbundle: no current bundle\n",
         Exit::NotAccepted => b"fedbundle: not accepted\n",
+        Exit::NoKnownKey => b"fedbundle: no known key\n",
         Exit::Locked => b"fedbundle: locked\n",
         Exit::ReplicaRuns => b"fedbundle: a replica is running\n",
         Exit::SocketTaken => b"fedbundle: socket taken\n",

@@ -1,5 +1,5 @@
 //! What is held, and which document vouches for which, by what the words of `list` and `graph` say.
-ghost use Rattle.std.specs.Prelude.{◌≡◌, IfErr, IfOk, option_copied};
+ghost use Rattle.std.specs.Prelude.{◌≡◌, false, IfErr, IfOk, option_copied};
 ghost use Rattle.key_view.specs.KeysText.{IsKeysText};
 ghost use Rattle.replica_view.specs.HeldJson.{IsHeldJson};
 ghost use Rattle.replica_view.specs.HeldTexts.{IsHeldText};

@@ -5,6 +5,7 @@ use byte_lines::read_up_to;
 use fedbundle::{Call, CommandError, CommandName, Exit, OptionName, Step, given};
 use local_answers::{MOST_INPUT, request_words};
 use replica_loop::{AskFault, LocalRequest, ask_replica};
+use std::io::Write;
 
 /// Hands the words and, where the command reads it, standard input to the replica that listens at
 /// the path, and writes what it replies. It waits for the reply for this many seconds.
@@ -23,8 +24,17 @@ pub(crate) fn ask(
         input: text.as_slice(),
         wait_seconds,
     };
-    let asked = ask_replica(rt, rt.alloc(), &request, &mut rt.stdout(), &mut rt.stderr());
-    match asked {
+    ask_for(rt, &request, &mut rt.stdout())
+}
+
+/// Hands the request to the replica, and writes the two streams of its reply: the output there, and
+/// the errors on standard error.
+pub(crate) fn ask_for<W: Write>(
+    rt: &HostRuntime,
+    request: &LocalRequest<'_>,
+    output: &mut W,
+) -> Result<u8, Exit> {
+    match ask_replica(rt, rt.alloc(), request, output, &mut rt.stderr()) {
         Ok(status) => Ok(status),
         Err(AskFault::NoReplica) => Err(Exit::NoReplica),
         Err(AskFault::NoReply) => Err(Exit::NoReply),

@@ -18,7 +18,7 @@ mod state_readers;
 mod state_writers;
 
 use crate::exit::print_clap;
-use crate::{at_replica, missing_words, options, process_words, reasons};
+use crate::{at_replica, distrust_at, missing_words, options, process_words, reasons};
 use fed_config::Config;
 use fedbundle::{
     Call, CommandError, CommandName, Exit, OptionName, WordsError, given, is_flag_given, manner_of,
@@ -69,7 +69,10 @@ fn ask_at(rt: &HostRuntime, call: &Call<'_>, path: &str, seconds: u64) -> Result
     if is_flag_given(given(call, OptionName::New)) {
         return Err(Exit::Usage);
     }
-    at_replica::ask(rt, call, path, seconds)
+    match call.name {
+        CommandName::Distrust => distrust_at::ask_distrust(rt, call, path, seconds),
+        _ => at_replica::ask(rt, call, path, seconds),
+    }
 }
 
 fn empty_path(call: &Call<'_>) -> Option<OptionName> {

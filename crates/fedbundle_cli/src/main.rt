@@ -6,6 +6,7 @@
 mod at_replica;
 mod commands;
 mod connection;
+mod distrust_at;
 mod exit;
 mod fault_places;
 mod limited_reader;

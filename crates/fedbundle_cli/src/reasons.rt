@@ -58,10 +58,16 @@ fn say_why(rt: &HostRuntime, call: &Call<'_>, exit: &Exit) -> Result<(), AllocEr
             "has more than 16 addresses",
         ),
         Exit::BadNumber(option) => say_option(rt, call, *option, "is no number of its range"),
-        Exit::BadKey => say_option(rt, call, OptionName::Key, "is not 64 digits of 0-9a-f"),
+        Exit::BadKey => say_option(rt, call, key_option(call), "is not 64 digits of 0-9a-f"),
         Exit::BadMoment => say_option(rt, call, OptionName::Now, "is no moment in Unix seconds"),
         Exit::BadAddress => say_address(rt, call),
         Exit::NoBundle | Exit::NotAccepted => say_domain(rt, call),
+        Exit::NoKnownKey => say_option(
+            rt,
+            call,
+            OptionName::PublicKey,
+            "is that of no key that is known in the domain",
+        ),
         Exit::Locked => say_lock(rt, call, "another command has it"),
         Exit::ReplicaRuns => say_lock(rt, call, "a replica has it: --at asks that"),
         Exit::SocketTaken => say_option(
@@ -89,6 +95,14 @@ fn say_why(rt: &HostRuntime, call: &Call<'_>, exit: &Exit) -> Result<(), AllocEr
         Exit::System(fault) => say_system(rt, call, fault),
         Exit::Refused(error) => say_refusal(rt, call, error),
         Exit::Usage => say_keys(rt, call),
+    }
+}
+
+// The option that has the key, or the digest of a public key.
+fn key_option(call: &Call<'_>) -> OptionName {
+    match given(call, OptionName::PublicKey) {
+        Some(_) => OptionName::PublicKey,
+        None => OptionName::Key,
     }
 }
 

@@ -27,11 +27,7 @@ fn show_of(
         CommandName::Diff => diff::run(rt, config, closure, call),
         CommandName::Migrate => migrate::run(rt, closure, call),
         CommandName::Reseed => reseed::run(rt, closure, call),
-        CommandName::Distrust => {
-            let status = show_as_replica(rt, closure, call)?;
-            distrust::show_same_keys(rt, closure, call)?;
-            Ok(status)
-        }
+        CommandName::Distrust => distrust::show(rt, closure, call),
         _ => show_as_replica(rt, closure, call),
     }
 }

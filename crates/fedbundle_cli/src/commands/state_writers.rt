@@ -15,7 +15,7 @@ pub(crate) enum Coming<'a> {
     Bundle(&'a Result<Vec<u8>, CommandError>),
     /// What another replica holds, or why that is not known.
     Replica(&'a Result<IndexedClosure, Exit>),
-    /// A record of distrust, which the options say.
+    /// Records of distrust, which the options say.
     Record,
 }
 
@@ -43,6 +43,9 @@ fn take_and_save(
 ) -> Result<u8, Exit> {
     take(rt, closure, call, coming)?;
     save(rt, closure, path)?;
+    if let Coming::Record = coming {
+        distrust::tell(rt, closure, call)?;
+    }
     Ok(0)
 }
 
