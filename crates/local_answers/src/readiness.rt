@@ -61,6 +61,7 @@ fn quiet_warnings(alloc: Global, source: &PageSource<'_>) -> Result<Vec<Warning>
     };
     let seen = Seen {
         status: &status,
+        same_keys: &[],
         certificates: &[],
         fetches: &[],
         peers: source.running.peers,
