@@ -23,6 +23,13 @@ def without_none(warning):
     return {name: value for name, value in warning.items() if value is not None}
 
 
+def renamed(held):
+    """A record of distrust has its key under another name in JSON."""
+    if isinstance(held, dict):
+        held["records"] = [{"distrust": one["key"], "domain": one["domain"]} for one in held["records"]]
+    return held
+
+
 def answer(line):
     client = Client(line["Socket"], timeout=line["Seconds"])
     name, texts = line["Call"], line.get("Texts", [])
@@ -30,6 +37,8 @@ def answer(line):
     if name == "status":
         found = shown(client.status())
         return {**found, "warnings": [without_none(one) for one in found["warnings"]]}
+    if name in ("list", "list_keys", "graph"):
+        return renamed(shown(getattr(client, name)(texts[0] or None)))
     if name == "parsed":
         return shown(parse_bundle(texts[0], client.bundle(texts[0])))
     if name == "polls":

@@ -191,6 +191,53 @@ class Receipt:
 
 
 @dataclass(frozen=True)
+class HeldReceipt:
+    """What is shown of a receipt that is held: its id, its bundle's domain, sequence number and document id, and the rest as
+    of Receipt. `status` is "accepted", "pending" or "distrusted"."""
+
+    receipt: str
+    domain: str
+    sequence: Optional[int]
+    document: str
+    endpoint: str
+    key: str
+    voucher: str
+    status: str
+
+
+@dataclass(frozen=True)
+class Record:
+    """A record of distrust: the id of the key, and the trust domain in which it is distrusted."""
+
+    key: str
+    domain: str
+
+
+@dataclass(frozen=True)
+class Held:
+    """What a replica holds: its receipts and its records of distrust."""
+
+    receipts: Tuple[HeldReceipt, ...]
+    records: Tuple[Record, ...]
+
+
+@dataclass(frozen=True)
+class KnownKey:
+    """What is known of an X.509 key: the SHA-256 of its public key, and the Unix seconds between which its certificate is
+    valid, which are None if the certificate is not read; whether it is distrusted in the domain; whether a distrusted key
+    of the domain has the same public key; and the document ids of the accepted bundles that list it."""
+
+    key: str
+    domain: str
+    public_key: Optional[str]
+    not_before: Optional[int]
+    not_after: Optional[int]
+    distrusted: bool
+    same_public_key: bool
+    bundles: Tuple[str, ...]
+
+
+@dataclass(frozen=True)
 class Poll:
     """A poll that was made: the trust domain, whether it brought the bundle, and the Unix second."""
 
@@ -276,6 +323,21 @@ class Client:
     def report(self, *, timeout: Optional[float] = None) -> bytes:
         """The report of what the replica accepts, as the command prints it."""
         return self._output(["report"], timeout=timeout)
+
+    def list(self, domain: Optional[str] = None, *, timeout: Optional[float] = None) -> Held:
+        """Each receipt and each record of distrust that the replica holds, or those of one trust domain. It needs a replica
+        of fedbundle 0.6.0, as list_keys and graph do: an earlier one refuses it with USAGE."""
+        return _parse_held(self._output(_optional(domain, "list", "--format=json"), timeout=timeout))
+
+    def list_keys(self, domain: Optional[str] = None, *, timeout: Optional[float] = None) -> List[KnownKey]:
+        """Each X.509 key that an accepted bundle or a held receipt lists, or those of one trust domain. The work of the
+        replica grows with the square of a domain's keys."""
+        text = self._output(_optional(domain, "list", "--keys", "--format=json"), timeout=timeout)
+        return [_parse_known(one) for one in _Members(_parse_json(text)).objects("keys")]
+
+    def graph(self, domain: Optional[str] = None, *, timeout: Optional[float] = None) -> bytes:
+        """Which bundle vouches for which, for Graphviz, or only the receipts of one trust domain."""
+        return self._output(_optional(domain, "graph"), timeout=timeout)
 
     def bundle(self, domain: str, *, timeout: Optional[float] = None) -> bytes:
         """The current bundle of a trust domain: its canonical JSON, without a line feed. parse_bundle reads it. The code
@@ -519,6 +581,11 @@ def _path(path: SocketPath) -> bytes:
     return found
 
 
+def _optional(domain: Optional[str], *words: str) -> List[str]:
+    """The arguments, and the trust domain if there is one."""
+    return [*words] if domain is None else [*words, f"--domain={domain}"]
+
+
 def _words_line(words: Sequence[str]) -> bytes:
     try:
         return json.dumps(list(words), ensure_ascii=False).encode() + b"\n"
@@ -666,6 +733,12 @@ class _Members:
     def objects(self, name: str) -> List[_Members]:
         return [_Members(one) for one in self._of(name, list)]
 
+    def texts(self, name: str) -> List[str]:
+        found = self._of(name, list)
+        if not all(isinstance(one, str) for one in found):
+            raise _bad_reply(f"{name} are not texts")
+        return found
+
 
 def _parse_bundle(domain: str, document: bytes) -> Bundle:
     said = _Members(_parse_json(document))
@@ -730,6 +803,40 @@ def _parse_warning(said: _Members) -> StatusWarning:
         since=said.number_if_any("since"),
         what=said.text_if_any("what"),
         held=said.number_if_any("held"),
+    )
+
+
+def _parse_held(text: bytes) -> Held:
+    said = _Members(_parse_json(text))
+    return Held(
+        tuple(_parse_held_receipt(one) for one in said.objects("receipts")),
+        tuple(Record(one.text("distrust"), one.text("domain")) for one in said.objects("records")),
+    )
+
+
+def _parse_held_receipt(said: _Members) -> HeldReceipt:
+    return HeldReceipt(
+        receipt=said.text("receipt"),
+        domain=said.text("domain"),
+        sequence=said.number_if_any("sequence"),
+        document=said.text("document"),
+        endpoint=said.text("endpoint"),
+        key=said.text("key"),
+        voucher=said.text("voucher"),
+        status=said.text("status"),
+    )
+
+
+def _parse_known(said: _Members) -> KnownKey:
+    return KnownKey(
+        key=said.text("key"),
+        domain=said.text("domain"),
+        public_key=said.text_if_any("public_key"),
+        not_before=said.number_if_any("not_before"),
+        not_after=said.number_if_any("not_after"),
+        distrusted=said.flag("distrusted"),
+        same_public_key=said.flag("same_public_key"),
+        bundles=tuple(said.texts("bundles")),
     )
 
 

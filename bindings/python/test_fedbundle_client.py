@@ -111,6 +111,10 @@ class Requests(Case):
             ("status", (), ["status", "--format=json"], b""),
             ("metrics", (), ["status", "--format=prometheus"], b""),
             ("report", (), ["report"], b""),
+            ("list", (), ["list", "--format=json"], b""),
+            ("list_keys", ("a.example",), ["list", "--keys", "--format=json", "--domain=a.example"], b""),
+            ("graph", (), ["graph"], b""),
+            ("graph", ("a.example",), ["graph", "--domain=a.example"], b""),
             ("bundle", ("a.example",), ["bundle", "--domain=a.example"], b""),
             ("bundle", ('-"\\é<',), ["bundle", '--domain=-"\\é<'], b""),
             ("bundle_pem", ("a.example",), ["bundle", "--domain=a.example", "--format=pem"], b""),
@@ -244,6 +248,26 @@ class Answers(Case):
         self.assertIn(b'{"doc":' + found.document + b',"domain":', line)
         self.assertEqual([found, found], self.replying(replied((line + b"\n") * 2)).explain("a.example", b""))
         self.assertEqual([], self.replying(DONE).explain("a.example", b""))
+
+    def test_lists(self):
+        receipt = {"receipt": "r", "domain": "a", "sequence": 4, "document": "d", "endpoint": "e", "key": "k",
+                   "voucher": "v", "status": "accepted"}
+        text = {"receipts": [receipt, {**receipt, "sequence": None}], "records": [{"distrust": "k", "domain": "b"}]}
+        found = self.replying(replied(json.dumps(text).encode())).list()
+        first = client.HeldReceipt("r", "a", 4, "d", "e", "k", "v", "accepted")
+        second = client.HeldReceipt("r", "a", None, "d", "e", "k", "v", "accepted")
+        self.assertEqual(client.Held((first, second), (client.Record("k", "b"),)), found)
+        key = {"key": "k", "domain": "a", "public_key": "p", "not_before": -1, "not_after": 5, "distrusted": True,
+               "same_public_key": False, "bundles": ["d"]}
+        unread = {**key, "public_key": None, "not_before": None, "not_after": None}
+        found = self.replying(replied(json.dumps({"keys": [key, unread]}).encode())).list_keys()
+        self.assertEqual([client.KnownKey("k", "a", "p", -1, 5, True, False, ("d",)),
+                          client.KnownKey("k", "a", None, None, None, True, False, ("d",))], found)
+        for wrong in (b"{}", b"[]", b"x", b'{"receipts":[]}', b'{"keys":null}', b'{"keys":1,"receipts":1}',
+                      json.dumps({"keys": [{**key, "bundles": [1]}]}).encode()):
+            asked = self.replying(replied(wrong))
+            self.fails(client.BAD_REPLY, 3, asked.list)
+            self.fails(client.BAD_REPLY, 3, asked.list_keys)
 
     def test_lines(self):
         text = b"a due\nb 1764057600\nc past range\nd -7\n"

@@ -129,6 +129,62 @@ type Receipt struct {
 	Document []byte
 }
 
+// Held is what a replica holds.
+type Held struct {
+	// Receipts are its receipts.
+	Receipts []HeldReceipt `json:"receipts"`
+	// Records are its records of distrust.
+	Records []Record `json:"records"`
+}
+
+// HeldReceipt is what is shown of a receipt that is held.
+type HeldReceipt struct {
+	// Receipt is its id.
+	Receipt string `json:"receipt"`
+	// Domain is the trust domain of the bundle.
+	Domain string `json:"domain"`
+	// Sequence is the bundle's sequence number, or nil if it has none.
+	Sequence *uint64 `json:"sequence"`
+	// Document is the bundle's document id.
+	Document string `json:"document"`
+	// Endpoint is the SPIFFE ID of the endpoint that gave it.
+	Endpoint string `json:"endpoint"`
+	// Key is the id of the key that proved the endpoint.
+	Key string `json:"key"`
+	// Voucher is the document id of the bundle that lists the key.
+	Voucher string `json:"voucher"`
+	// Status is "accepted", "pending" or "distrusted".
+	Status string `json:"status"`
+}
+
+// Record is a record of distrust.
+type Record struct {
+	// Key is the id of the key that is distrusted.
+	Key string `json:"distrust"`
+	// Domain is the trust domain in which it is.
+	Domain string `json:"domain"`
+}
+
+// KnownKey is what is known of an X.509 key.
+type KnownKey struct {
+	// Key is the key id.
+	Key string `json:"key"`
+	// Domain is the trust domain.
+	Domain string `json:"domain"`
+	// PublicKey is the SHA-256 of the public key. It and both times are nil if the certificate is not read.
+	PublicKey *string `json:"public_key"`
+	// NotBefore is the Unix second from which the certificate is valid.
+	NotBefore *int64 `json:"not_before"`
+	// NotAfter is the Unix second up to which it is valid.
+	NotAfter *int64 `json:"not_after"`
+	// Distrusted says whether the key is distrusted in the domain.
+	Distrusted bool `json:"distrusted"`
+	// SamePublicKey says whether a key that is distrusted in the domain has the same public key.
+	SamePublicKey bool `json:"same_public_key"`
+	// Bundles are the document ids of the accepted bundles that list the key.
+	Bundles []string `json:"bundles"`
+}
+
 // Poll is a poll that was made.
 type Poll struct {
 	// Domain is the trust domain whose bundle was fetched.
@@ -158,6 +214,30 @@ func parseStatus(text []byte) (*Status, error) {
 		return nil, badReply(errors.New("the status has no configuration or no domains"))
 	}
 	return status, nil
+}
+
+func parseHeld(text []byte) (*Held, error) {
+	held := new(Held)
+	if err := json.Unmarshal(text, held); err != nil {
+		return nil, badReply(err)
+	}
+	if held.Receipts == nil || held.Records == nil {
+		return nil, badReply(errors.New("the list has no receipts or no records"))
+	}
+	return held, nil
+}
+
+func parseKeys(text []byte) ([]KnownKey, error) {
+	var list struct {
+		Keys []KnownKey `json:"keys"`
+	}
+	if err := json.Unmarshal(text, &list); err != nil {
+		return nil, badReply(err)
+	}
+	if list.Keys == nil {
+		return nil, badReply(errors.New("the list has no keys"))
+	}
+	return list.Keys, nil
 }
 
 func parseReceipt(line []byte) (*Receipt, error) {

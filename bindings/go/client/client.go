@@ -56,6 +56,31 @@ func (c *Client) Report(ctx context.Context) ([]byte, error) {
 	return c.output(ctx, nil, "report")
 }
 
+// List returns each receipt and each record of distrust that the replica holds; those of one trust domain, unless that is
+// empty. It needs a replica of fedbundle 0.6.0, as ListKeys and Graph do: an earlier one refuses it with Usage.
+func (c *Client) List(ctx context.Context, domain string) (*Held, error) {
+	text, err := c.output(ctx, nil, optional(domain, "list", "--format=json")...)
+	if err != nil {
+		return nil, err
+	}
+	return parseHeld(text)
+}
+
+// ListKeys returns each X.509 key that an accepted bundle or a held receipt lists; those of one trust domain, unless that is
+// empty. The work of the replica grows with the square of a domain's keys.
+func (c *Client) ListKeys(ctx context.Context, domain string) ([]KnownKey, error) {
+	text, err := c.output(ctx, nil, optional(domain, "list", "--keys", "--format=json")...)
+	if err != nil {
+		return nil, err
+	}
+	return parseKeys(text)
+}
+
+// Graph returns which bundle vouches for which, for Graphviz; the receipts of one trust domain, unless that is empty.
+func (c *Client) Graph(ctx context.Context, domain string) ([]byte, error) {
+	return c.output(ctx, nil, optional(domain, "graph")...)
+}
+
 // Bundle returns the current bundle of a trust domain: its canonical JSON, without a line feed. ParseBundle reads it.
 // The code is NoBundle if the domain has none.
 func (c *Client) Bundle(ctx context.Context, domain string) ([]byte, error) {
@@ -208,6 +233,14 @@ func (c *Client) done(ctx context.Context, input []byte, words ...string) (*Repl
 		return nil, refusal(reply)
 	}
 	return reply, nil
+}
+
+// optional are the arguments, and the trust domain if it is not empty.
+func optional(domain string, words ...string) []string {
+	if domain == "" {
+		return words
+	}
+	return append(words, option("domain", domain))
 }
 
 // option is one argument, so that a text with a hyphen at its beginning is not taken for another option.

@@ -134,6 +134,11 @@ func TestWhatIsSent(t *testing.T) {
 		{func(c *Client) error { _, err := c.Status(ctx); return err }, []string{"status", "--format=json"}, ""},
 		{func(c *Client) error { _, err := c.Metrics(ctx); return err }, []string{"status", "--format=prometheus"}, ""},
 		{func(c *Client) error { _, err := c.Report(ctx); return err }, []string{"report"}, ""},
+		{func(c *Client) error { _, err := c.List(ctx, ""); return err }, []string{"list", "--format=json"}, ""},
+		{func(c *Client) error { _, err := c.ListKeys(ctx, "a.example"); return err },
+			[]string{"list", "--keys", "--format=json", dom}, ""},
+		{func(c *Client) error { _, err := c.Graph(ctx, ""); return err }, []string{"graph"}, ""},
+		{func(c *Client) error { _, err := c.Graph(ctx, "a.example"); return err }, []string{"graph", dom}, ""},
 		{func(c *Client) error { _, err := c.Bundle(ctx, "a.example"); return err }, []string{"bundle", dom}, ""},
 		{func(c *Client) error { _, err := c.Bundle(ctx, `-"\é<`); return err }, []string{"bundle", `--domain=-"\é<`}, ""},
 		{func(c *Client) error { _, err := c.BundlePEM(ctx, "a.example"); return err },
@@ -198,6 +203,30 @@ func TestStatus(t *testing.T) {
 	}
 	if *status.Domains[0].Current.Sequence != 1<<64-1 || status.Domains[1].Current != nil || !status.Warning {
 		t.Errorf("%+v", status)
+	}
+}
+
+func TestLists(t *testing.T) {
+	ctx := context.Background()
+	text := `{"receipts":[{"receipt":"r","domain":"a","sequence":4,"document":"d","endpoint":"e","key":"k","voucher":"v",` +
+		`"status":"accepted"},{"receipt":"q","domain":"a","sequence":null,"document":"d","endpoint":"e","key":"k",` +
+		`"voucher":"v","status":"pending"}],"records":[{"distrust":"k","domain":"b"}]}`
+	held, err := replying(t, replied(text+"\n", "", 0)).List(ctx, "")
+	if again, _ := json.Marshal(held); err != nil || string(again) != text {
+		t.Errorf("%v, %s", err, again)
+	}
+	text = `[{"key":"k","domain":"a","public_key":"p","not_before":-1,"not_after":5,"distrusted":true,` +
+		`"same_public_key":true,"bundles":["d"]},{"key":"l","domain":"a","public_key":null,"not_before":null,` +
+		`"not_after":null,"distrusted":false,"same_public_key":false,"bundles":[]}]`
+	known, err := replying(t, replied(`{"keys":`+text+"}\n", "", 0)).ListKeys(ctx, "")
+	if again, _ := json.Marshal(known); err != nil || string(again) != text {
+		t.Errorf("%v, %s", err, again)
+	}
+	for _, wrong := range []string{"{}", "[]", "x", `{"receipts":[]}`, `{"keys":null}`, `{"keys":1,"receipts":1}`} {
+		_, err := replying(t, replied(wrong+"\n", "", 0)).List(ctx, "")
+		wantCode(t, wrong, err, BadReply, 3)
+		_, err = replying(t, replied(wrong+"\n", "", 0)).ListKeys(ctx, "")
+		wantCode(t, wrong, err, BadReply, 3)
 	}
 }
 

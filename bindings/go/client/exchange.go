@@ -2,7 +2,6 @@ package client
 
 import (
 	"bufio"
-	"bytes"
 	"context"
 	"encoding/json"
 	"errors"
@@ -84,13 +83,11 @@ func wordsLine(words []string) ([]byte, error) {
 			return nil, usage(fmt.Errorf("%q is not UTF-8", word))
 		}
 	}
-	var line bytes.Buffer
-	encoder := json.NewEncoder(&line)
-	encoder.SetEscapeHTML(false)
-	if err := encoder.Encode(append([]string{}, words...)); err != nil {
+	line, err := json.Marshal(append([]string{}, words...))
+	if err != nil {
 		return nil, usage(err)
 	}
-	return line.Bytes(), nil
+	return append(line, '\n'), nil
 }
 
 // connect tries again while too many clients wait at the socket.

@@ -44,6 +44,11 @@ var calls = map[string]call{
 	"status":  func(ctx context.Context, c *client.Client, l *line) (any, error) { return c.Status(ctx) },
 	"metrics": func(ctx context.Context, c *client.Client, l *line) (any, error) { return c.Metrics(ctx) },
 	"report":  func(ctx context.Context, c *client.Client, l *line) (any, error) { return c.Report(ctx) },
+	"list":    func(ctx context.Context, c *client.Client, l *line) (any, error) { return c.List(ctx, l.Texts[0]) },
+	"list_keys": func(ctx context.Context, c *client.Client, l *line) (any, error) {
+		return c.ListKeys(ctx, l.Texts[0])
+	},
+	"graph": func(ctx context.Context, c *client.Client, l *line) (any, error) { return c.Graph(ctx, l.Texts[0]) },
 	"bundle": func(ctx context.Context, c *client.Client, l *line) (any, error) {
 		return c.Bundle(ctx, l.Texts[0])
 	},
