@@ -318,6 +318,7 @@ function showGraph(graph, domain) {
       ...boxes.map((box) => drawBox(domain, box)), ...arrows.flatMap(drawArrow)));
   }
   put(byId("graph"), drawn);
+  byId("graph").scrollTop = 1e6;
 }
 
 // ---- again and again

@@ -582,6 +582,7 @@ also below as a list\" },
       ...boxes.map((box) => drawBox(domain, box)), ...arrows.flatMap(drawArrow)));
   }
   put(byId(\"graph\"), drawn);
+  byId(\"graph\").scrollTop = 1e6;
 }
 
 // ---- again and again
