@@ -9,9 +9,9 @@ usage: units.py time                       proves the unit, and prints its secon
        units.py cost UNIT TABLE LOG USED   UNIT: those seconds. TABLE: what .ci/processor_time.py printed. LOG: what `rt ci`
                                            printed. USED: the seconds of processors that `rt ci` used in all
 `cost` prints the crates with their units, the dearest first, which of them were proved in this run and which an earlier
-run on this machine had proved, and the whole. Only a run that did every proof and every wrong body is called whole. The
-status is 1 where a whole run is above MOST units, or where something cannot be read; `time` has it where the unit is not
-proved.
+run on this machine had proved, and the whole. Only a run that did every proof and every wrong body is called whole: each
+run that passed does under a kit whose `rt ci` keeps nothing, and under one that does it says so. The status is 1 if a
+whole run is above MOST units, or if something cannot be read; `time` has it if the unit is not proved.
 """
 import re
 import resource
@@ -24,10 +24,12 @@ from pathlib import Path
 TOP = Path(__file__).resolve().parent.parent
 CRATE = "spiffe_name"
 PARTS = ["src", "specs", "proofs"]
-# The units above which a whole run fails. No whole run was measured in units yet, so it is twice what is expected.
-MOST = 480
-# What `rt ci` says at its end where nothing was taken over from an earlier run.
+# The units above which a whole run fails. No whole run was measured in units yet, so it is about twice what is expected.
+MOST = 600
+# What `rt ci` says at its end if nothing was taken over from an earlier run, under a kit that keeps what it proved; and
+# the word of `rt help` by which such a kit is known.
 ALL_DONE = "every proof and must-fail edit was done in this run"
+KEEPS = "--anew"
 
 
 def stop(text):
@@ -69,11 +71,18 @@ def read_table(text):
     return {crate: [int(number) for number in numbers] for crate, *numbers in rows}
 
 
+def keeps_work():
+    """Whether `rt ci` takes over what an earlier run proved."""
+    ran = subprocess.run(["rt", "help"], stdin=subprocess.DEVNULL, capture_output=True, text=True)
+    return KEEPS in ran.stdout + ran.stderr
+
+
 def read_log(text):
-    """The crates that `rt ci` proved, those that it took over, and whether nothing was taken over."""
+    """The crates that `rt ci` proved, those that it took over, and whether it passed and took nothing over."""
     kept = set(re.findall(r"^rt: (\w+) is kept: ", text, re.M))
     proved = set(re.findall(r"^rt: (\w+) proved$", text, re.M))
-    return proved, kept, any(line.startswith("rt: ok;") and ALL_DONE in line for line in text.splitlines())
+    passed = [line for line in text.splitlines() if line.startswith("rt: ok;")]
+    return proved, kept, bool(passed) and (ALL_DONE in passed[-1] or not keeps_work())
 
 
 def units(seconds, unit):

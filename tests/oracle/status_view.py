@@ -105,14 +105,20 @@ def element_at(der, place=0):
     return tag, der[place : place + length], place + length
 
 
+def field_at(der, number):
+    """The bytes of the field that follows so many others, the version aside, in a certificate; and its content."""
+    fields = element_at(element_at(der)[1])[1]
+    place = element_at(fields)[2] if fields[0] == 160 else 0
+    for _ in range(number):
+        place = element_at(fields, place)[2]
+    _, content, end = element_at(fields, place)
+    return fields[place:end], content
+
+
 def end_of(der):
     """The last second at which a certificate is valid (RFC 5280, section 4.1.2.5); none of other bytes."""
     try:
-        fields = element_at(element_at(der)[1])[1]
-        place = element_at(fields)[2] if fields[0] == 160 else 0
-        for _ in range(3):
-            place = element_at(fields, place)[2]
-        validity = element_at(fields, place)[1]
+        _, validity = field_at(der, 3)
         tag, text, _ = element_at(validity, element_at(validity)[2])
         text = text.decode()
         if tag == 23:
@@ -134,6 +140,34 @@ def ends_of(config, lines):
             der = base64.b64decode(authority["x5c"][0]) if "x5c" in authority else b""
             if end_of(der) is not None:
                 yield {"domain": domain, "key": hashlib.sha256(der).hexdigest(), "not_after": end_of(der)}
+
+
+# ---- the public keys of distrusted keys
+
+def public_key_of(der):
+    """The field subjectPublicKeyInfo of a certificate (RFC 5280, section 4.1); none of other bytes."""
+    return field_at(der, 5)[0] if end_of(der) is not None else None
+
+
+def certificates_of(documents):
+    """The certificates of X.509 authorities, each once, in their order, by their key ids."""
+    ders = [base64.b64decode(a["x5c"][0]) for d in documents for a in d.authorities if "x5c" in a]
+    return {hashlib.sha256(der).hexdigest(): der for der in ders}
+
+
+def same_keys_of(config, lines):
+    """The keys of accepted bundles that are not distrusted, though a distrusted key of the domain, in an accepted bundle
+    or in that of a held receipt, has the same public key: domains rise."""
+    told = [json.loads(line) for line in set(lines)]
+    distrusted = {(r["domain"], r["distrust"]) for r in told if "distrust" in r}
+    receipts = [r for r in told if "doc" in r]
+    accepted, _ = accepted_of(config, receipts, distrusted)
+    for domain in domains_of(config):
+        mine = certificates_of(sorted((d for d in accepted if d.domain == domain), key=Document.order))
+        held = certificates_of(Document(domain, r["doc"]) for r in receipts if r["domain"] == domain)
+        stolen = {public_key_of(der) for key, der in {**mine, **held}.items() if (domain, key) in distrusted} - {None}
+        yield from ({"domain": domain, "key": key} for key, der in mine.items()
+                    if (domain, key) not in distrusted and public_key_of(der) in stolen)
 
 
 def end_metrics(ends):
@@ -173,11 +207,12 @@ def late(fetch, moment):
     return fetch["fetched"] is None or moment - fetch["fetched"] >= 3 * fetch["wait"]
 
 
-def found(stands, running=None, clock=(0, 0), fetches=(), ends=()):
+def found(stands, running=None, clock=(0, 0), fetches=(), ends=(), same_keys=()):
     """The objects of the member `warnings`: by kinds, and within a kind by domains, peers, and receipts before records."""
     began, moment = clock
     for kind in FAULTS:
         yield from ({"kind": kind, "domain": d["domain"]} for d in stands["domains"] if kind in faults_of(d))
+    yield from ({"kind": "same-key", **same} for same in same_keys)
     yield from ({"kind": "expires", **end} for end in ends if end["not_after"] <= moment + EXPIRES_SECONDS)
     for fetch in fetches:
         if late(fetch, moment):
@@ -195,6 +230,8 @@ def found_line(warning):
     kind = warning["kind"]
     if kind in FAULTS:
         told = f"{warning['domain']} {FAULTS[kind]}"
+    elif kind == "same-key":
+        told = f"{warning['domain']} accepts key {warning['key']}, which has the public key of a distrusted key"
     elif kind == "expires":
         told = f"{warning['domain']} has a certificate that ends at {warning['not_after']}, of key {warning['key']}"
     elif kind == "not-fetched":
@@ -349,7 +386,7 @@ if __name__ == "__main__":
     clock, peers_said = clock_of(rest[3:])
     own = running_of(rest[1], rest[2], peers_said) if len(rest) > 2 else None
     ends = list(ends_of(configuration, held_lines))
-    wrong = list(found(standing, own, clock, (), ends))
+    wrong = list(found(standing, own, clock, (), ends, same_keys_of(configuration, held_lines)))
     for line in lines_in(standing, rest[0] if rest else "text", own, wrong, ends):
         print(line)
     sys.exit(int(standing["warning"]))

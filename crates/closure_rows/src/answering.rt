@@ -44,6 +44,7 @@ fn answer_alone<I: Closure + Counting, E: Closure + Counting, P: Closure>(
         "log" => polls::new_log(world.alloc, script, row.words, &mut world.log)?,
         "record" => polls::record(world.alloc, &mut world.log, row.words, out)?,
         "recorded" => polls::say_next(world.alloc, &world.log, row.words, out)?,
+        "succeeded" => polls::say_success(world.alloc, &world.log, row.words, out)?,
         _ => return Ok(false),
     }
     Ok(true)

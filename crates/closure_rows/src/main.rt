@@ -34,7 +34,8 @@
 //! - `next CONFIG DOMAIN HINT NOW = LINES`: the next poll after these lines, and whether one is
 //!   due,
 //! - `fuse CONFIG READS = LINES`: the lines from a source that fails,
-//! - `log CONFIG`, `record DOMAIN OUTCOME MOMENT`, `recorded DOMAIN HINT NOW`: a log of polls,
+//! - `log CONFIG`, `record DOMAIN OUTCOME MOMENT`, `recorded DOMAIN HINT NOW`, `succeeded DOMAIN`:
+//!   a log of polls,
 //! - `codes KIND`: the texts of refusals.
 #![tactic(auto)]
 

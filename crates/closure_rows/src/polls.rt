@@ -204,3 +204,18 @@ pub(crate) fn record(
     }
     Ok(())
 }
+
+/// `succeeded DOMAIN`: when a poll of the domain succeeded last.
+pub(crate) fn say_success(
+    alloc: Global,
+    log: &PollLog,
+    domain: &str,
+    out: &mut String,
+) -> Result<(), RowFault> {
+    let domain = TrustDomain::read(alloc, domain)?;
+    match log.succeeded(&domain) {
+        Some(moment) => writeln!(out, "{}", moment.as_second())?,
+        None => out.push_str("none\n")?,
+    }
+    Ok(())
+}

@@ -29,7 +29,11 @@ use Rattle.command_line.specs.declared.command_name.OptionName.TheVariants.{New,
 use Rattle.command_line.specs.declared.command_name.OptionName.TheVariants.{OptionalListen, Peers}
 use Rattle.command_line.specs.declared.command_name.OptionName.TheVariants.{FileFormat, ReadSocket}
 use Rattle.command_line.specs.declared.command_name.OptionName.TheVariants.{ListenAnywhere}
-use Rattle.command_line.specs.declared.command_name.OptionName.TheVariants.{Keys}
+use Rattle.command_line.specs.declared.command_name.OptionName.TheVariants.{Keys, OptionalKey}
+use Rattle.command_line.specs.declared.command_name.OptionName.TheVariants.{PublicKey, Polls}
+use Rattle.command_line.specs.declared.command_name.OptionName.TheVariants.{OptionalNow, Health}
+use Rattle.command_line.specs.declared.command_name.OptionName.TheVariants.{ExpiresWithin}
+use Rattle.command_line.specs.declared.command_name.OptionName.TheVariants.{PeerQuiet}
 
 abbrev pub option_text : OptionName → List ℕ
 option_text Config = codes "config"
@@ -64,6 +68,13 @@ option_text FileFormat = codes "format"
 option_text ReadSocket = codes "read-socket"
 option_text ListenAnywhere = codes "listen-anywhere"
 option_text Keys = codes "keys"
+option_text OptionalKey = codes "key"
+option_text PublicKey = codes "public-key"
+option_text OptionalNow = codes "now"
+option_text ExpiresWithin = codes "expires-within"
+option_text PeerQuiet = codes "peer-quiet"
+option_text Polls = codes "polls"
+option_text Health = codes "health"
 
 -- it has no text after it
 abbrev pub is_flag : OptionName → Bool
@@ -92,10 +103,17 @@ may_be_left_out Every = true
 may_be_left_out MostRequestBytes = true
 may_be_left_out FileFormat = true
 may_be_left_out ReadSocket = true
+may_be_left_out OptionalKey = true
+may_be_left_out PublicKey = true
+may_be_left_out OptionalNow = true
+may_be_left_out ExpiresWithin = true
+may_be_left_out PeerQuiet = true
+may_be_left_out Polls = true
+may_be_left_out Health = true
 may_be_left_out option = false
 
--- it names a file that a running replica has itself, or it is a format that such a replica does not
--- print, so words with `--at` leave it out
+-- it names a file that a running replica has itself, or it is the format of a command that no such
+-- replica carries out, so words with `--at` leave it out
 abbrev pub is_place : OptionName → Bool
 is_place Config = true
 is_place State = true
@@ -129,27 +147,29 @@ abbrev pub options_of : CommandName → List OptionName
 options_of command.Canon = Domain ∷ FileFormat ∷ Verbose ∷ []
 options_of command.Config = Config ∷ With ∷ FileFormat ∷ Verbose ∷ []
 options_of command.New = Config ∷ State ∷ Wait ∷ Verbose ∷ []
-options_of command.Report = Config ∷ OptionalState ∷ FileFormat ∷ New ∷ Wait ∷ Verbose ∷ At ∷ []
-options_of command.List = Config ∷ State ∷ OptionalDomain ∷ Keys ∷ FileFormat ∷ New ∷ Verbose
-    ∷ []
+options_of command.Report = Config ∷ OptionalState ∷ Format ∷ New ∷ Wait ∷ Verbose ∷ At ∷ []
+options_of command.List = Config ∷ State ∷ OptionalDomain ∷ Keys ∷ Format ∷ New ∷ Wait
+    ∷ Verbose ∷ At ∷ []
 options_of command.Diff = Config ∷ State ∷ With ∷ New ∷ Verbose ∷ []
-options_of command.Graph = Config ∷ State ∷ OptionalDomain ∷ New ∷ Verbose ∷ []
-options_of command.Status = Config ∷ State ∷ Format ∷ New ∷ Wait ∷ Verbose ∷ At ∷ []
+options_of command.Graph = Config ∷ State ∷ OptionalDomain ∷ New ∷ Wait ∷ Verbose ∷ At ∷ []
+options_of command.Status = Config ∷ State ∷ Format ∷ OptionalNow ∷ ExpiresWithin ∷ PeerQuiet
+    ∷ Polls ∷ New ∷ Wait ∷ Verbose ∷ At ∷ []
 options_of command.Bundle = Config ∷ State ∷ Domain ∷ Format ∷ Wait ∷ Verbose ∷ At ∷ []
-options_of command.Explain = Config ∷ State ∷ Domain ∷ Short ∷ FileFormat ∷ Wait ∷ Verbose
-    ∷ At ∷ []
+options_of command.Explain = Config ∷ State ∷ Domain ∷ Short ∷ Format ∷ Wait ∷ Verbose ∷ At
+    ∷ []
 options_of command.Observe = Config ∷ State ∷ Domain ∷ Endpoint ∷ Key ∷ Wait ∷ Verbose
     ∷ At ∷ []
 options_of command.Merge = Config ∷ State ∷ Wait ∷ MostBytes ∷ Verbose ∷ At ∷ []
 options_of command.Migrate = Config ∷ State ∷ To ∷ RecordsOnly ∷ Verbose ∷ []
 options_of command.Reseed = Config ∷ State ∷ Allow ∷ Verbose ∷ []
-options_of command.Polls = Config ∷ State ∷ Now ∷ FileFormat ∷ Wait ∷ Verbose ∷ At ∷ []
-options_of command.Distrust = Config ∷ State ∷ Domain ∷ Key ∷ DryRun ∷ New ∷ Wait ∷ Verbose
-    ∷ At ∷ []
+options_of command.Polls = Config ∷ State ∷ Now ∷ Format ∷ Wait ∷ Verbose ∷ At ∷ []
+options_of command.Distrust = Config ∷ State ∷ Domain ∷ OptionalKey ∷ PublicKey ∷ DryRun ∷ New
+    ∷ Wait ∷ Verbose ∷ At ∷ []
 options_of command.Serve = Config ∷ State ∷ Listen ∷ Sessions ∷ Verbose ∷ []
 options_of command.Pull = Config ∷ State ∷ Peer ∷ Wait ∷ MostBytes ∷ Verbose ∷ []
-options_of command.Replica = Config ∷ State ∷ Socket ∷ ReadSocket ∷ OptionalListen
-    ∷ ListenAnywhere ∷ Peers ∷ Every ∷ MostBytes ∷ MostRequestBytes ∷ New ∷ Verbose ∷ []
+options_of command.Replica = Config ∷ State ∷ Socket ∷ ReadSocket ∷ OptionalListen ∷ Health
+    ∷ ListenAnywhere ∷ Peers ∷ Every ∷ PeerQuiet ∷ ExpiresWithin ∷ MostBytes ∷ MostRequestBytes
+    ∷ New ∷ Verbose ∷ []
 options_of command.Stop = Wait ∷ Verbose ∷ At ∷ []
 
 abbrev pub all_names : List CommandName

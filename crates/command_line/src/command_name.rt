@@ -38,12 +38,21 @@ pub enum OptionName {
     Every,
     MostRequestBytes,
     New,
-    /// The format where a running replica prints one format alone.
+    /// The format of a command that no running replica carries out.
     FileFormat,
     ReadSocket,
     ListenAnywhere,
     /// What is known of keys.
     Keys,
+    /// The key where the command does without one, too.
+    OptionalKey,
+    PublicKey,
+    /// The present moment where the command does without one, too.
+    OptionalNow,
+    ExpiresWithin,
+    PeerQuiet,
+    Polls,
+    Health,
 }
 
 /// A subcommand.
@@ -153,6 +162,13 @@ impl OptionName {
             OptionName::ReadSocket => "read-socket",
             OptionName::ListenAnywhere => "listen-anywhere",
             OptionName::Keys => "keys",
+            OptionName::OptionalKey => "key",
+            OptionName::PublicKey => "public-key",
+            OptionName::OptionalNow => "now",
+            OptionName::ExpiresWithin => "expires-within",
+            OptionName::PeerQuiet => "peer-quiet",
+            OptionName::Polls => "polls",
+            OptionName::Health => "health",
         }
     }
 
@@ -192,11 +208,18 @@ impl OptionName {
                 | OptionName::MostRequestBytes
                 | OptionName::FileFormat
                 | OptionName::ReadSocket
+                | OptionName::OptionalKey
+                | OptionName::PublicKey
+                | OptionName::OptionalNow
+                | OptionName::ExpiresWithin
+                | OptionName::PeerQuiet
+                | OptionName::Polls
+                | OptionName::Health
         )
     }
 
-    /// Whether it names a file that a running replica has itself, or is a format that such a
-    /// replica does not print: words with `--at` leave it out.
+    /// Whether it names a file that a running replica has itself, or is the format of a command
+    /// that no such replica carries out: words with `--at` leave it out.
     pub fn is_place(self) -> bool
         ensures { result ≡ is_place self }
     {
@@ -233,29 +256,33 @@ static NEW: [OptionName; 4] = [
 static REPORT: [OptionName; 7] = [
     OptionName::Config,
     OptionName::OptionalState,
-    OptionName::FileFormat,
+    OptionName::Format,
     OptionName::New,
     OptionName::Wait,
     OptionName::Verbose,
     OptionName::At,
 ];
 
-static LIST: [OptionName; 7] = [
+static LIST: [OptionName; 9] = [
     OptionName::Config,
     OptionName::State,
     OptionName::OptionalDomain,
     OptionName::Keys,
-    OptionName::FileFormat,
+    OptionName::Format,
     OptionName::New,
+    OptionName::Wait,
     OptionName::Verbose,
+    OptionName::At,
 ];
 
-static GRAPH: [OptionName; 5] = [
+static GRAPH: [OptionName; 7] = [
     OptionName::Config,
     OptionName::State,
     OptionName::OptionalDomain,
     OptionName::New,
+    OptionName::Wait,
     OptionName::Verbose,
+    OptionName::At,
 ];
 
 static DIFF: [OptionName; 5] = [
@@ -266,10 +293,14 @@ static DIFF: [OptionName; 5] = [
     OptionName::Verbose,
 ];
 
-static STATUS: [OptionName; 7] = [
+static STATUS: [OptionName; 11] = [
     OptionName::Config,
     OptionName::State,
     OptionName::Format,
+    OptionName::OptionalNow,
+    OptionName::ExpiresWithin,
+    OptionName::PeerQuiet,
+    OptionName::Polls,
     OptionName::New,
     OptionName::Wait,
     OptionName::Verbose,
@@ -291,7 +322,7 @@ static EXPLAIN: [OptionName; 8] = [
     OptionName::State,
     OptionName::Domain,
     OptionName::Short,
-    OptionName::FileFormat,
+    OptionName::Format,
     OptionName::Wait,
     OptionName::Verbose,
     OptionName::At,
@@ -336,17 +367,18 @@ static POLLS: [OptionName; 7] = [
     OptionName::Config,
     OptionName::State,
     OptionName::Now,
-    OptionName::FileFormat,
+    OptionName::Format,
     OptionName::Wait,
     OptionName::Verbose,
     OptionName::At,
 ];
 
-static DISTRUST: [OptionName; 9] = [
+static DISTRUST: [OptionName; 10] = [
     OptionName::Config,
     OptionName::State,
     OptionName::Domain,
-    OptionName::Key,
+    OptionName::OptionalKey,
+    OptionName::PublicKey,
     OptionName::DryRun,
     OptionName::New,
     OptionName::Wait,
@@ -371,15 +403,18 @@ static PULL: [OptionName; 6] = [
     OptionName::Verbose,
 ];
 
-static REPLICA: [OptionName; 12] = [
+static REPLICA: [OptionName; 15] = [
     OptionName::Config,
     OptionName::State,
     OptionName::Socket,
     OptionName::ReadSocket,
     OptionName::OptionalListen,
+    OptionName::Health,
     OptionName::ListenAnywhere,
     OptionName::Peers,
     OptionName::Every,
+    OptionName::PeerQuiet,
+    OptionName::ExpiresWithin,
     OptionName::MostBytes,
     OptionName::MostRequestBytes,
     OptionName::New,

@@ -4,8 +4,8 @@ use crate::command_name::{CommandName, OptionName};
 /// The version; then the kit with which it is proved and built, and the formats: the numbers are
 /// those in the first lines that are written.
 pub(crate) const VERSION: &str = "\
-0.5.0
-kit rattle-kit-13f logic dac8208d650f15bf
+0.6.0
+kit rattle-kit-13b logic dac8208d650f15bf
 state format 2, and 1 is read
 journal format 2
 have format 2 of 256
@@ -17,15 +17,15 @@ pub(crate) const USAGE: &str = "fedbundle <COMMAND>";
 /// What help says after the list of subcommands.
 pub(crate) const NOTES: &str = "\
 `fedbundle <COMMAND> --help` says what a subcommand reads, what it writes, and how it ends.
-A state that is not there holds nothing, unless that says that it is refused.
+A missing state holds nothing, unless that says that it is refused.
 
-A fault is one line on standard error, `fedbundle: ` and a code. Exit status:
+An error is one line on standard error, `fedbundle: ` and a code. Exit status:
   0  done
   1  an input was refused, or what was asked for is not there
-  2  the words are none that the command has
+  2  invalid arguments
   3  a file, a stream or a connection failed
   4  memory ran out
-Of several it is the greatest.";
+Of several exit statuses the greatest counts.";
 
 const CANON_NOTES: &str = "\
 Reads from standard input a bundle document, JSON of at most 1,048,576 bytes.
@@ -36,8 +36,8 @@ for each X.509 authority a line `key` with its key id. It writes no file.
 --format json prints one object: `document` with the id, `sequence`, `refresh_hint`, `keys`,
 and `bundle` with the canonical document.
 
-Ends with 0; with 1 where the document or the name of the domain is refused, and then
-nothing is printed; with 2 where the format is neither text nor json.";
+Ends with 0; with 1 if the document or the name of the domain is refused, and then nothing
+is printed; with 2 if the format is neither text nor json.";
 
 const CONFIG_NOTES: &str = "\
 Reads the configuration, and with --with another one, and nothing from standard input.
@@ -45,29 +45,29 @@ Reads the configuration, and with --with another one, and nothing from standard 
 Writes to standard output a line `config` with the configuration's digest, and then its
 relationships, its trust domains and its seeds, a line each; with --with the lines that
 only the first configuration has, each after `- `, and then those that only the other
-has, each after `+ `. It writes no file. Replicas exchange receipts only under equal
-configurations, which have one digest.
+has, each after `+ `. It writes no file. Replicas exchange receipts only if their
+configurations are equal, that is, have one digest.
 
---format json prints one object: `config`, `relationships`, `domains` and `seeds`. It does
-not go with --with.
+--format json prints one object: `config`, `relationships`, `domains` and `seeds`. It
+cannot be combined with --with.
 
-Ends with 0; with 1 where two configurations have two digests; with 1 and nothing printed
-where one is refused; with 2 where the format is neither text nor json.";
+Ends with 0; with 1 if two configurations have two digests; with 1 and nothing printed if
+one is refused; with 2 if the format is neither text nor json.";
 
 const NEW_NOTES: &str = "\
 Reads the configuration, and nothing from standard input.
 
 Writes the state file of a replica that holds nothing, by way of FILE.new and under the
 lock of FILE.lock. Run it once, before a replica runs for the first time: `replica`, and
-each command that only looks at a state, refuses a state that is not there. So a disk that
-was not mounted is noticed. It prints nothing.
+each command that only looks at a state, refuses a missing state. So a disk that was not
+mounted is noticed. It prints nothing.
 
-Ends with 0; with 1 where the configuration is refused, or a state file or a journal is
-there already, which is left as it is; with 3 where the state is locked.";
+Ends with 0; with 1 if the configuration is refused, or if a state file or a journal is
+there already, which stays as it is; with 3 if the state is locked.";
 
 const REPORT_NOTES: &str = "\
 Reads the configuration. With --state it reads the state file, and nothing from standard
-input; a state that is not there is refused without --new. Without --state it reads from
+input; a missing state is refused without --new. Without --state it reads from
 standard input receipts, each a line of at most 8,388,608 bytes, as `observe` prints them.
 At most 65,536 different ones are taken, and no record of distrust is known.
 
@@ -76,24 +76,24 @@ held and how many of them are pending, and for each domain its current document,
 accepted documents, their conflicts and the keys that are distrusted there. Writes to
 standard error the number of each line that is not taken, and why. It writes no file.
 
---format json needs --state and prints one object: `config`, `receipts`, `pending`,
-`domains` with `current` and `accepted`, `conflicts`, and `records`.
+--format json needs --state or --at, and prints one object: `config`, `receipts`,
+`pending`, `domains` with `current` and `accepted`, `conflicts`, and `records`.
 
-Ends with 0; with 1 where a line was not taken, and the report is printed all the same;
-with 1 and no report where the configuration or the state is refused or too many receipts
-fit; with 2 where the format is neither text nor json.";
+Ends with 0; with 1 if a line was not taken, and the report is printed all the same; with
+1 and no report if the configuration or the state is refused or too many receipts fit;
+with 2 if the format is neither text nor json.";
 
 const LIST_NOTES: &str = "\
-Reads the configuration and the state file, and nothing from standard input. A state that
-is not there is refused without --new.
+Reads the configuration and the state file, and nothing from standard input. A missing
+state is refused without --new.
 
 Writes to standard output a line for each receipt, in the order of the state file, and
-then one for each record of distrust; with --domain those of the domain alone:
+then one for each record of distrust; with --domain only those of that domain:
   receipt <id> domain <domain> sequence <number> document <id> endpoint <SPIFFE ID>
     key <key id> voucher <document id> <status>
   distrust <key id> domain <domain>
-The status is `accepted` where an accepted document vouches for the receipt, `distrusted`
-where its key is distrusted in the endpoint's domain, and else `pending`. It writes no
+The status is `accepted` if an accepted document vouches for the receipt, `distrusted` if
+its key is distrusted in the endpoint's domain, and otherwise `pending`. It writes no
 file.
 
 --keys prints what is known of each key instead: a line for each X.509 authority that an
@@ -101,71 +101,84 @@ accepted document lists, and then for those that only other documents of receipt
   key <key id> domain <domain> public-key <digest> from <seconds> to <seconds>
     distrusted <yes or no> same-public-key <yes or no> bundles <document id>..
 The digest is the SHA-256 of the public key in the certificate, and it is valid from and to
-these Unix seconds; they are `none` where the certificate is not read. A key that accepted
-documents list and that is not distrusted has the same public key where one that is
-distrusted in the domain has it. The bundles are the accepted documents that list the key.
+these Unix seconds; they are `none` if the certificate cannot be read. `same-public-key` is
+`yes` for a key that accepted documents list and that is not distrusted, if a distrusted
+key of the domain has its public key. The bundles are the accepted documents that list it.
 
 --format json prints one object of `receipts` and `records`, whose members are named as
 above; with --keys one object of `keys`.
 
-Ends with 0; with 1 and nothing printed where anything read or the name of the domain is
-refused; with 2 where the format is neither text nor json.";
+Ends with 0; with 1 and nothing printed if anything read or the name of the domain is
+refused; with 2 if the format is neither text nor json.";
 
 const DIFF_NOTES: &str = "\
 Reads the configuration, the state file, and with --with another state file under the
-same configuration, and nothing from standard input. A state that is not there is refused
-without --new.
+same configuration, and nothing from standard input. A missing state is refused without
+--new.
 
 Writes to standard output the line that `list` prints of each receipt and each record of
 distrust that the first state holds and the other does not, after `- `, and then of each
 that only the other holds, after `+ `. The status in a receipt's line is that in the state
 that holds it. It writes no file.
 
-Ends with 0 where both hold the same, and then nothing is printed; with 1 where they do
-not; with 1 and nothing printed where anything read is refused.";
+Ends with 0 if both hold the same, and then nothing is printed; with 1 if they do not;
+with 1 and nothing printed if anything read is refused.";
 
 const GRAPH_NOTES: &str = "\
-Reads the configuration and the state file, and nothing from standard input. A state that
-is not there is refused without --new.
+Reads the configuration and the state file, and nothing from standard input. A missing
+state is refused without --new.
 
 Writes to standard output which document vouches for which, as a graph in the language of
 Graphviz: `fedbundle graph .. | dot -Tsvg` draws it. A box is a document, with two borders
-where it is configured, and bold where it is the current one of its domain. An arrow is a
+if it is configured, and bold if it is the current one of its domain. An arrow is a
 receipt, from the document that vouches for it to the one that it brought, with the first
-digits of its key: dashed where it is pending, and red where its key is distrusted. With
+digits of its key: dashed if it is pending, and red if its key is distrusted. With
 --domain it has the receipts that brought documents of the domain, and each document at
 either end is drawn as what it is, also one of another domain. It writes no file.
 
-Ends with 0; with 1 and nothing printed where anything read or the name of the domain is
+Ends with 0; with 1 and nothing printed if anything read or the name of the domain is
 refused.";
 
 const STATUS_NOTES: &str = "\
-Reads the configuration and the state file, and nothing from standard input. A state that
-is not there is refused without --new.
+Reads the configuration and the state file, and nothing from standard input. A missing
+state is refused without --new. With --polls it also reads the polls so far, lines as
+`polls` reads them.
 
 Writes to standard output how the replica stands: the configuration's digest, how many
 receipts and records of distrust are held, and for each trust domain its current bundle
 with the keys of that, and how many bundles are accepted and are in conflict. It writes
-no file. A line `warning` at the end comes for each configured bundle without an X.509
-authority, for each distrusted key that a current bundle lists, and where more than nine
-tenths of the receipts or of the records of distrust are held that may be.
+no file. A line `warning` follows for each configured bundle without an X.509 authority,
+for each distrusted key that a current bundle lists, and if more than nine tenths of the
+receipts or of the records of distrust that are allowed are held.
+
+At the end it writes a line `warning: KIND: ..` for all that needs attention:
+  no-current   a domain has no current bundle
+  locked-out   a current bundle has no X.509 authority that is not distrusted
+  conflict     accepted bundles of a domain have one sequence number
+  no-sequence  a current bundle without a sequence number is one of several
+  same-key     a key that can vouch has the public key of a distrusted one
+  expires      a certificate of a current bundle ends within --expires-within
+  not-fetched  no poll of a domain succeeded for three times its wait, by --polls
+  quiet-peer   no session with a peer ended well for --peer-quiet, with --at
+  nearly-full  more than nine tenths of the receipts or of the records are held
+The second at which this holds is --now, or that of the clock.
 
 --format json prints one object, and --format prometheus gauges in the text format of
-Prometheus. Both have whether there is a warning.
+Prometheus. Both have the warnings.
 
-Ends with 0; with 1 where there is a warning, and all is printed; with 1 and nothing
-printed where anything read is refused; with 2 where the format is none of the three.";
+Ends with 0; with 1 if there is a warning of the first sort, and all is printed; with 1
+and nothing printed if anything read is refused; with 2 if the format is none of the
+three.";
 
 const BUNDLE_NOTES: &str = "\
 Reads the configuration and the state file, and nothing from standard input.
 
 Writes to standard output the domain's current document in its canonical form, on a line;
-with --format pem the certificates of its X.509 authorities as PEM, none where it has no
-such authority. It writes no file.
+with --format pem the certificates of its X.509 authorities as PEM, which is nothing if it
+has no such authority. It writes no file.
 
-Ends with 0; with 1 where the domain has no current document, or where the configuration,
-the state or the name of the domain is refused; with 2 where the format is neither json
-nor pem.";
+Ends with 0; with 1 if the domain has no current document, or if the configuration, the
+state or the name of the domain is refused; with 2 if the format is neither json nor pem.";
 
 const EXPLAIN_NOTES: &str = "\
 Reads the configuration, the state file, and from standard input a bundle document, JSON
@@ -180,10 +193,10 @@ one for the configured document:
   DOCUMENT_ID configured
 
 --format json prints one object: `document`, `configured` with the id of the configured
-document, and `receipts`. It does not go with --short.
+document, and `receipts`. It cannot be combined with --short.
 
-Ends with 0; with 1 where the document is not accepted, or where anything read is refused;
-with 2 where the format is neither text nor json.";
+Ends with 0; with 1 if the document is not accepted, or if anything read is refused; with 2
+if the format is neither text nor json.";
 
 const OBSERVE_NOTES: &str = "\
 Reads the configuration, the state file, and from standard input a bundle document as it
@@ -192,11 +205,11 @@ of TLS on the connection that brought it, and is believed.
 
 Writes to standard output the receipt, on a line, and then the state file with it, by way
 of FILE.new and under the lock of FILE.lock: at most 65,536 receipts are held. What is
-printed counts only where the exit status is 0.
+printed counts only if the exit status is 0.
 
-Ends with 0; with 1 where anything read is refused, where the endpoint is another than the
-relationship says, or where the current document of its domain does not list the key. Then
-the state file is left as it was.";
+Ends with 0; with 1 if anything read is refused, if the endpoint is another than the
+relationship says, or if the current document of its domain does not list the key. Then
+the state file is as it was.";
 
 const MERGE_NOTES: &str = "\
 Reads the configuration, the state file, and from standard input a snapshot: a state file
@@ -205,50 +218,50 @@ under the same configuration, with lines of at most 8,388,608 bytes.
 Writes to standard output `new` and how many of its receipts were not held, and then the
 state file, which holds what either held, by way of FILE.new and under the lock of
 FILE.lock: at most 65,536 receipts and 4,096 records of distrust. What is printed counts
-only where the exit status is 0.
+only if the exit status is 0.
 
-Ends with 0; with 1 where anything read is refused or the two together are too many. Then
-nothing is taken, and the state file is left as it was.";
+Ends with 0; with 1 if anything read is refused or the two together are too many. Then
+nothing is taken, and the state file is as it was.";
 
 const MIGRATE_NOTES: &str = "\
 Reads the configuration, the state file, and the other configuration of --to, and nothing
-from standard input. A state that is not there is refused.
+from standard input. A missing state is refused.
 
 Writes to standard output the state file under the other configuration: the receipts that
-fit it, and the records of distrust whose domain it has; with --records-only the records
-alone. Writes to standard error a line for each record and each receipt that is left out,
+fit it, and the records of distrust whose domain it has; with --records-only only the
+records. Writes to standard error a line for each record and each receipt that is left out,
 `left out record <key id> of <domain>: <cause>` or `left out receipt <receipt id> of
 <domain>: <cause>`. It writes no file. Replicas that held the same print the same.
 
-Ends with 0; with 1 where something was left out, and the rest is printed; with 1 and
-nothing printed where anything read is refused.";
+Ends with 0; with 1 if something was left out, and the rest is printed; with 1 and nothing
+printed if anything read is refused.";
 
 const RESEED_NOTES: &str = "\
-Reads the configuration and the state file, and nothing from standard input. A state that
-is not there is refused.
+Reads the configuration and the state file, and nothing from standard input. A missing
+state is refused.
 
 Writes to standard output the configuration with the same relationships, whose seeds are
-the current bundles. It writes no file. The records of distrust go along by `migrate
---records-only`.
+the current bundles. It writes no file. `migrate --records-only` carries over the records
+of distrust.
 
-Ends with 0; with 1 where anything read is refused, or where a current bundle lists a
-distrusted key or another bundle has its sequence: then each such domain, but for the one
-of --allow, has a line on standard error, and nothing else is printed.";
+Ends with 0; with 1 if anything read is refused, or if a current bundle lists a distrusted
+key or another bundle has its sequence: then each such domain, except the one of --allow,
+has a line on standard error, and nothing else is printed.";
 
 const POLLS_NOTES: &str = "\
 Reads the configuration, the state file, and from standard input the polls so far in their
 order, a line each: `<domain> ok <seconds>` or `<domain> fail <seconds>`, with a domain
-that has a relationship and a moment in Unix seconds. It reads no clock.
+that has a relationship and a time in Unix seconds. It reads no clock.
 
 Writes to standard output a line for each relationship: `<domain> due`,
-`<domain> <seconds>` with the moment of its next poll, or `<domain> past range`. It writes
-no file.
+`<domain> <seconds>` with the time of its next poll, or `<domain> past range`. It writes no
+file.
 
 --format json prints one object of `polls`, each with `domain`, `due`, and `next`, which is
-null where the poll is due or past the range.
+null if the poll is due or past the range.
 
-Ends with 0; with 1 where anything read is refused, and then nothing is printed; with 2
-where the format is neither text nor json.";
+Ends with 0; with 1 if anything read is refused, and then nothing is printed; with 2 if the
+format is neither text nor json.";
 
 const DISTRUST_NOTES: &str = "\
 Reads the configuration and the state file, and nothing from standard input.
@@ -258,7 +271,12 @@ that the key vouches for nothing in the domain any more; at most 4,096 records a
 and none is ever taken back. It prints nothing; with --verbose it first writes to standard
 error what the record changes.
 
-With --dry-run it writes no file, refuses a state that is not there without --new, and
+A key id is that of one certificate. With --public-key in place of --key it makes a record
+for each key of the domain that is known now and whose certificate has this public key, as
+`list --keys` prints it, and prints a line `distrusted KEY_ID` for each. A certificate that
+is issued later for that public key is not refused: `status` warns of it as `same-key`.
+
+With --dry-run it writes no file, refuses a missing state without --new, and
 writes to standard output what the record would change, domain by domain:
   falls DOMAIN document ID sequence N
   current DOMAIN before ID sequence N after ID sequence N
@@ -267,32 +285,32 @@ writes to standard output what the record would change, domain by domain:
   lists DOMAIN key KEY_ID
   locked-out DOMAIN
 `falls` is a document that is not accepted any more. `current` comes for the domain of
---domain, and where the current document changes; then the keys that only the later or only
-the earlier one has, the distrusted ones that the later one still lists, and `locked-out`
-where none of its keys can vouch. A line begins with `warning` where no document of the
-domain that is held lists the key. Last comes a line for each key of an accepted document
-of the domain that is not distrusted, though a distrusted one has its public key, as where
-its certificate was issued again; it can still vouch:
+--domain, and for each whose current document changes; then the keys that only the later or
+only the earlier one has, the distrusted ones that the later one still lists, and
+`locked-out` if none of its keys can vouch. A line begins with `warning` if no document of
+the domain that is held lists the key. Last comes a line for each key of an accepted document
+of the domain that is not distrusted though a distrusted one has its public key, for
+example since its certificate was issued again; it can still vouch:
   same public key: KEY_ID of DOMAIN in ID
-With --at these lines are left out.
 
-Ends with 0, also where the record was held; with 1 where the domain is none of the
-configuration or anything read is refused. Then the state file is left as it was.";
+Ends with 0, even if the record was held; with 1 if the domain is not one of the
+configuration, if no known key has the public key, or if anything read is refused. Then
+the state file is as it was.";
 
 const SERVE_NOTES: &str = "\
 Reads the configuration and the state file once, and writes no file. It waits at the
 address for one client after another, as long as it takes, and answers the haves of
 each until the client closes its end. Nothing is encrypted, and nobody is asked who it is.
 
-A session ends with the fault S9 where a read or a write moves no byte for 30 seconds,
-and with the first read or write that begins when 600 seconds are over: so a session
-takes 630 seconds at most. Its fault is a line on standard error, and it counts as served.
+A session ends with the error S9 if a read or a write moves no byte for 30 seconds, and
+with the first read or write that begins when 600 seconds are over: so a session takes 630
+seconds at most. Its error is a line on standard error, and it counts as served.
 
 Writes to standard output, at the end, `served` and how many sessions there were.
 
-Ends with the greatest exit status of its sessions: with 1 where what a client sent is
-refused. Ends with 1 and without a session where anything read or the address is refused,
-and with 3 where the address is taken.";
+Ends with the greatest exit status of its sessions: with 1 if what a client sent is
+refused. Ends with 1 and without a session if anything read or the address is refused, and
+with 3 if the address is taken.";
 
 const PULL_NOTES: &str = "\
 Reads the configuration and the state file, asks the other replica, which has to have the
@@ -301,16 +319,16 @@ takes what is answered.
 
 Writes to standard output `new` and how many receipts were not held, and then the state
 file, by way of FILE.new and under the lock of FILE.lock: at most 65,536 receipts and
-4,096 records of distrust are held. Where the session ends with a fault, what came before
-it is taken and written too, `new` is not printed, and the fault's line ends with `taken`
-and how many receipts were new.
+4,096 records of distrust are held. If the session ends with an error, what came before it
+is taken and written too, `new` is not printed, and the error's line ends with `taken` and
+how many receipts were new.
 
-To connect takes 30 seconds at most: else, and where nobody serves at the address, it ends
-with the fault S9, and writes nothing. The session ends with S9 where a read or a write
-moves no byte for 30 seconds, and with the first read or write that begins when 600
-seconds are over: so it takes 630 seconds at most.
+To connect takes 30 seconds at most: if it does not succeed, or if nobody serves at the
+address, it ends with the error S9, and writes nothing. The session ends with S9 if a read
+or a write moves no byte for 30 seconds, and with the first read or write that begins when
+600 seconds are over: so it takes 630 seconds at most.
 
-Ends with 0; with 1 where anything read or answered is refused; with 3 where there is no
+Ends with 0; with 1 if anything read or answered is refused; with 3 if there is no
 connection or it failed.";
 
 const REPLICA_NOTES: &str = "\
@@ -318,28 +336,34 @@ Reads the configuration and the state file, and nothing from standard input. It 
 they hold in memory, and the lock of FILE.lock, until `stop` ends it.
 
 Answers requests of this machine on the socket, whose mode is 0600: the commands with --at.
-At the one of --read-socket, whose mode is 0660, it refuses all that would change what it
-holds, and `stop`: whoever may only look is in that socket's group.
+At the one of --read-socket, whose mode is 0660, it refuses `stop` and all that would
+change what it holds: those who may only look are in that socket's group.
 Answers other replicas at the address of --listen, as `serve` does, and pulls from each of
---peers, as `pull` does. Whoever reaches that address is given all that is held, so one that
-is not a loopback address is refused without --listen-anywhere. At most 144 connections are
-open at once: 64 requests of this machine, 48 on which other replicas ask, and one with each
-peer. One on which nothing moves for 30 seconds, or which is older than 600 seconds, is
-closed, and so is a pull in which fewer than 1,000 bytes move in a second. Where there are
-too many, the one that has asked nothing whole for the longest is closed.
+--peers, as `pull` does. Everyone who reaches that address gets all that is held, so one
+that is not a loopback address is refused without --listen-anywhere. At most 160 connections are
+open at once: 64 requests of this machine, 48 on which other replicas ask, 16 at the
+address of --health, one with each peer, and some that are only refused. A connection on
+which nothing moves for 30 seconds, or which is older than 600 seconds, is closed, and so is
+a pull in which fewer than 1,000 bytes move in a second. If there are too many, the one that
+has asked nothing whole for the longest is closed.
+
+At the address of --health it answers HTTP requests, GET and HEAD: /live, /ready, /metrics
+for Prometheus, /status.json, /report.json, /keys.json, /graph.dot and / for people. Nothing
+can be changed there. A certificate is warned of --expires-within before its end, and a peer
+that was quiet for --peer-quiet.
 
 Each change is appended to FILE.journal and put on the disk before it is acknowledged. The
 journal is folded into the state file at the start, and when it has more than 8,388,608
-bytes and more than half of those of the state file. A state that is not there is refused:
-`new` writes one, or --new begins without it.
+bytes and more than half of those of the state file. A missing state is refused: `new`
+writes one, or --new begins without it.
 
 Writes to standard output a line `ready`, the configuration's digest, `receipts` and how
 many are held, `distrusts` and how many records, once it accepts requests. Writes to
 standard error a line for each event, with pairs of a word and a value.
 
-Ends with 0 after `stop`; with 1 where the configuration or the state is refused, or there
-is no state file; with 3 where the state is locked, the socket is taken, or a change could
-not be put on the disk.";
+Ends with 0 after `stop`; with 1 if the configuration or the state is refused, or if there
+is no state file; with 3 if the state is locked, the socket is taken, or a change could not
+be put on the disk.";
 
 const STOP_NOTES: &str = "\
 Asks the running replica whose socket is at the path to end, and reads nothing from
@@ -347,7 +371,7 @@ standard input. What the replica acknowledged before is on the disk.
 
 It prints nothing, and writes no file.
 
-Ends with 0; with 3 where no replica answers there, or not in time.";
+Ends with 0; with 3 if no replica answers there, or not in time.";
 
 impl OptionName {
     /// What help calls the option's text.
@@ -385,6 +409,13 @@ impl OptionName {
             OptionName::ReadSocket => "PATH",
             OptionName::ListenAnywhere => "",
             OptionName::Keys => "",
+            OptionName::OptionalKey => "KEY_ID",
+            OptionName::PublicKey => "DIGEST",
+            OptionName::OptionalNow => "SECONDS",
+            OptionName::ExpiresWithin => "DAYS",
+            OptionName::PeerQuiet => "SECONDS",
+            OptionName::Polls => "FILE",
+            OptionName::Health => "ADDRESS",
         }
     }
 
@@ -399,13 +430,13 @@ impl OptionName {
                 "The SPIFFE ID that the endpoint was authenticated as, of at most 2,048 bytes",
             OptionName::Key =>
                 "The SHA-256 of an authority's certificate, 64 digits of 0-9 and a-f",
-            OptionName::Now => "The present moment, in Unix seconds; a negative one as --now=-5",
+            OptionName::Now => "The present time, in Unix seconds; a negative one as --now=-5",
             OptionName::Listen => "The address to wait at: an IP address and a port",
             OptionName::Sessions => "How many sessions to serve, from 1 to 1000000",
             OptionName::Peer =>
                 "The address at which the other replica serves: an IP address and a port",
             OptionName::To => "The other configuration, as JSON with the same limits",
-            OptionName::RecordsOnly => "Takes the records of distrust alone, and no receipt",
+            OptionName::RecordsOnly => "Takes only the records of distrust, and no receipt",
             OptionName::OptionalState => "The state file, in place of standard input",
             OptionName::OptionalDomain => "The one trust domain whose lines are printed",
             OptionName::With => "What to compare with: a file of the same kind",
@@ -415,7 +446,7 @@ impl OptionName {
                 to 86400 seconds [60]",
             OptionName::MostBytes =>
                 "How many bytes to take at most, with those of the state file [4294967296]",
-            OptionName::Allow => "A domain whose current bundle may be a seed in any case",
+            OptionName::Allow => "A domain whose current bundle may be a seed even so",
             OptionName::DryRun => "Prints what would change, and writes no file",
             OptionName::Verbose => "Says more on standard error",
             OptionName::Format => "The format of what is printed; the formats are named below",
@@ -430,13 +461,26 @@ impl OptionName {
                 seconds [60]",
             OptionName::MostRequestBytes =>
                 "How many bytes requests and their replies may have together [536870912]",
-            OptionName::New => "Takes a state that is not there for one that holds nothing",
+            OptionName::New => "Takes a missing state for one that holds nothing",
             OptionName::FileFormat => "The format of what is printed: text, or json",
             OptionName::ReadSocket =>
                 "The path of a second socket, at which nothing can be changed",
             OptionName::ListenAnywhere =>
-                "Allows an address of --listen that is not a loopback one",
+                "Allows an address of --listen or --health that is not a loopback one",
             OptionName::Keys => "Prints what is known of each X.509 key, in place of what is held",
+            OptionName::OptionalKey =>
+                "The SHA-256 of an authority's certificate, 64 digits of 0-9 and a-f",
+            OptionName::PublicKey =>
+                "The SHA-256 of the public key in certificates, 64 digits of 0-9 and a-f",
+            OptionName::OptionalNow =>
+                "The present time, in Unix seconds; a negative one as --now=-5 [that of the clock]",
+            OptionName::ExpiresWithin =>
+                "How long before its end a certificate is warned of, from 0 to 36525 days [7]",
+            OptionName::PeerQuiet =>
+                "How long a peer may be quiet, from 0 to 31536000 seconds [600]",
+            OptionName::Polls => "The polls so far, as `polls` reads them",
+            OptionName::Health =>
+                "The address of health, metrics and a page: an IP address and a port",
         }
     }
 }
@@ -473,11 +517,11 @@ impl CommandName {
                 "Reads poll lines on standard input and prints when each bundle is to be fetched \
                 next"
             }
-            CommandName::Distrust => "Distrusts a key in a domain, for good",
+            CommandName::Distrust => "Revokes a key in a domain: it vouches for nothing any more",
             CommandName::Serve => "Answers other replicas that pull from this one",
             CommandName::Pull => "Asks another replica, and takes what this one lacks",
             CommandName::Replica => {
-                "Stays: answers requests of this machine and other replicas, and pulls by itself"
+                "Runs as a daemon: answers requests of this machine and other replicas, and pulls"
             }
             CommandName::Stop => "Ends a running replica",
         }
@@ -497,23 +541,29 @@ impl CommandName {
             CommandName::Report => {
                 "fedbundle report --config <FILE> [--state <FILE>] [--format <FORMAT>] [--new] \
                 [--verbose]\n       \
-                fedbundle report --at <PATH> [--wait <SECONDS>] [--verbose]"
+                fedbundle report --at <PATH> [--format <FORMAT>] [--wait <SECONDS>] [--verbose]"
             }
             CommandName::List => {
                 "fedbundle list --config <FILE> --state <FILE> [--domain <DOMAIN>] [--keys] \
-                [--format <FORMAT>] [--new] [--verbose]"
+                [--format <FORMAT>] [--new] [--verbose]\n       \
+                fedbundle list --at <PATH> [--domain <DOMAIN>] [--keys] [--format <FORMAT>] \
+                [--wait <SECONDS>] [--verbose]"
             }
             CommandName::Diff => {
                 "fedbundle diff --config <FILE> --state <FILE> --with <FILE> [--new] [--verbose]"
             }
             CommandName::Graph => {
                 "fedbundle graph --config <FILE> --state <FILE> [--domain <DOMAIN>] [--new] \
-                [--verbose]"
+                [--verbose]\n       \
+                fedbundle graph --at <PATH> [--domain <DOMAIN>] [--wait <SECONDS>] [--verbose]"
             }
             CommandName::Status => {
-                "fedbundle status --config <FILE> --state <FILE> [--format <FORMAT>] [--new] \
+                "fedbundle status --config <FILE> --state <FILE> [--format <FORMAT>] \
+                [--now <SECONDS>] [--expires-within <DAYS>] [--polls <FILE>] [--new] \
                 [--verbose]\n       \
-                fedbundle status --at <PATH> [--format <FORMAT>] [--wait <SECONDS>] [--verbose]"
+                fedbundle status --at <PATH> [--format <FORMAT>] [--now <SECONDS>] \
+                [--expires-within <DAYS>] [--peer-quiet <SECONDS>] [--polls <FILE>] \
+                [--wait <SECONDS>] [--verbose]"
             }
             CommandName::Bundle => {
                 "fedbundle bundle --config <FILE> --state <FILE> --domain <DOMAIN> \
@@ -524,8 +574,8 @@ impl CommandName {
             CommandName::Explain => {
                 "fedbundle explain --config <FILE> --state <FILE> --domain <DOMAIN> [--short] \
                 [--format <FORMAT>] [--verbose]\n       \
-                fedbundle explain --at <PATH> --domain <DOMAIN> [--short] [--wait <SECONDS>] \
-                [--verbose]"
+                fedbundle explain --at <PATH> --domain <DOMAIN> [--short] [--format <FORMAT>] \
+                [--wait <SECONDS>] [--verbose]"
             }
             CommandName::Observe => {
                 "fedbundle observe --config <FILE> --state <FILE> --domain <DOMAIN> \
@@ -548,12 +598,15 @@ impl CommandName {
             CommandName::Polls => {
                 "fedbundle polls --config <FILE> --state <FILE> --now <SECONDS> \
                 [--format <FORMAT>] [--verbose]\n       \
-                fedbundle polls --at <PATH> --now <SECONDS> [--wait <SECONDS>] [--verbose]"
+                fedbundle polls --at <PATH> --now <SECONDS> [--format <FORMAT>] \
+                [--wait <SECONDS>] [--verbose]"
             }
             CommandName::Distrust => {
                 "fedbundle distrust --config <FILE> --state <FILE> --domain <DOMAIN> \
                 --key <KEY_ID> [--dry-run] [--new] [--wait <SECONDS>] [--verbose]\n       \
                 fedbundle distrust --at <PATH> --domain <DOMAIN> --key <KEY_ID> [--dry-run] \
+                [--wait <SECONDS>] [--verbose]\n       \
+                fedbundle distrust .. --domain <DOMAIN> --public-key <DIGEST> \
                 [--wait <SECONDS>] [--verbose]"
             }
             CommandName::Serve => {
@@ -566,8 +619,9 @@ impl CommandName {
             }
             CommandName::Replica => {
                 "fedbundle replica --config <FILE> --state <FILE> --socket <PATH> \
-                [--read-socket <PATH>] [--listen <ADDRESS>] [--listen-anywhere] \
-                [--peers <ADDRESS,..>] [--every <SECONDS>] \
+                [--read-socket <PATH>] [--listen <ADDRESS>] [--health <ADDRESS>] \
+                [--listen-anywhere] [--peers <ADDRESS,..>] [--every <SECONDS>] \
+                [--peer-quiet <SECONDS>] [--expires-within <DAYS>] \
                 [--most-bytes <BYTES>] [--most-request-bytes <BYTES>] [--new] [--verbose]"
             }
             CommandName::Stop => "fedbundle stop --at <PATH> [--wait <SECONDS>] [--verbose]",

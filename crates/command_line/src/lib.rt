@@ -13,7 +13,7 @@ pub use command_name::{CommandName, OptionName};
 pub use option_error::OptionError;
 pub use option_texts::{
     BundleFormat, ExplanationForm, Manner, OutputForm, given, is_flag_given, manner_of,
-    read_bundle_format, read_explanation_form, read_key, read_output_form, wanted,
+    number_given, read_bundle_format, read_explanation_form, read_key, read_output_form, wanted,
 };
 pub use sessions::read_sessions;
 pub use words::{Call, WordsError, command_of, read_request, read_words};

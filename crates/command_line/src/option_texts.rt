@@ -139,7 +139,31 @@ pub fn manner_of(call: &Call<'_>) -> Result<Manner, OptionError>
     })
 }
 
-// The number of the text, or the other one where there is no text.
+/// The number of an option: that of its text, which is at most `most`, or `otherwise` if the words
+/// leave it out.
+///
+/// # Errors
+/// The text is not a number, or it is a greater one.
+pub fn number_given(
+    call: &Call<'_>,
+    option: OptionName,
+    otherwise: u64,
+    most: u64,
+) -> Result<u64, OptionError>
+    ensures ok { IfOk result (λ number. SaysNumber otherwise most
+        (option_said call.now.name (map (option_map (λ t. t.now)) call.now.texts.items) option)
+        (Some number)) }
+    ensures refused { IfErr result (λ error. (error ≡ BadNumber option) × SaysNumber otherwise most
+        (option_said call.now.name (map (option_map (λ t. t.now)) call.now.texts.items) option)
+        None) }
+{
+    match number_up_to(given(call, option), otherwise, most) {
+        Some(number) => Ok(number),
+        None => Err(OptionError::BadNumber(option)),
+    }
+}
+
+// The number of the text, or the other one if there is no text.
 fn number_up_to(text: Option<&str>, otherwise: u64, most: u64) -> Option<u64>
     ensures { SaysNumber otherwise most (option_map (λ t. t.now) text.entry) result }
 {

@@ -250,7 +250,7 @@ fn is_saved(asked: Asked<'_>, is_ok: bool) -> bool {
     match asked.name {
         CommandName::Pull => true,
         CommandName::Observe | CommandName::Merge => is_ok,
-        CommandName::Distrust => is_ok && asked.given.get(2) != Some(&Some("true")),
+        CommandName::Distrust => is_ok && asked.given.get(3) != Some(&Some("true")),
         _ => false,
     }
 }
@@ -284,7 +284,7 @@ fn do_asked<C: Closure>(
             migrate(case, closure, to, records_only, devices)
         }
         (CommandName::Polls, [Some(now), form, ..]) => polls(case, closure, now, *form, devices),
-        (CommandName::Distrust, [Some(domain), Some(key), flags @ ..]) => {
+        (CommandName::Distrust, [Some(domain), Some(key), _public_key, flags @ ..]) => {
             let record = record_of(case.alloc, domain, key)?;
             distrust(case, closure, &record, flags, devices)
         }

@@ -49,17 +49,20 @@ fn ask_call<C: Closure>(
     }
 }
 
-// Whether a replica replies what the command prints. Of three commands it prints lines alone, and
-// refuses words that say a format. Of `status` it says more.
+// Whether a replica replies what the command prints. For `status` it says more.
 fn is_same_of_replicas(call: &Call<'_>) -> bool {
-    match call.name {
-        CommandName::Report | CommandName::Explain | CommandName::Polls => {
-            given(call, OptionName::FileFormat).is_none()
-        }
-        CommandName::Bundle | CommandName::Observe | CommandName::Merge | CommandName::Distrust =>
-            true,
-        _ => false,
-    }
+    matches!(
+        call.name,
+        CommandName::Report
+            | CommandName::List
+            | CommandName::Graph
+            | CommandName::Bundle
+            | CommandName::Explain
+            | CommandName::Polls
+            | CommandName::Observe
+            | CommandName::Merge
+            | CommandName::Distrust
+    )
 }
 
 fn ask_under<C: Closure>(

@@ -13,10 +13,7 @@ use Rattle.text_lines.specs.TextLines.{BeginsSome}
 use Rattle.fedbundle.specs.CommandRun.{CommandRun, DeviceRun, HasFailed, WritesNothing}
 use Rattle.fedbundle.specs.Errors.{of_read, of_report, of_run}
 use Rattle.fedbundle.specs.Polls.{RunsPollsIn, polls_call}
-use Rattle.fedbundle.specs.Shown.{IsUntouched, RefusesUnwritten, RunsWriter, ShownCall, ShowsBy, polls_form, usual_limits, watched_by}
-use Rattle.status_view.specs.declared.status_writer.StatusFormat.{StatusFormat}
-use Rattle.status_warnings.specs.WarnedStatus.{IsWarnedStatusIn}
-use Rattle.status_warnings.specs.declared.seen.WarnLimits.{WarnLimits}
+use Rattle.fedbundle.specs.Shown.{IsUntouched, RefusesUnwritten, RunsWriter, ShownCall, ShowsBy, polls_form}
 use Rattle.poll_view.specs.declared.polls_writer.PollsForm.{PollsForm}
 use Rattle.command_line.specs.declared.option_texts.OutputForm.{OutputForm}
 use Rattle.fedbundle.specs.declared.error.CommandError.{CommandError}
@@ -60,22 +57,16 @@ pub shows_as : (name other : CommandName) (call : ShownCall) (run : CommandRun) 
 shows_as name other call run result is shows = subst (λ n. ShowsBy n call run result) (sym is) shows
 
 -- a name that is none of these is refused
-pub none_shown : (name : CommandName) (call : ShownCall) (run : CommandRun) → (name ≡ command.Report → ⊥) → (name ≡ command.Bundle → ⊥)
-    → (name ≡ command.Explain → ⊥) → (name ≡ command.Polls → ⊥) → (name ≡ command.Status → ⊥) → (name ≡ command.Distrust → ⊥)
-    → IsUntouched run.sink → IsUntouched run.source → ShowsBy name call run (Err Usage)
-none_shown command.Report call run report bundle explain polls status distrust unwritten unread = absurd (report refl)
-none_shown command.Bundle call run report bundle explain polls status distrust unwritten unread = absurd (bundle refl)
-none_shown command.Explain call run report bundle explain polls status distrust unwritten unread = absurd (explain refl)
-none_shown command.Polls call run report bundle explain polls status distrust unwritten unread = absurd (polls refl)
-none_shown command.Status call run report bundle explain polls status distrust unwritten unread = absurd (status refl)
-none_shown command.Distrust call run report bundle explain polls status distrust unwritten unread = absurd (distrust refl)
-none_shown name call run report bundle explain polls status distrust unwritten unread = (refused_words _ run.sink Usage refl unwritten, unread)
-
--- how a replica stands, looked at with the limits that are usual
-pub status_as : (call : ShownCall) (format : StatusFormat) (sink : DeviceRun) (answer : Result Bool CommandError) (limits : WarnLimits)
-    → limits ≡ usual_limits call.moment
-    → RunsWriter (IsWarnedStatusIn call.meaning (record { limits = limits; running = call.running; fetches = [] }) format) sink answer
-    → RunsWriter (IsWarnedStatusIn call.meaning (watched_by call) format) sink answer
-status_as call format sink answer limits is runs =
-    subst (λ l. RunsWriter (IsWarnedStatusIn call.meaning (record { limits = l; running = call.running; fetches = [] }) format) sink answer)
-    is runs
+pub none_shown : (name : CommandName) (call : ShownCall) (run : CommandRun) → (name ≡ command.Report → ⊥) → (name ≡ command.List → ⊥)
+    → (name ≡ command.Graph → ⊥) → (name ≡ command.Bundle → ⊥) → (name ≡ command.Explain → ⊥) → (name ≡ command.Polls → ⊥)
+    → (name ≡ command.Status → ⊥) → (name ≡ command.Distrust → ⊥) → IsUntouched run.sink → IsUntouched run.source → ShowsBy name call run (Err Usage)
+none_shown command.Report call run report list graph bundle explain polls status distrust unwritten unread = absurd (report refl)
+none_shown command.List call run report list graph bundle explain polls status distrust unwritten unread = absurd (list refl)
+none_shown command.Graph call run report list graph bundle explain polls status distrust unwritten unread = absurd (graph refl)
+none_shown command.Bundle call run report list graph bundle explain polls status distrust unwritten unread = absurd (bundle refl)
+none_shown command.Explain call run report list graph bundle explain polls status distrust unwritten unread = absurd (explain refl)
+none_shown command.Polls call run report list graph bundle explain polls status distrust unwritten unread = absurd (polls refl)
+none_shown command.Status call run report list graph bundle explain polls status distrust unwritten unread = absurd (status refl)
+none_shown command.Distrust call run report list graph bundle explain polls status distrust unwritten unread = absurd (distrust refl)
+none_shown name call run report list graph bundle explain polls status distrust unwritten unread =
+    (refused_words _ run.sink Usage refl unwritten, unread)

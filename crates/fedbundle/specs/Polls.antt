@@ -40,7 +40,12 @@ pub record CutsPolls (form : PollsForm) (run : CommandRun) (m : Meaning) (now : 
   pub is : HasPollsText form run.source m now text
   pub cut : CutsOff run.sink text
 
--- The lines have none for this cause, or the source failed, and nothing was written.
+-- The lines have none for this cause, or the source failed,
+pub record RefusesLog (source : DeviceRun) (m : Meaning) (why : PollError) : Type 0 where
+  pub cause : IfSome source.before (λ bytes. RefusesPolls (polled m.config) bytes why)
+  pub fault : why ≡ SourceFailed → HasFailed source
+
+-- and nothing was written.
 pub record RefusesLines (run : CommandRun) (m : Meaning) (why : PollError) : Type 0 where
   pub cause : IfSome run.source.before (λ bytes. RefusesPolls (polled m.config) bytes why)
   pub fault : why ≡ SourceFailed → HasFailed run.source

@@ -2,47 +2,65 @@
 -- gets that, or the words or the command's function refuse it.
 use Rattle.std.specs.Prelude.{◌≡◌, ◌⊎◌, ℕ, ℤ, List, [], Bool, true, false, Option, Some, None}
 use Rattle.std.specs.Prelude.{Result, Ok, Err, IfOk, if◌then◌else◌, option_map}
-use Rattle.spiffe_name.specs.TrustDomain.{IsDomainText}
+use Rattle.spiffe_name.specs.TrustDomain.{IsDomainText, RefusesDomain}
 use Rattle.receipt_core.specs.Acceptance.{Meaning}
 use Rattle.receipt_core.specs.declared.distrust.Distrust.{Distrust}
 use Rattle.bundle_view.specs.Report.{IsReport}
 use Rattle.json_reports.specs.ReportJson.{IsReportJson}
+use Rattle.key_view.specs.KeysText.{IsKeysText}
+use Rattle.key_view.specs.declared.keys_writer.KeysForm.{KeysForm}
+use Rattle.key_view.specs.declared.keys_writer.KeysForm.TheVariants as keys
+use Rattle.poll_log.specs.Polling.{PollStatus}
+use Rattle.poll_log.specs.PollLines.{ReadsSeconds}
+use Rattle.poll_log.specs.declared.error.PollError.{PollError}
+use Rattle.poll_log.specs.declared.log.PollLog.{PollLog}
+use Rattle.replica_view.specs.HeldJson.{IsHeldJson}
+use Rattle.replica_view.specs.HeldTexts.{IsHeldText}
+use Rattle.replica_view.specs.TrustGraph.{IsGraphText}
 use Rattle.poll_view.specs.declared.polls_writer.PollsForm.{PollsForm}
 use Rattle.poll_view.specs.declared.polls_writer.PollsForm.TheVariants as polls
 use Rattle.status_view.specs.declared.running.RunningStatus.{RunningStatus}
 use Rattle.status_view.specs.declared.status_writer.StatusFormat.{StatusFormat}
 use Rattle.status_view.specs.StatusRuns.{IsWarned}
 use Rattle.status_warnings.specs.WarnedStatus.{IsWarnedStatusIn, Watching}
+use Rattle.status_warnings.specs.Fetches.{AreFetches}
+use Rattle.status_warnings.specs.declared.seen.Fetch.{Fetch}
 use Rattle.status_warnings.specs.declared.seen.WarnLimits.{WarnLimits}
 use Rattle.text_lines.specs.TextLines.{BeginsSome, WritesSome}
-use Rattle.fedbundle.specs.CommandRun.{CommandRun, DeviceRun, HasFailed, IsAsSound, WritesNothing}
+use Rattle.fedbundle.specs.CommandRun.{CommandRun, DeviceRun, HasFailed, IsAsSound, IsReadOut}
+use Rattle.fedbundle.specs.CommandRun.{WritesNothing}
 use Rattle.fedbundle.specs.CurrentBundle.{RunsBundle, RunsBundlePem}
 use Rattle.fedbundle.specs.Distrust.{ShowsDistrust}
 use Rattle.fedbundle.specs.Explain.{RunsExplain, explanation_call}
 use Rattle.command_line.specs.OptionTexts.{SaysBundleFormat, SaysExplanationIn, SaysOutputForm}
 use Rattle.command_line.specs.OptionTexts.{SaysNoBundleFormat, SaysNoExplanationIn}
-use Rattle.command_line.specs.OptionTexts.{SaysNoOutputForm, option_said}
+use Rattle.command_line.specs.OptionTexts.{SaysFlag, SaysNoOutputForm, SaysNumber, option_said}
 use Rattle.fedbundle.specs.OptionValues.{SaysBadMoment, SaysMoment, SaysNoStatusFormat}
 use Rattle.fedbundle.specs.OptionValues.{SaysStatusFormat}
-use Rattle.fedbundle.specs.Polls.{RunsPollsIn, polls_call}
-use Rattle.fedbundle.specs.SaidValues.{EndsAtDomain, EndsWithout, SaysNoRecord, SaysRecord}
-use Rattle.fedbundle.specs.SaidValues.{texts_of_call}
+use Rattle.fedbundle.specs.Polls.{ReadsLog, RefusesLines, RefusesLog, RunsPollsIn, polls_call}
+use Rattle.fedbundle.specs.SaidValues.{EndsAtDomain, EndsAtName, EndsWithout, SaysNoRecord}
+use Rattle.fedbundle.specs.SaidValues.{SaysRecord, texts_of_call}
 use Rattle.command_line.specs.declared.option_texts.ExplanationForm.{ExplanationForm}
 use Rattle.command_line.specs.declared.command_name.CommandName.{CommandName}
 use Rattle.command_line.specs.declared.command_name.CommandName.TheVariants as command
 use Rattle.command_line.specs.declared.command_name.OptionName.{OptionName}
-use Rattle.command_line.specs.declared.command_name.OptionName.TheVariants.{Domain, FileFormat}
-use Rattle.command_line.specs.declared.command_name.OptionName.TheVariants.{Format, Now, Short}
+use Rattle.command_line.specs.declared.command_name.OptionName.TheVariants.{Domain, Format, Keys}
+use Rattle.command_line.specs.declared.command_name.OptionName.TheVariants.{Now, OptionalDomain}
+use Rattle.command_line.specs.declared.command_name.OptionName.TheVariants.{OptionalNow, Short}
+use Rattle.command_line.specs.declared.command_name.OptionName.TheVariants.{ExpiresWithin, Polls}
+use Rattle.command_line.specs.declared.command_name.OptionName.TheVariants.{PeerQuiet}
 use Rattle.fedbundle.specs.declared.error.CommandError.{CommandError}
-use Rattle.fedbundle.specs.declared.error.CommandError.TheVariants.{Io, NoMemory}
+use Rattle.fedbundle.specs.declared.error.CommandError.TheVariants.{Io, NoMemory, Poll}
 use Rattle.fedbundle.specs.declared.exits.Exit.{Exit}
-use Rattle.fedbundle.specs.declared.exits.Exit.TheVariants.{BadMoment, NoBundle, NotAccepted}
+use Rattle.fedbundle.specs.declared.exits.Exit.TheVariants.{BadMoment, BadNumber, NoBundle}
+use Rattle.fedbundle.specs.declared.exits.Exit.TheVariants.{NotAccepted}
 use Rattle.fedbundle.specs.declared.exits.Exit.TheVariants.{Refused, Usage}
 use Rattle.command_line.specs.declared.option_texts.BundleFormat.{BundleFormat}
 use Rattle.command_line.specs.declared.option_texts.BundleFormat.TheVariants.{Json, Pem}
 use Rattle.command_line.specs.declared.option_texts.OutputForm.{OutputForm}
 use Rattle.command_line.specs.declared.option_texts.OutputForm.TheVariants as output
 use Rattle.fedbundle.specs.declared.shown.Shown.{Shown}
+use Rattle.fedbundle.specs.declared.shown_status.StatusLook.{StatusLook}
 
 -- ---- a call
 
@@ -63,7 +81,13 @@ shown_call shown m = record {
   moment = shown.moment;
 }
 
--- the text that the words give the option
+-- the texts that the words give options
+abbrev pub chosen_said : CommandName → List (Option (List ℕ)) → Option (List ℕ)
+chosen_said name texts = option_said name texts OptionalDomain
+
+abbrev pub second_said : CommandName → List (Option (List ℕ)) → Option (List ℕ)
+second_said name texts = option_said name texts OptionalNow
+
 abbrev pub shown_said : ShownCall → OptionName → Option (List ℕ)
 shown_said call option = option_said call.name call.texts option
 
@@ -93,7 +117,16 @@ pub record EndsAtMoment (call : ShownCall) (exit : Exit) : Type 0 where
 
 -- The words of `report` say no form,
 abbrev pub EndsAtReport : ShownCall → Exit → Type 0
-EndsAtReport call exit = (exit ≡ Usage) × SaysNoOutputForm (shown_said call FileFormat)
+EndsAtReport call exit = (exit ≡ Usage) × SaysNoOutputForm (shown_said call Format)
+
+-- those of `list` and of `graph` a domain that is not a name,
+abbrev pub EndsAtChosen : CommandName → List (Option (List ℕ)) → Exit → Type 0
+EndsAtChosen name texts exit = EndsAtName RefusesDomain OptionalDomain name texts exit
+
+-- and those of `list` no form,
+abbrev pub EndsAtList : ShownCall → Exit → Type 0
+EndsAtList call exit = ((exit ≡ Usage) × SaysNoOutputForm (shown_said call Format))
+    ⊎ EndsAtChosen call.name call.texts exit
 
 -- those of `bundle` no domain or no format,
 abbrev pub EndsAtBundle : ShownCall → Exit → Type 0
@@ -103,16 +136,32 @@ EndsAtBundle call exit = EndsAtDomain call.name call.texts exit
 -- those of `explain` no domain or no form,
 abbrev pub EndsAtExplain : ShownCall → Exit → Type 0
 EndsAtExplain call exit = EndsAtDomain call.name call.texts exit
-    ⊎ ((exit ≡ Usage) × SaysNoExplanationIn (shown_said call Short) (shown_said call FileFormat))
+    ⊎ ((exit ≡ Usage) × SaysNoExplanationIn (shown_said call Short) (shown_said call Format))
 
 -- those of `polls` no form or no moment,
 abbrev pub EndsAtPolls : ShownCall → Exit → Type 0
-EndsAtPolls call exit = ((exit ≡ Usage) × SaysNoOutputForm (shown_said call FileFormat))
+EndsAtPolls call exit = ((exit ≡ Usage) × SaysNoOutputForm (shown_said call Format))
     ⊎ (EndsWithout Now call.name call.texts exit ⊎ EndsAtMoment call exit)
 
--- and those of `status` no format.
+-- and those of `status` no format, no second, or a number out of its range.
+abbrev pub EndsAtSecond : Option (List ℕ) → Exit → Type 0
+EndsAtSecond None exit = ⊥
+EndsAtSecond (Some text) exit = ReadsSeconds text None × (exit ≡ BadMoment)
+
+abbrev pub SaysDays : Option (List ℕ) → Option ℕ → Type 0
+SaysDays = SaysNumber 7 36525
+
+abbrev pub SaysQuiet : Option (List ℕ) → Option ℕ → Type 0
+SaysQuiet = SaysNumber 600 31536000
+
+abbrev pub EndsAtLimits : CommandName → List (Option (List ℕ)) → Exit → Type 0
+EndsAtLimits name texts exit = EndsAtSecond (second_said name texts) exit
+    ⊎ (((exit ≡ BadNumber ExpiresWithin) × SaysDays (option_said name texts ExpiresWithin) None)
+    ⊎ ((exit ≡ BadNumber PeerQuiet) × SaysQuiet (option_said name texts PeerQuiet) None))
+
 abbrev pub EndsAtStatus : ShownCall → Exit → Type 0
-EndsAtStatus call exit = (exit ≡ Usage) × SaysNoStatusFormat (shown_said call Format)
+EndsAtStatus call exit = ((exit ≡ Usage) × SaysNoStatusFormat (shown_said call Format))
+    ⊎ EndsAtLimits call.name call.texts exit
 
 -- ---- what is written
 
@@ -134,17 +183,66 @@ abbrev pub polls_form : OutputForm → PollsForm
 polls_form output.Text = polls.Lines
 polls_form output.Json = polls.Json
 
--- A certificate is warned of 7 days before its end, and a peer that was quiet for 10 minutes.
-abbrev pub usual_limits : ℤ → WarnLimits
-usual_limits moment = record { moment = moment; expires_within = 7; peer_quiet = 600 }
+-- what is held, as lines or as JSON, or the keys that are known
+abbrev pub keys_form : OutputForm → KeysForm
+keys_form output.Text = keys.Lines
+keys_form output.Json = keys.Json
 
--- what `status` looks at beside what is held
-abbrev pub watched_by : ShownCall → Watching
-watched_by call = record {
-  limits = usual_limits call.moment;
-  running = call.running;
-  fetches = [];
+abbrev pub IsListIn : (of_keys : Bool) → OutputForm → Meaning → Option (List ℕ) → List ℕ → Type 0
+IsListIn true form m chosen text = IsKeysText (keys_form form) m chosen text
+IsListIn false output.Text m chosen text = IsHeldText m chosen text
+IsListIn false output.Json m chosen text = IsHeldJson m chosen text
+
+-- ---- what `status` looks at
+
+-- the second that the words say, or the other one
+abbrev pub SaysSecond : ℤ → Option (List ℕ) → ℤ → Type 0
+SaysSecond otherwise None second = second ≡ otherwise
+SaysSecond otherwise (Some text) second = ReadsSeconds text (Some second)
+
+-- A certificate is warned of 7 days before its end, and a peer after 10 quiet minutes, if the
+-- words do not say otherwise.
+pub record SaysLimits (moment : ℤ) (name : CommandName) (texts : List (Option (List ℕ)))
+    (limits : WarnLimits) : Type 0 where
+  pub second : SaysSecond moment (second_said name texts) limits.moment
+  pub days : SaysDays (option_said name texts ExpiresWithin) (Some limits.expires_within)
+  pub quiet : SaysQuiet (option_said name texts PeerQuiet) (Some limits.peer_quiet)
+
+-- what is held, the limits, what a running replica says of itself, and how that is written
+pub record StatusSight : Type 0 where
+  pub meaning : Meaning
+  pub limits : WarnLimits
+  pub running : Option RunningStatus
+  pub format : StatusFormat
+
+abbrev pub look_with : StatusLook → Meaning → StatusSight
+look_with look m = record {
+  meaning = m;
+  limits = look.limits;
+  running = option_map (λ r. r.now) look.running;
+  format = look.format;
 }
+
+abbrev pub sight_of_call : ShownCall → WarnLimits → StatusFormat → StatusSight
+sight_of_call call limits format = record {
+  meaning = call.meaning;
+  limits = limits;
+  running = call.running;
+  format = format;
+}
+
+abbrev pub watched_by : StatusSight → List Fetch → Watching
+watched_by sight fetches = record {
+  limits = sight.limits;
+  running = sight.running;
+  fetches = fetches;
+}
+
+-- The source had the lines of this log of polls; or the first bad line is refused, or it failed.
+abbrev pub ReadsPollLog : Meaning → DeviceRun → Result PollLog CommandError → Type 0
+ReadsPollLog m source (Ok log) = ReadsLog source m log × IsReadOut source
+ReadsPollLog m source (Err (Poll why)) = RefusesLog source m why
+ReadsPollLog m source (Err _) = ⊥
 
 -- ---- how a command ends, by the answer of its function
 
@@ -169,7 +267,7 @@ exit_if_warned (Err e) = Err (Refused e)
 pub record ShowsReportSaid (call : ShownCall) (sink : DeviceRun)
     (result : Result ℕ Exit) : Type 0 where
   pub form : OutputForm
-  pub is_form : SaysOutputForm (shown_said call FileFormat) form
+  pub is_form : SaysOutputForm (shown_said call Format) form
   pub answer : Result (Unit {0}) CommandError
   pub runs : RunsWriter (IsReportIn form call.meaning) sink answer
   pub is : result ≡ exit_if_done answer
@@ -194,7 +292,7 @@ pub record ShowsExplanationSaid (call : ShownCall) (run : CommandRun)
   pub is_domain : shown_said call Domain ≡ Some domain
   pub is_name : IsDomainText domain
   pub form : ExplanationForm
-  pub is_form : SaysExplanationIn (shown_said call Short) (shown_said call FileFormat) form
+  pub is_form : SaysExplanationIn (shown_said call Short) (shown_said call Format) form
   pub answer : Result Bool CommandError
   pub runs : RunsExplain run call.meaning (explanation_call domain form) answer
   pub is : result ≡ exit_if_written NotAccepted answer
@@ -203,7 +301,7 @@ pub record ShowsExplanationSaid (call : ShownCall) (run : CommandRun)
 pub record ShowsPollsSaid (call : ShownCall) (run : CommandRun)
     (result : Result ℕ Exit) : Type 0 where
   pub form : OutputForm
-  pub is_form : SaysOutputForm (shown_said call FileFormat) form
+  pub is_form : SaysOutputForm (shown_said call Format) form
   pub seconds : List ℕ
   pub is_said : shown_said call Now ≡ Some seconds
   pub now : ℤ
@@ -212,15 +310,79 @@ pub record ShowsPollsSaid (call : ShownCall) (run : CommandRun)
   pub runs : RunsPollsIn run call.meaning (polls_call (polls_form form) now) answer
   pub is : result ≡ exit_if_done answer
 
--- how the replica stands, and what is wrong with it, in the format that they say
-pub record ShowsStatusSaid (call : ShownCall) (sink : DeviceRun)
+-- what is held, or the keys, in the form that they say; of the domain that they choose
+abbrev pub SaysChosen : Option (List ℕ) → Option (List ℕ) → Type 0
+SaysChosen None chosen = chosen ≡ None
+SaysChosen (Some text) chosen = (chosen ≡ Some text) × IsDomainText text
+
+pub record ShowsListSaid (call : ShownCall) (sink : DeviceRun)
+    (result : Result ℕ Exit) : Type 0 where
+  pub form : OutputForm
+  pub is_form : SaysOutputForm (shown_said call Format) form
+  pub of_keys : Bool
+  pub is_of_keys : SaysFlag (shown_said call Keys) of_keys
+  pub chosen : Option (List ℕ)
+  pub is_chosen : SaysChosen (chosen_said call.name call.texts) chosen
+  pub answer : Result (Unit {0}) CommandError
+  pub runs : RunsWriter (IsListIn of_keys form call.meaning chosen) sink answer
+  pub is : result ≡ exit_if_done answer
+
+-- which document vouches for which, or what of it is of the domain that they choose
+pub record ShowsGraphSaid (call : ShownCall) (sink : DeviceRun)
+    (result : Result ℕ Exit) : Type 0 where
+  pub chosen : Option (List ℕ)
+  pub is_chosen : SaysChosen (chosen_said call.name call.texts) chosen
+  pub answer : Result (Unit {0}) CommandError
+  pub runs : RunsWriter (IsGraphText call.meaning chosen) sink answer
+  pub is : result ≡ exit_if_done answer
+
+-- how the replica stands, and what is wrong with it, if domains are fetched like this
+pub record ShowsStanding (sight : StatusSight) (fetches : List Fetch) (sink : DeviceRun)
+    (result : Result ℕ Exit) : Type 0 where
+  pub answer : Result Bool CommandError
+  pub runs : RunsWriter (IsWarnedStatusIn sight.meaning (watched_by sight fetches) sight.format)
+      sink answer
+  pub warned : IfOk answer (IsWarned sight.meaning)
+  pub is : result ≡ exit_if_warned answer
+
+-- the same, if domains are fetched as the polls say that the source has
+pub record ShowsFetched (sight : StatusSight) (run : CommandRun)
+    (result : Result ℕ Exit) : Type 0 where
+  pub log : List PollStatus
+  pub reads : ReadsLog run.source sight.meaning log
+  pub read : IsReadOut run.source
+  pub fetches : List Fetch
+  pub are_fetches : AreFetches sight.meaning log fetches
+  pub shows : ShowsStanding sight fetches run.sink result
+
+-- These polls are refused for a cause,
+pub record EndsAtLog (m : Meaning) (run : CommandRun) (result : Result ℕ Exit) : Type 0 where
+  pub why : PollError
+  pub refused : RefusesLines run m why
+  pub is : result ≡ Err (Refused (Poll why))
+
+-- or memory ran out for what they say.
+abbrev pub LacksFetches : CommandRun → Result ℕ Exit → Type 0
+LacksFetches run result = (result ≡ Err (Refused NoMemory)) × WritesNothing run.sink
+
+abbrev pub ShowsPolled : StatusSight → CommandRun → Result ℕ Exit → Type 0
+ShowsPolled sight run result = EndsAtLog sight.meaning run result
+    ⊎ (LacksFetches run result ⊎ ShowsFetched sight run result)
+
+-- by the file of polls, if the words name one
+abbrev pub ShowsSight : Option (List ℕ) → StatusSight → CommandRun → Result ℕ Exit → Type 0
+ShowsSight None sight run result = ShowsStanding sight [] run.sink result
+    × IsUntouched run.source
+ShowsSight (Some path) sight run result = ShowsPolled sight run result
+
+-- how the replica stands, in the format and by the limits and the polls that they say
+pub record ShowsStatusSaid (call : ShownCall) (run : CommandRun)
     (result : Result ℕ Exit) : Type 0 where
   pub format : StatusFormat
   pub is_format : SaysStatusFormat (shown_said call Format) format
-  pub answer : Result Bool CommandError
-  pub runs : RunsWriter (IsWarnedStatusIn call.meaning (watched_by call) format) sink answer
-  pub warned : IfOk answer (IsWarned call.meaning)
-  pub is : result ≡ exit_if_warned answer
+  pub limits : WarnLimits
+  pub is_limits : SaysLimits call.moment call.name call.texts limits
+  pub shows : ShowsSight (shown_said call Polls) (sight_of_call call limits format) run result
 
 -- what the record that they say would change
 pub record ShowsEffectSaid (call : ShownCall) (sink : DeviceRun)
@@ -249,15 +411,23 @@ abbrev pub ShowsPolls : ShownCall → CommandRun → Result ℕ Exit → Type 0
 ShowsPolls call run result = RefusesUnread (EndsAtPolls call) run result
     ⊎ ShowsPollsSaid call run result
 
-abbrev pub ShowsStatus : ShownCall → DeviceRun → Result ℕ Exit → Type 0
-ShowsStatus call sink result = RefusesUnwritten (EndsAtStatus call) sink result
-    ⊎ ShowsStatusSaid call sink result
+abbrev pub ShowsList : ShownCall → DeviceRun → Result ℕ Exit → Type 0
+ShowsList call sink result = RefusesUnwritten (EndsAtList call) sink result
+    ⊎ ShowsListSaid call sink result
+
+abbrev pub ShowsGraph : ShownCall → DeviceRun → Result ℕ Exit → Type 0
+ShowsGraph call sink result = RefusesUnwritten (EndsAtChosen call.name call.texts) sink result
+    ⊎ ShowsGraphSaid call sink result
+
+abbrev pub ShowsStatus : ShownCall → CommandRun → Result ℕ Exit → Type 0
+ShowsStatus call run result = RefusesUnread (EndsAtStatus call) run result
+    ⊎ ShowsStatusSaid call run result
 
 abbrev pub ShowsEffect : ShownCall → DeviceRun → Result ℕ Exit → Type 0
 ShowsEffect call sink result = RefusesUnwritten (SaysNoRecord call.name call.texts) sink result
     ⊎ ShowsEffectSaid call sink result
 
--- The same by the command. Only `explain` and `polls` read. Another command is refused.
+-- The same by the command. Only `explain`, `polls` and `status` read. Another command is refused.
 abbrev pub ShowsBy : CommandName → ShownCall → CommandRun → Result ℕ Exit → Type 0
 ShowsBy command.Report call run result = ShowsReport call run.sink result
     × IsUntouched run.source
@@ -265,8 +435,9 @@ ShowsBy command.Bundle call run result = ShowsBundle call run.sink result
     × IsUntouched run.source
 ShowsBy command.Explain call run result = ShowsExplanation call run result
 ShowsBy command.Polls call run result = ShowsPolls call run result
-ShowsBy command.Status call run result = ShowsStatus call run.sink result
-    × IsUntouched run.source
+ShowsBy command.List call run result = ShowsList call run.sink result × IsUntouched run.source
+ShowsBy command.Graph call run result = ShowsGraph call run.sink result × IsUntouched run.source
+ShowsBy command.Status call run result = ShowsStatus call run result
 ShowsBy command.Distrust call run result = ShowsEffect call run.sink result
     × IsUntouched run.source
 ShowsBy name call run result = RefusesUnread (λ exit. exit ≡ Usage) run result

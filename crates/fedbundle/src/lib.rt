@@ -27,13 +27,15 @@ mod run_error;
 mod said_values;
 mod serve;
 mod shown;
+mod shown_held;
+mod shown_status;
 mod two_parts;
 
 pub use bundle::{run_bundle, run_bundle_pem};
 pub use canon::{run_canon, run_canon_bytes};
 pub use command_line::{
     BundleFormat, Call, CommandName, ExplanationForm, Manner, OptionError, OptionName, OutputForm,
-    WordsError, command_of, given, is_flag_given, manner_of, read_bundle_format,
+    WordsError, command_of, given, is_flag_given, manner_of, number_given, read_bundle_format,
     read_explanation_form, read_key, read_output_form, read_request, read_sessions, read_words,
     wanted,
 };

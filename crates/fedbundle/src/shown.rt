@@ -1,15 +1,14 @@
-//! The commands that show what is held, by what their words say: `report`, `bundle`, `explain`,
-//! `polls`, `status`, and `distrust` where it only shows what a record would change.
-ghost use Rattle.std.specs.Prelude.{◌≡◌, IfOk, Ok};
+//! The commands that show what is held, by what their words say: `report`, `list`, `graph`,
+//! `bundle`, `explain`, `polls`, `status`, and `distrust` if it only shows what a record would
+//! change.
+ghost use Rattle.std.specs.Prelude.{◌≡◌, Ok};
 ghost use Rattle.json_reports.specs.ReportJson.{IsReportJson};
 ghost use Rattle.bundle_view.specs.Report.{IsReport};
-ghost use Rattle.status_view.specs.StatusRuns.{IsWarned};
-ghost use Rattle.status_warnings.specs.WarnedStatus.{IsWarnedStatusIn, watching_of};
 ghost use Rattle.fedbundle.specs.CommandRun.{device_run, run_of};
 ghost use Rattle.fedbundle.specs.CurrentBundle.{RunsBundle, RunsBundlePem};
-ghost use Rattle.fedbundle.specs.Shown.{IsReportIn, RunsShown, RunsWriter, usual_limits};
+ghost use Rattle.fedbundle.specs.Shown.{IsReportIn, RunsShown, RunsWriter};
 ghost use Rattle.fedbundle.specs.Shown.{ShowsBundle, ShowsEffect, ShowsExplanation, ShowsPolls};
-ghost use Rattle.fedbundle.specs.Shown.{ShowsReport, ShowsStatus, exit_if_written, polls_form};
+ghost use Rattle.fedbundle.specs.Shown.{ShowsReport, exit_if_written, polls_form};
 ghost use Rattle.fedbundle.specs.Shown.{shown_call};
 ghost use Rattle.command_line.specs.declared.option_texts.BundleFormat.TheVariants.{Json, Pem};
 
@@ -18,9 +17,11 @@ use crate::distrust::show_distrust;
 use crate::error::CommandError;
 use crate::exits::Exit;
 use crate::explain::run_explain;
-use crate::option_values::{read_moment, read_status_format};
+use crate::option_values::read_moment;
 use crate::polls::run_polls_in;
 use crate::said_values::{read_domain, read_record};
+use crate::shown_held::{graph, list};
+use crate::shown_status::status;
 use bundle_view::write_report;
 use byte_lines::{Sink, Source};
 use closure_core::Closure;
@@ -31,8 +32,7 @@ use command_line::{
 use json_reports::write_report_json;
 use poll_view::PollsForm;
 use spiffe_name::TrustDomain;
-use status_view::{RunningStatus, StatusFormat};
-use status_warnings::{WarnLimits, Watch, write_warned_status};
+use status_view::RunningStatus;
 use std::alloc::Global;
 
 /// What is to be shown.
@@ -47,22 +47,17 @@ pub struct Shown<'call, 'words, 'a> {
     pub moment: i64,
 }
 
-/// How many days before its end `status` warns of a certificate.
-const EXPIRES_WITHIN: u64 = 7;
-
-/// How many seconds a peer may be quiet before `status` warns of it.
-const PEER_QUIET: u64 = 600;
-
 /// Writes what the words ask for, of what is held, and returns the exit status: 1 for a `status`
-/// with a warning, and else 0. `explain` and `polls` read the source, to its end or as far as
-/// [`run_explain`] and [`run_polls_in`] say; the others leave it. `distrust` only shows what the
-/// record would change, whether or not the words have `--dry-run`.
+/// with a warning, and otherwise 0. `explain` and `polls`, and `status` with `--polls`, read the
+/// source, to its end or as far as [`run_explain`] and [`run_polls_in`] say; the others leave it.
+/// `distrust` only shows what the record would change, whether or not the words have `--dry-run`.
 ///
 /// # Errors
 /// Where the words are refused, neither the source nor the sink was touched.
 /// - [`Exit::Usage`]: an option is missing or has no form that the command has, or the command is
 ///   another one,
-/// - [`Exit::BadKey`], [`Exit::BadMoment`]: `--key` or `--now` is none,
+/// - [`Exit::BadKey`], [`Exit::BadMoment`], [`Exit::BadNumber`]: the text of `--key`, of `--now`,
+///   or of `--expires-within` or `--peer-quiet` is not one,
 /// - [`Exit::NoBundle`]: `bundle`, of a domain that has no current document. Nothing was written.
 /// - [`Exit::NotAccepted`]: `explain`, of a document that is not accepted. Nothing was written.
 /// - [`Exit::Refused`]: the name of the domain is none, or the error of the command's function.
@@ -79,10 +74,12 @@ pub fn run_shown<C: Closure, R: Source, W: Sink>(
 {
     match shown.call.name {
         CommandName::Report => report(alloc, closure, shown, sink),
+        CommandName::List => list(alloc, closure, shown, sink),
+        CommandName::Graph => graph(alloc, closure, shown, sink),
         CommandName::Bundle => bundle(alloc, closure, shown, sink),
         CommandName::Explain => explain(alloc, closure, shown, source, sink),
         CommandName::Polls => polls(alloc, closure, shown, source, sink),
-        CommandName::Status => status(alloc, closure, shown, sink),
+        CommandName::Status => status(alloc, closure, shown, source, sink),
         CommandName::Distrust => distrust_effect(alloc, closure, shown, sink),
         _ => Err(Exit::Usage),
     }
@@ -97,7 +94,7 @@ fn report<C: Closure, W: Sink>(
     ensures { ShowsReport (shown_call shown.entry (C.state closure.now).meaning)
         (device_run W.contents W.has_failed sink.old sink.new) result }
 {
-    let form = read_output_form(given(shown.call, OptionName::FileFormat))?;
+    let form = read_output_form(given(shown.call, OptionName::Format))?;
     report_in(alloc, closure, form, sink)?;
     Ok(0)
 }
@@ -197,7 +194,7 @@ fn explain<C: Closure, R: Source, W: Sink>(
     let domain = read_domain(alloc, wanted(shown.call, OptionName::Domain)?)?;
     let form = read_explanation_form(
         given(shown.call, OptionName::Short),
-        given(shown.call, OptionName::FileFormat),
+        given(shown.call, OptionName::Format),
     )?;
     let is_written = run_explain(alloc, closure, &domain, form, source, sink)?;
     written_or(Exit::NotAccepted, is_written)
@@ -214,7 +211,7 @@ fn polls<C: Closure, R: Source, W: Sink>(
         (run_of (device_run R.remaining R.has_failed source.old source.new)
         (device_run W.contents W.has_failed sink.old sink.new)) result }
 {
-    let form = read_output_form(given(shown.call, OptionName::FileFormat))?;
+    let form = read_output_form(given(shown.call, OptionName::Format))?;
     let now = read_moment(wanted(shown.call, OptionName::Now)?)?;
     run_polls_in(alloc, closure, polls_form(form), now, source, sink)?;
     Ok(0)
@@ -227,51 +224,6 @@ fn polls_form(form: OutputForm) -> PollsForm
         OutputForm::Text => PollsForm::Lines,
         OutputForm::Json => PollsForm::Json,
     }
-}
-
-// A warning makes the exit status 1.
-fn status<C: Closure, W: Sink>(
-    alloc: Global,
-    closure: &C,
-    shown: Shown<'_, '_, '_>,
-    sink: &mut W,
-) -> Result<u8, Exit>
-    ensures { ShowsStatus (shown_call shown.entry (C.state closure.now).meaning)
-        (device_run W.contents W.has_failed sink.old sink.new) result }
-{
-    let format = read_status_format(given(shown.call, OptionName::Format))?;
-    let watch = Watch {
-        limits: usual_limits(shown.moment),
-        running: shown.running,
-        fetches: &[],
-    };
-    let is_warned = status_in(alloc, closure, &watch, format, sink)?;
-    Ok(u8::from(is_warned))
-}
-
-fn usual_limits(moment: i64) -> WarnLimits
-    ensures { result ≡ usual_limits moment }
-{
-    WarnLimits {
-        moment,
-        expires_within: EXPIRES_WITHIN,
-        peer_quiet: PEER_QUIET,
-    }
-}
-
-fn status_in<C: Closure, W: Sink>(
-    alloc: Global,
-    closure: &C,
-    watch: &Watch<'_>,
-    format: StatusFormat,
-    sink: &mut W,
-) -> Result<bool, CommandError>
-    ensures runs { RunsWriter
-        (IsWarnedStatusIn (C.state closure.now).meaning (watching_of watch.now) format)
-        (device_run W.contents W.has_failed sink.old sink.new) result }
-    ensures warned { IfOk result (IsWarned (C.state closure.now).meaning) }
-{
-    Ok(write_warned_status(alloc, closure, watch, format, sink)?)
 }
 
 fn distrust_effect<C: Closure, W: Sink>(

@@ -1,7 +1,8 @@
 // The commands with `--at`: a running replica carries them out.
+use crate::options;
 use crate::streams::input;
 use byte_lines::read_up_to;
-use fedbundle::{Call, CommandError, CommandName, Exit, Step};
+use fedbundle::{Call, CommandError, CommandName, Exit, OptionName, Step, given};
 use local_answers::{MOST_INPUT, request_words};
 use replica_loop::{AskFault, LocalRequest, ask_replica};
 
@@ -15,7 +16,7 @@ pub(crate) fn ask(
 ) -> Result<u8, Exit> {
     let words = request_words(rt.alloc(), call)?;
     let texts: Vec<&str> = words.iter().map(|word| word.as_str()).collect(rt.alloc())?;
-    let text = input_of(rt, call.name)?;
+    let text = input_of(rt, call)?;
     let request = LocalRequest {
         path,
         words: texts.as_slice(),
@@ -34,8 +35,16 @@ pub(crate) fn ask(
 }
 
 // One byte more than a request may have, so that the replica can tell what is too long.
-fn input_of(rt: &HostRuntime, name: CommandName) -> Result<Vec<u8>, CommandError> {
-    let most = if reads_input(name) { MOST_INPUT + 1 } else { 0 };
+fn input_of(rt: &HostRuntime, call: &Call<'_>) -> Result<Vec<u8>, CommandError> {
+    if let Some(path) = given(call, OptionName::Polls) {
+        let mut polls = options::file(rt, path)?;
+        return Ok(read_up_to(rt.alloc(), &mut polls, MOST_INPUT + 1)?);
+    }
+    let most = if reads_input(call.name) {
+        MOST_INPUT + 1
+    } else {
+        0
+    };
     Ok(read_up_to(rt.alloc(), &mut input(rt), most)?)
 }
 

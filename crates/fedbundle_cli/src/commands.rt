@@ -5,8 +5,6 @@ mod canon;
 mod config;
 mod diff;
 mod distrust;
-mod graph;
-mod list;
 mod merge;
 mod migrate;
 mod new;
@@ -23,8 +21,8 @@ use crate::exit::print_clap;
 use crate::{at_replica, missing_words, options, process_words, reasons};
 use fed_config::Config;
 use fedbundle::{
-    Call, CommandError, CommandName, Exit, OptionName, WordsError, given, manner_of, read_words,
-    wanted,
+    Call, CommandError, CommandName, Exit, OptionName, WordsError, given, is_flag_given, manner_of,
+    read_words, wanted,
 };
 pub(crate) use replica::may_listen;
 
@@ -52,6 +50,9 @@ fn carry_out(rt: &HostRuntime, call: &Call<'_>) -> Result<u8, Exit> {
     if let Some(option) = empty_path(call) {
         return Err(Exit::EmptyPath(option));
     }
+    if lacks_key(call) {
+        return Err(Exit::Usage);
+    }
     let manner = manner_of(call)?;
     if let Some(path) = given(call, OptionName::At) {
         return ask_at(rt, call, path, manner.wait_seconds);
@@ -65,7 +66,7 @@ fn carry_out(rt: &HostRuntime, call: &Call<'_>) -> Result<u8, Exit> {
 
 // A running replica has a state, so nothing may stand for one that it has not.
 fn ask_at(rt: &HostRuntime, call: &Call<'_>, path: &str, seconds: u64) -> Result<u8, Exit> {
-    if given(call, OptionName::New) == Some("true") {
+    if is_flag_given(given(call, OptionName::New)) {
         return Err(Exit::Usage);
     }
     at_replica::ask(rt, call, path, seconds)
@@ -80,11 +81,19 @@ fn empty_path(call: &Call<'_>) -> Option<OptionName> {
         OptionName::At,
         OptionName::Socket,
         OptionName::ReadSocket,
+        OptionName::Polls,
     ];
     paths
         .iter()
         .find(|option| given(call, **option) == Some(""))
         .copied()
+}
+
+// `distrust` wants a key or a public key, and not both.
+fn lacks_key(call: &Call<'_>) -> bool {
+    let has_key = given(call, OptionName::OptionalKey).is_some();
+    let has_public_key = given(call, OptionName::PublicKey).is_some();
+    call.name == CommandName::Distrust && has_key == has_public_key
 }
 
 fn carry_out_with(rt: &HostRuntime, call: &Call<'_>) -> Result<u8, Exit> {
@@ -108,7 +117,7 @@ fn carry_out_under(rt: &HostRuntime, config: &Config, call: &Call<'_>) -> Result
         CommandName::Report if given(call, OptionName::OptionalState).is_none() => {
             report::report_lines(rt, config, call)
         }
-        CommandName::Distrust if given(call, OptionName::DryRun) != Some("true") => {
+        CommandName::Distrust if !is_flag_given(given(call, OptionName::DryRun)) => {
             distrust::run(rt, config, call)
         }
         _ => state_readers::show(rt, config, call),

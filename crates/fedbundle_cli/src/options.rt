@@ -7,20 +7,23 @@ use std::fs::Files;
 use std::net::SocketAddr;
 use std::{fs, io};
 
+/// The file, to be read from its beginning.
+pub(crate) fn file<R: Files>(files: &R, path: &str) -> Result<FromRead<R::File>, CommandError> {
+    match fs::open(files, path) {
+        Ok(file) => Ok(FromRead::new(file)),
+        Err(error) if error.kind() == io::ErrorKind::OutOfMemory => Err(CommandError::NoMemory),
+        Err(_) => Err(CommandError::Io),
+    }
+}
+
 /// The configuration in the file.
 pub(crate) fn config<R: Files>(
     files: &R,
     alloc: Global,
     path: &str,
 ) -> Result<Config, CommandError> {
-    match fs::open(files, path) {
-        Ok(file) => {
-            let bytes = read_up_to(alloc, &mut FromRead::new(file), usize::MAX)?;
-            Ok(Config::read(alloc, bytes.as_slice())?)
-        }
-        Err(error) if error.kind() == io::ErrorKind::OutOfMemory => Err(CommandError::NoMemory),
-        Err(_) => Err(CommandError::Io),
-    }
+    let bytes = read_up_to(alloc, &mut file(files, path)?, usize::MAX)?;
+    Ok(Config::read(alloc, bytes.as_slice())?)
 }
 
 /// The address of an IP address and a port. At port 0 the system chooses the port.

@@ -4,14 +4,14 @@
 use crate::commands::may_listen;
 use crate::exit::print_exit;
 use crate::fault_places::{say_bundle, say_config, say_state, say_stream};
-use crate::options::known_address;
+use crate::options::{address, known_address};
 use crate::verbose_lines::{is_verbose_for, quoted, say, shown, words_of};
 use fed_config::Config;
 use fedbundle::{
     Call, CommandError, CommandName, Exit, OptionName, Step, SystemFault, given, status,
 };
 use spiffe_name::{NameError, SpiffeId, TrustDomain};
-use std::alloc::AllocError;
+use std::alloc::{AllocError, Global};
 use std::io;
 
 /// The exit status where memory ran out: then nothing is looked at again.
@@ -88,8 +88,18 @@ fn say_why(rt: &HostRuntime, call: &Call<'_>, exit: &Exit) -> Result<(), AllocEr
         Exit::TooManyBytes => say_option(rt, call, OptionName::MostBytes, "would be passed"),
         Exit::System(fault) => say_system(rt, call, fault),
         Exit::Refused(error) => say_refusal(rt, call, error),
-        Exit::Usage => Ok(()),
+        Exit::Usage => say_keys(rt, call),
     }
+}
+
+// `distrust` wants one of two options.
+fn say_keys(rt: &HostRuntime, call: &Call<'_>) -> Result<(), AllocError> {
+    if call.name == CommandName::Distrust && given(call, OptionName::OptionalKey).is_none() {
+        say(rt, "distrust: --key is missing");
+    } else if call.name == CommandName::Distrust && given(call, OptionName::PublicKey).is_some() {
+        say(rt, "distrust: --public-key may not stand beside --key");
+    }
+    Ok(())
 }
 
 // The option, its text, and what is wrong with that.
@@ -122,16 +132,22 @@ fn say_address(rt: &HostRuntime, call: &Call<'_>) -> Result<(), AllocError> {
 
 // The options of a replica that have addresses. One that is none is among them.
 fn say_addresses(rt: &HostRuntime, call: &Call<'_>, why: &str) -> Result<(), AllocError> {
-    match given(call, OptionName::Listen).map(known_address) {
-        Some(Err(_)) => say_option(rt, call, OptionName::Listen, why),
-        Some(Ok(address)) if !may_listen(call, address) => say_option(
-            rt,
-            call,
-            OptionName::Listen,
-            "is no loopback address: --listen-anywhere allows it",
-        ),
-        _ => say_option(rt, call, OptionName::Peers, why),
+    let anywhere = "is not a loopback address: --listen-anywhere allows it";
+    let listen = given(call, OptionName::Listen).map(known_address);
+    let health = given(call, OptionName::Health).map(address);
+    'options: for (option, address) in [
+        (OptionName::Listen, listen),
+        (OptionName::Health, health),
+    ] {
+        match address {
+            Some(Err(_)) => return say_option(rt, call, option, why),
+            Some(Ok(address)) if !may_listen(call, address) => {
+                return say_option(rt, call, option, anywhere);
+            }
+            _ => {}
+        }
     }
+    say_option(rt, call, OptionName::Peers, why)
 }
 
 fn say_lock(rt: &HostRuntime, call: &Call<'_>, why: &str) -> Result<(), AllocError> {
@@ -148,6 +164,20 @@ pub(crate) fn state_path<'a>(call: &Call<'a>) -> &'a str {
     given(call, OptionName::State).unwrap_or("")
 }
 
+// Where the command was to listen: a replica may do so at two addresses.
+fn listen_addresses(alloc: Global, call: &Call<'_>) -> Result<String, AllocError> {
+    match (
+        given(call, OptionName::Listen),
+        given(call, OptionName::Health),
+    ) {
+        (Some(listen), Some(health)) => shown(
+            alloc,
+            format!(in alloc; "{listen} or {health}")?.as_str(),
+        ),
+        (listen, health) => shown(alloc, listen.or(health).unwrap_or("")),
+    }
+}
+
 // The path of the socket: that of a replica that is asked, or that is to be one.
 fn socket_path<'a>(call: &Call<'a>) -> &'a str {
     given(call, OptionName::At)
@@ -161,7 +191,7 @@ fn say_system(rt: &HostRuntime, call: &Call<'_>, fault: &SystemFault) -> Result<
     };
     let words = words_of(rt.alloc(), &io::Error::from_raw_os_error(code))?;
     let state = shown(rt.alloc(), state_path(call))?;
-    let listen = shown(rt.alloc(), given(call, OptionName::Listen).unwrap_or(""))?;
+    let listen = listen_addresses(rt.alloc(), call)?;
     let peer = shown(rt.alloc(), given(call, OptionName::Peer).unwrap_or(""))?;
     let socket = shown(rt.alloc(), socket_path(call))?;
     let line = match fault.step {

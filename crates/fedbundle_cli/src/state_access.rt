@@ -4,7 +4,8 @@ use crate::streams::error_lines;
 use crate::verbose_lines::is_verbose_unasked;
 use fed_config::Config;
 use fedbundle::{
-    Call, CommandError, CommandName, Exit, Manner, OptionName, Step, given, manner_of, wanted,
+    Call, CommandError, CommandName, Exit, Manner, OptionName, Step, given, is_flag_given,
+    manner_of, wanted,
 };
 use state_files::{
     StateLock, has_journal, is_marked, load_state, save_state, state_bytes, try_lock_state,
@@ -50,7 +51,7 @@ pub(crate) fn state_access_of<'a>(call: &Call<'a>) -> Result<StateAccess<'a>, Ex
 // say that there may be none. The commands of the exchange format take it for one that holds
 // nothing (D-439).
 fn missing_of(call: &Call<'_>) -> MissingState {
-    if given(call, OptionName::New) == Some("true") {
+    if is_flag_given(given(call, OptionName::New)) {
         return MissingState::HoldsNothing;
     }
     match call.name {
@@ -61,7 +62,7 @@ fn missing_of(call: &Call<'_>) -> MissingState {
         | CommandName::Status
         | CommandName::Migrate
         | CommandName::Reseed => MissingState::Refused,
-        CommandName::Distrust if given(call, OptionName::DryRun) == Some("true") => {
+        CommandName::Distrust if is_flag_given(given(call, OptionName::DryRun)) => {
             MissingState::Refused
         }
         _ => MissingState::HoldsNothing,

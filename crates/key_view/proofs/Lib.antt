@@ -1,2 +1,5 @@
 mod DomainKeyFacts
+mod ListingFacts
+mod MetFacts
 mod PieceFacts
+mod PublicKeyFacts

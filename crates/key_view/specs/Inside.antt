@@ -1,2 +1,5 @@
 -- How far the work has come.
 pub mod KeysSoFar
+pub mod Listed
+pub mod MetIds
+pub mod PublicKeys

@@ -11,8 +11,9 @@ ghost use Rattle.key_view.specs.KeysText.{read_parts_text};
 ghost use Rattle.key_view.specs.KeysText.{parts_json, parts_text, quoted_id, same_key_line};
 ghost use Rattle.key_view.specs.KeysText.{same_key_lines, same_keys, yes_or_no};
 
+use crate::domain_entries::DomainEntries;
 use crate::key_listing::{DomainKeys, domain_keys, keys_of_domain};
-use crate::known_entry::{KeyEntry, KeyParts, has_distrusted_key};
+use crate::known_entry::{KeyEntry, KeyParts};
 use bundle_doc::DocId;
 use byte_lines::push_digits;
 use closure_core::Closure;
@@ -29,8 +30,8 @@ pub enum KeysForm {
     /// distrusted <yes or no> same-public-key <yes or no> bundles <document id>..`. The digest is
     /// the SHA-256 of the certificate's public key, and a moment is in seconds since the Unix
     /// epoch; where the certificate is not read, they are `none`. A key has the same public key
-    /// where [`has_distrusted_key`] says so. The bundles are `none` where no accepted document
-    /// lists the key.
+    /// if an accepted document lists it and it is not distrusted, though a distrusted key of the
+    /// domain has its public key. The bundles are `none` where no accepted document lists the key.
     Lines,
     /// A compact JSON object of one member, `keys`, and a line feed. It has an object for each, of
     /// `key`, `domain`, `public_key`, `not_before`, `not_after`, which are `null` where the
@@ -71,25 +72,27 @@ pub fn same_keys_text<C: Closure>(
 {
     let keys = keys_of_domain(alloc, closure, domain)?;
     let mut text = Vec::new(alloc);
-    push_same_keys(&mut text, &keys)?;
+    push_same_keys(alloc, &mut text, &keys)?;
     Ok(text)
 }
 
-fn push_same_keys(out: &mut Vec<u8>, keys: &DomainKeys) -> Result<(), AllocError>
+fn push_same_keys(alloc: Global, out: &mut Vec<u8>, keys: &DomainKeys) -> Result<(), AllocError>
     ensures { OnOk result (out.new.items ≡ out.old.items ++ same_keys keys.now) }
 {
-    push_same_among(out, &keys.domain, keys.keys.as_slice())
+    let entries = DomainEntries::new(alloc, keys.keys.as_slice())?;
+    push_same_among(out, &keys.domain, &entries, keys.keys.as_slice())
 }
 
 fn push_same_among(
     out: &mut Vec<u8>,
     domain: &TrustDomain,
-    keys: &[KeyEntry],
+    keys: &DomainEntries<'_>,
+    entries: &[KeyEntry],
 ) -> Result<(), AllocError>
     ensures { OnOk result (out.new.items
-        ≡ out.old.items ++ flat_map (same_key_lines domain.now keys.now) keys.now) }
+        ≡ out.old.items ++ flat_map (same_key_lines domain.now keys.now) entries.now) }
 {
-    for entry in keys {
+    for entry in entries {
         push_same_key(out, domain, keys, entry)?;
     }
     Ok(())
@@ -98,13 +101,13 @@ fn push_same_among(
 fn push_same_key(
     out: &mut Vec<u8>,
     domain: &TrustDomain,
-    keys: &[KeyEntry],
+    keys: &DomainEntries<'_>,
     entry: &KeyEntry,
 ) -> Result<(), AllocError>
     ensures { OnOk result (out.new.items
         ≡ out.old.items ++ same_key_lines domain.now keys.now entry.now) }
 {
-    if has_distrusted_key(keys, entry) {
+    if keys.has_distrusted_key(entry) {
         push_same_key_in(out, domain, entry, entry.bundles.as_slice())?;
     }
     Ok(())
@@ -174,12 +177,13 @@ fn keys_lines(
 {
     let mut text = Vec::new(alloc);
     for keys in all {
-        push_domain_lines(&mut text, chosen, keys)?;
+        push_domain_lines(alloc, &mut text, chosen, keys)?;
     }
     Ok(text)
 }
 
 fn push_domain_lines(
+    alloc: Global,
     out: &mut Vec<u8>,
     chosen: Option<&TrustDomain>,
     keys: &DomainKeys,
@@ -188,7 +192,8 @@ fn push_domain_lines(
         ≡ out.old.items ++ domain_lines (option_copied chosen.entry) keys.now) }
 {
     if !is_of_other(chosen, &keys.domain) {
-        push_key_lines(out, &keys.domain, keys.keys.as_slice())?;
+        let entries = DomainEntries::new(alloc, keys.keys.as_slice())?;
+        push_key_lines(out, &keys.domain, &entries, keys.keys.as_slice())?;
     }
     Ok(())
 }
@@ -196,12 +201,13 @@ fn push_domain_lines(
 fn push_key_lines(
     out: &mut Vec<u8>,
     domain: &TrustDomain,
-    keys: &[KeyEntry],
+    keys: &DomainEntries<'_>,
+    entries: &[KeyEntry],
 ) -> Result<(), AllocError>
     ensures { OnOk result (out.new.items
-        ≡ out.old.items ++ flat_map (known_key_line domain.now keys.now) keys.now) }
+        ≡ out.old.items ++ flat_map (known_key_line domain.now keys.now) entries.now) }
 {
-    for entry in keys {
+    for entry in entries {
         push_key_line(out, domain, keys, entry)?;
     }
     Ok(())
@@ -210,7 +216,7 @@ fn push_key_lines(
 fn push_key_line(
     out: &mut Vec<u8>,
     domain: &TrustDomain,
-    keys: &[KeyEntry],
+    keys: &DomainEntries<'_>,
     entry: &KeyEntry,
 ) -> Result<(), AllocError>
     ensures { OnOk result (out.new.items
@@ -220,7 +226,7 @@ fn push_key_line(
     push_labelled(out, b" domain ", domain.as_str().as_bytes())?;
     push_parts(out, &entry.parts)?;
     push_yes_or_no(out, b" distrusted ", entry.is_distrusted)?;
-    push_yes_or_no(out, b" same-public-key ", has_distrusted_key(keys, entry))?;
+    push_yes_or_no(out, b" same-public-key ", keys.has_distrusted_key(entry))?;
     push_bundles(out, entry.bundles.as_slice())?;
     push_closing(out, b"\n")?;
     Ok(())
@@ -357,7 +363,8 @@ fn push_domain_jsons(
         ≡ texts.old.items ++ domain_jsons (option_copied chosen.entry) keys.now) }
 {
     if !is_of_other(chosen, &keys.domain) {
-        push_key_jsons(alloc, texts, &keys.domain, keys.keys.as_slice())?;
+        let entries = DomainEntries::new(alloc, keys.keys.as_slice())?;
+        push_key_jsons(alloc, texts, &keys.domain, &entries, keys.keys.as_slice())?;
     }
     Ok(())
 }
@@ -366,12 +373,13 @@ fn push_key_jsons(
     alloc: Global,
     texts: &mut Vec<TextLine>,
     domain: &TrustDomain,
-    keys: &[KeyEntry],
+    keys: &DomainEntries<'_>,
+    entries: &[KeyEntry],
 ) -> Result<(), AllocError>
     ensures { OnOk result (texts.new.items
-        ≡ texts.old.items ++ map (known_key_json domain.now keys.now) keys.now) }
+        ≡ texts.old.items ++ map (known_key_json domain.now keys.now) entries.now) }
 {
-    for entry in keys {
+    for entry in entries {
         texts.push(known_key_json(alloc, domain, keys, entry)?)?;
     }
     Ok(())
@@ -380,7 +388,7 @@ fn push_key_jsons(
 fn known_key_json(
     alloc: Global,
     domain: &TrustDomain,
-    keys: &[KeyEntry],
+    keys: &DomainEntries<'_>,
     entry: &KeyEntry,
 ) -> Result<TextLine, AllocError>
     ensures { IfOk result (λ text. text ≡ known_key_json domain.now keys.now entry.now) }
@@ -393,7 +401,7 @@ fn known_key_json(
     push_truth(
         &mut text,
         b",\"same_public_key\":",
-        has_distrusted_key(keys, entry),
+        keys.has_distrusted_key(entry),
     )?;
     push_bundles_json(alloc, &mut text, entry.bundles.as_slice())?;
     push_closing(&mut text, b"}")?;

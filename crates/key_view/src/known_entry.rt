@@ -1,19 +1,18 @@
 //! What is known of a key.
-ghost use Rattle.std.specs.Prelude.{◌≡◌, IfOk};
-ghost use Rattle.std.specs.List.{list_any};
-ghost use Rattle.key_view.specs.KeyEntries.{DomainView, IsKeyEntry, IsKeyParts, bundle_ids};
-ghost use Rattle.key_view.specs.KeyEntries.{bundle_lists, has_distrusted_key, has_public_key};
-ghost use Rattle.key_view.specs.KeyEntries.{is_one_public_key, is_own_id};
+ghost use Rattle.std.specs.Prelude.{IfOk};
+ghost use Rattle.key_view.specs.KeyEntries.{IsKeyParts};
+ghost use Rattle.key_view.specs.Inside.Listed.{IsListedEntry};
 
-use crate::key_listing::AcceptedBundle;
-use crate::met_keys::{KnownKey, is_one_key};
-use bundle_doc::{DocId, Document};
+use crate::listings::{Listing, listed_ids};
+use crate::met_keys::KnownKey;
+use bundle_doc::DocId;
 use cert_key::read_certificate;
 use closure_core::Closure;
-use jwk_set::{Authority, Certificate, KeyId};
+use jwk_set::{Certificate, KeyId};
 use sha2::{Digest, Sha256};
 use spiffe_name::TrustDomain;
 use std::alloc::{AllocError, Global};
+use std::collections::BTreeMap;
 
 /// What the certificate of a key says ([`cert_key::read_certificate`]).
 #[derive(Clone, Copy, Debug)]
@@ -39,54 +38,21 @@ pub struct KeyEntry {
     pub is_distrusted: bool,
 }
 
-/// Whether the entry, of these of its domain, is a key that is in an accepted document and is not
-/// distrusted, though its certificate has the public key of one that is.
-pub fn has_distrusted_key(entries: &[KeyEntry], entry: &KeyEntry) -> bool
-    ensures { result ≡ has_distrusted_key entries.now entry.now }
-{
-    match &entry.parts {
-        Some(parts) => {
-            !entry.is_distrusted
-                && !entry.bundles.is_empty()
-                && has_public_key(entries, &parts.public_key)
-        }
-        None => false,
-    }
-}
-
-fn has_public_key(entries: &[KeyEntry], wanted: &[u8; 32]) -> bool
-    ensures { result ≡ has_public_key entries.now wanted.now }
-{
-    entries.iter().any(|other| other.is_distrusted && is_one_public_key(&other.parts, wanted))
-}
-
-fn is_one_public_key(parts: &Option<KeyParts>, wanted: &[u8; 32]) -> bool
-    ensures { result ≡ is_one_public_key parts.now wanted.now }
-{
-    match parts {
-        Some(parts) => parts.public_key.as_slice() == wanted.as_slice(),
-        None => false,
-    }
-}
-
-/// What is known of a key that documents of the domain list. The documents are the accepted ones.
+/// What is known of a key that documents of the domain list. The accepted ones of these are listed.
 pub(crate) fn key_entry<C: Closure>(
     alloc: Global,
     closure: &C,
     domain: &TrustDomain,
-    accepted: &[AcceptedBundle<'_>],
+    listings: &BTreeMap<KeyId, Listing>,
     known: &KnownKey,
 ) -> Result<KeyEntry, AllocError>
-    ensures { IfOk result (IsKeyEntry (record {
-      domain = domain.now;
-      accepted = accepted.now;
-      records = (C.state closure.now).meaning.records;
-    }) known.now) }
+    ensures { IfOk result (IsListedEntry domain.now (C.state closure.now).meaning.records
+        listings.now known.now) }
 {
     Ok(KeyEntry {
         key: known.key,
         parts: key_parts(&known.der),
-        bundles: bundle_ids(alloc, domain, accepted, &known.key)?,
+        bundles: listed_ids(alloc, listings, &known.key)?,
         is_distrusted: closure.is_distrusted(domain, known.key),
     })
 }
@@ -101,46 +67,5 @@ fn key_parts(der: &Certificate) -> Option<KeyParts>
             not_after: parts.not_after,
         }),
         None => None,
-    }
-}
-
-// The ids of the documents that list the key.
-fn bundle_ids(
-    alloc: Global,
-    domain: &TrustDomain,
-    accepted: &[AcceptedBundle<'_>],
-    key: &KeyId,
-) -> Result<Vec<DocId>, AllocError>
-    ensures { IfOk result (λ ids. ids.items ≡ bundle_ids domain.now key.now accepted.now) }
-{
-    let mut ids = Vec::new(alloc);
-    for bundle in accepted {
-        if bundle_lists(bundle.document, key) {
-            ids.push(bundle.document.id(domain))?;
-        }
-    }
-    Ok(ids)
-}
-
-fn bundle_lists(document: &Document, key: &KeyId) -> bool
-    ensures { result ≡ bundle_lists key.now document.now }
-{
-    any_has_id(document.authorities(), key)
-}
-
-fn any_has_id(authorities: &[Authority], key: &KeyId) -> bool
-    ensures { result ≡ list_any (is_own_id key.now) authorities.now }
-{
-    authorities
-        .iter()
-        .any(|authority| is_own_id(authority, key))
-}
-
-fn is_own_id(authority: &Authority, key: &KeyId) -> bool
-    ensures { result ≡ is_own_id key.now authority.now }
-{
-    match authority.key_id() {
-        Some(own) => is_one_key(&own, key),
-        None => false,
     }
 }

@@ -1,9 +1,8 @@
 //! The different keys of a domain's documents, in the order in which they are met.
 ghost use Rattle.std.specs.Prelude.{◌≡◌, IfOk, OnOk};
-ghost use Rattle.std.specs.List.{list_any};
-ghost use Rattle.key_view.specs.KnownKeys.{is_one_key, keys_of_documents, known_keys, with_der};
-ghost use Rattle.key_view.specs.KnownKeys.{with_authorities, with_listed, with_keys_of_receipt};
-ghost use Rattle.key_view.specs.KnownKeys.{knows};
+ghost use Rattle.key_view.specs.KnownKeys.{keys_of_documents, known_keys, with_authorities};
+ghost use Rattle.key_view.specs.KnownKeys.{with_der, with_keys_of_receipt, with_listed};
+ghost use Rattle.key_view.specs.Inside.MetIds.{HasIds};
 
 use crate::key_listing::AcceptedBundle;
 use closure_core::Closure;
@@ -12,12 +11,20 @@ use receipt_core::Receipt;
 use sha2::{Digest, Sha256};
 use spiffe_name::TrustDomain;
 use std::alloc::{AllocError, Global};
+use std::collections::BTreeSet;
 
 /// A key, and the certificate whose id it is.
 #[derive(Debug, Drop)]
 pub(crate) struct KnownKey {
     pub(crate) key: KeyId,
     pub(crate) der: Certificate,
+}
+
+/// The keys that were met, and their ids, in which one is looked up.
+#[derive(Debug, Drop)]
+pub(crate) struct MetKeys {
+    pub(crate) keys: Vec<KnownKey>,
+    pub(crate) ids: BTreeSet<KeyId>,
 }
 
 /// The keys of these accepted documents, and then those of the domain's documents that are held.
@@ -30,80 +37,78 @@ pub(crate) fn known_keys<C: Closure>(
     ensures { IfOk result (λ keys. keys.items
         ≡ known_keys (C.state closure.now).meaning.held domain.now accepted.now) }
 {
-    let mut keys = keys_of_documents(alloc, accepted)?;
+    let mut met = keys_of_documents(alloc, accepted)?;
     for receipt in closure.receipts() {
-        push_receipt_keys(&mut keys, domain, receipt)?;
+        push_receipt_keys(&mut met, domain, receipt)?;
     }
-    Ok(keys)
+    Ok(met.keys)
 }
 
-fn keys_of_documents(
-    alloc: Global,
-    accepted: &[AcceptedBundle<'_>],
-) -> Result<Vec<KnownKey>, AllocError>
-    ensures { IfOk result (λ keys. keys.items ≡ keys_of_documents accepted.now) }
+fn keys_of_documents(alloc: Global, accepted: &[AcceptedBundle<'_>]) -> Result<MetKeys, AllocError>
+    ensures keys { IfOk result (λ met. met.keys.items ≡ keys_of_documents accepted.now) }
+    ensures ids { IfOk result HasIds }
 {
-    let mut keys = Vec::new(alloc);
+    let mut met = MetKeys {
+        keys: Vec::new(alloc),
+        ids: BTreeSet::new(alloc),
+    };
     for bundle in accepted {
-        push_authorities(&mut keys, bundle.document.authorities())?;
+        push_authorities(&mut met, bundle.document.authorities())?;
     }
-    Ok(keys)
+    Ok(met)
 }
 
 fn push_receipt_keys(
-    keys: &mut Vec<KnownKey>,
+    met: &mut MetKeys,
     domain: &TrustDomain,
     receipt: &Receipt,
 ) -> Result<(), AllocError>
-    ensures { OnOk result (keys.new.items ≡ with_keys_of_receipt domain.now keys.old.items
-        receipt.now) }
+    requires { HasIds met.old }
+    ensures keys { OnOk result (met.new.keys.items ≡ with_keys_of_receipt domain.now
+        met.old.keys.items receipt.now) }
+    ensures ids { OnOk result (HasIds met.new) }
 {
     if receipt.domain().as_str() == domain.as_str() {
-        push_authorities(keys, receipt.document().authorities())?;
+        push_authorities(met, receipt.document().authorities())?;
     }
     Ok(())
 }
 
-fn push_authorities(keys: &mut Vec<KnownKey>, authorities: &[Authority]) -> Result<(), AllocError>
-    ensures { OnOk result (keys.new.items ≡ with_authorities keys.old.items authorities.now) }
+fn push_authorities(met: &mut MetKeys, authorities: &[Authority]) -> Result<(), AllocError>
+    requires { HasIds met.old }
+    ensures keys { OnOk result (met.new.keys.items
+        ≡ with_authorities met.old.keys.items authorities.now) }
+    ensures ids { OnOk result (HasIds met.new) }
 {
     for authority in authorities {
-        push_listed(keys, authority)?;
+        push_listed(met, authority)?;
     }
     Ok(())
 }
 
-fn push_listed(keys: &mut Vec<KnownKey>, authority: &Authority) -> Result<(), AllocError>
-    ensures { OnOk result (keys.new.items ≡ with_listed keys.old.items authority.now) }
+fn push_listed(met: &mut MetKeys, authority: &Authority) -> Result<(), AllocError>
+    requires { HasIds met.old }
+    ensures keys { OnOk result (met.new.keys.items
+        ≡ with_listed met.old.keys.items authority.now) }
+    ensures ids { OnOk result (HasIds met.new) }
 {
     match authority {
-        Authority::X509 { der, .. } => push_certificate(keys, der),
+        Authority::X509 { der, .. } => push_certificate(met, der),
         Authority::Jwt { .. } => Ok(()),
     }
 }
 
-fn push_certificate(keys: &mut Vec<KnownKey>, der: &Certificate) -> Result<(), AllocError>
-    ensures { OnOk result (keys.new.items ≡ with_der keys.old.items der.now) }
+fn push_certificate(met: &mut MetKeys, der: &Certificate) -> Result<(), AllocError>
+    requires { HasIds met.old }
+    ensures keys { OnOk result (met.new.keys.items ≡ with_der met.old.keys.items der.now) }
+    ensures ids { OnOk result (HasIds met.new) }
 {
     let key = KeyId(Sha256::digest(der.as_bytes()));
-    if !knows(keys.as_slice(), &key) {
-        keys.push(KnownKey {
+    if met.ids.insert(key)? {
+        met.keys.push(KnownKey {
             key,
             der: der.try_clone()?,
         })?;
     }
     Ok(())
-}
-
-fn knows(keys: &[KnownKey], wanted: &KeyId) -> bool
-    ensures { result ≡ knows keys.now wanted.now }
-{
-    keys.iter().any(|own| is_one_key(&own.key, wanted))
-}
-
-/// Whether these are one key.
-pub(crate) fn is_one_key(one: &KeyId, other: &KeyId) -> bool
-    ensures { result ≡ is_one_key one.now other.now }
-{
-    one.0.as_slice() == other.0.as_slice()
 }

@@ -7,4 +7,5 @@ pub mod Journalling
 pub mod ChangeEvents
 pub mod RequestRun
 pub mod Looking
+pub mod PageAnswers
 pub mod Inside

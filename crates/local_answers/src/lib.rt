@@ -7,7 +7,9 @@
 //! `changing_calls` and `changing_replies` those that change it, the first what the words say, and
 //! the second what is replied. `looking` answers at a socket at which nothing can be changed. A
 //! change is journalled by `new_lines`. `reply` is what is sent back,
-//! and `reply_sending` says when. `call_words` is for clients.
+//! and `reply_sending` says when. `call_words` is for clients. `page_answers` has the pages of the
+//! address for health and metrics, with what `page_source` has beside what is held, and `readiness`
+//! says whether a peer is heard.
 #![tactic(auto)]
 
 mod asked;
@@ -18,6 +20,9 @@ mod changing_replies;
 pub mod laws;
 mod looking;
 mod new_lines;
+mod page_answers;
+mod page_source;
+mod readiness;
 mod reply;
 mod reply_sending;
 mod request_fault;
@@ -27,6 +32,8 @@ mod shown_calls;
 pub use call_words::request_words;
 pub use carrying_out::answer_request;
 pub use looking::answer_look;
+pub use page_answers::answer_page;
+pub use page_source::{PageLimits, PageSource};
 pub use reply::Reply;
 pub use reply_sending::Sending;
 pub use request_fault::RequestFault;

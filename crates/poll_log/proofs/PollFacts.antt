@@ -1,6 +1,6 @@
 -- What one more poll changes in a log, and how a log is searched
 use Rattle.std.proofs.Common.{◌≡◌, not, append-nil, ap₂, ℕ, zero, suc, ◌+◌, ◌<◌, ◌≤◌, min, inl, inr, ⊎_elim, ℤ, Bool}
-use Rattle.std.proofs.Common.{true, false, cond, if◌then◌else◌, List, [], ◌∷◌, ◌++◌, map, reverse, length, get_or, set}
+use Rattle.std.proofs.Common.{true, false, cond, if◌then◌else◌, List, [], ◌∷◌, ◌++◌, map, filter, reverse, length, get_or, set}
 use Rattle.std.proofs.Common.{Option, Some, None, Result, Ok, Err, Less, Equal, Greater, refl, sym, ap, ◌∙◌, subst}
 use Rattle.std.proofs.Common.{arith}
 use Rattle.std.specs.Ordering.{nat_cmp, ordering_reverse, ordering_index, is_lt}
@@ -22,7 +22,8 @@ use Rattle.std.proofs.lemmas.Slice.Eq.{bytes_eq-Decides}
 use Rattle.spiffe_name.specs.TrustDomain.{IsDomainText}
 use Rattle.fed_config.specs.Configuration.{Configuration, IsConfiguration, IsRelationship, domain_cmp, relationship_cmp}
 use Rattle.fed_config.specs.declared.relationship.Relationship.{Relationship}
-use Rattle.poll_log.specs.Polling.{Poll, is_of_domain, has_failed, polls_of, first_moment, PollStatus, standing_of}
+use Rattle.poll_log.specs.Polling.{Poll, is_of_domain, has_failed, has_succeeded, polls_of, first_moment, last_moment}
+use Rattle.poll_log.specs.Polling.{PollStatus, standing_of}
 use Rattle.poll_log.specs.Polling.{log_of, polled_domains, IsLog, RecordsPoll, standing_in, IsNextAfter, IsNext}
 use Rattle.poll_log.specs.Polling.{IsDueAfter, IsPollDue}
 use Rattle.poll_log.specs.Inside.Statuses.{AreNames, after, kept_status, IsIn, IsPlaceOf}
@@ -57,23 +58,42 @@ counted : (n : ℕ) (ok : Bool) → min 12 (cond (not ok) (1 + n) 0) ≡ (if ok 
 counted n true = refl
 counted n false = omega arith
 
+-- the moment of the last poll is that of one more, where it counts, and else what it was
+last_moment-more : (polls : List Poll) (p : Poll) (counts : Bool)
+    → last_moment (polls ++ cond counts (p ∷ []) []) ≡ (if counts then Some p.moment else last_moment polls)
+last_moment-more polls p true = ap first_moment (reverse-append polls (p ∷ []))
+last_moment-more polls p false = ap last_moment (append-nil polls)
+
+-- one more poll is the last success where it succeeded
+last_success-more : (polls : List Poll) (p : Poll)
+    → last_moment (filter has_succeeded (polls ++ p ∷ [])) ≡ (if p.ok then Some p.moment else last_moment (filter has_succeeded polls))
+last_success-more polls p = ap last_moment (filter-append has_succeeded polls (p ∷ [])) ∙ last_moment-more (filter has_succeeded polls) p p.ok
+
 -- what one more poll changes in what is kept of its domain
 standing_of-same : (polls : List Poll) (p : Poll) → standing_of (polls ++ p ∷ []) p.domain ≡ after (standing_of polls p.domain) p.moment p.ok
 standing_of-same polls p =
     let qs : List Poll = polls_of p.domain polls in
     let more : polls_of p.domain (polls ++ p ∷ []) ≡ qs ++ p ∷ [] = polls_of-more p.domain polls p true (same_bytes p.domain) in
     let turned : reverse (polls_of p.domain (polls ++ p ∷ [])) ≡ p ∷ reverse qs = ap reverse more ∙ reverse-append qs (p ∷ []) in
-    let last : first_moment (reverse (polls_of p.domain (polls ++ p ∷ []))) ≡ Some p.moment = ap first_moment turned in
+    let last : last_moment (polls_of p.domain (polls ++ p ∷ [])) ≡ Some p.moment = ap first_moment turned in
+    let succeeded : last_moment (filter has_succeeded (polls_of p.domain (polls ++ p ∷ [])))
+    ≡ (if p.ok then Some p.moment else last_moment (filter has_succeeded qs)) =
+    ap (λ l. last_moment (filter has_succeeded l)) more ∙ last_success-more qs p in
     let failures : min 12 (suffix_len has_failed (polls_of p.domain (polls ++ p ∷ []))) ≡ (if p.ok then 0 else min (min 12 (suffix_len has_failed qs)) 11 + 1) =
     ap (λ l. min 12 (prefix_len has_failed l)) turned ∙ counted (prefix_len has_failed (reverse qs)) p.ok in
-    λ i. record { domain = p.domain; last = last i; failures = failures i }
+    λ i. record { domain = p.domain; last = last i; succeeded = succeeded i; failures = failures i }
 
 -- what is kept of another domain stays
 standing_of-other : (polls : List Poll) (p : Poll) (domain : List ℕ) → (p.domain ≡ domain → ⊥) → standing_of (polls ++ p ∷ []) domain ≡ standing_of polls domain
 standing_of-other polls p domain differ =
     let more : polls_of domain (polls ++ p ∷ []) ≡ polls_of domain polls =
     polls_of-more domain polls p false (other_bytes p.domain domain differ) ∙ append-nil (polls_of domain polls) in
-    λ i. record { domain = domain; last = first_moment (reverse (more i)); failures = min 12 (suffix_len has_failed (more i)) }
+    λ i. record {
+      domain = domain;
+      last = last_moment (more i);
+      succeeded = last_moment (filter has_succeeded (more i));
+      failures = min 12 (suffix_len has_failed (more i));
+    }
 
 -- ---- a log
 

@@ -40,10 +40,10 @@ twelve_failures = refl
 thirteen_failures : wait_of (Some 86400) 13 ≡ 61440
 thirteen_failures = refl
 
--- ---- statuses: the last poll of the domain counts, and the failures since its last success
+-- ---- statuses: the last poll of the domain counts, its last success, and the failures since
 
 -- two failures in a row count, whatever comes before and of other domains; the last poll's moment
--- is kept, also where it is not the latest
+-- is kept, also where it is not the latest, and that of the success before it
 two_failures : standing_of (record { domain = codes "a"; moment = pos 9; ok = true } ∷ record {
   domain = codes "a";
   moment = pos 7;
@@ -54,7 +54,7 @@ two_failures : standing_of (record { domain = codes "a"; moment = pos 9; ok = tr
   moment = pos 5;
   ok = false;
 } ∷ []) (codes "a")
-    ≡ record { domain = codes "a"; last = Some (pos 5); failures = 2 }
+    ≡ record { domain = codes "a"; last = Some (pos 5); succeeded = Some (pos 9); failures = 2 }
 two_failures = refl
 
 -- a success ends the count of failures
@@ -63,9 +63,23 @@ then_ok : standing_of (record { domain = codes "a"; moment = pos 7; ok = false }
   moment =
       pos 9;
   ok = true;
-} ∷ []) (codes "a") ≡ record { domain = codes "a"; last = Some (pos 9); failures = 0 }
+} ∷ []) (codes "a") ≡ record { domain = codes "a"; last = Some (pos 9); succeeded = Some (pos 9); failures = 0 }
 then_ok = refl
 
+-- the last success counts, also where an earlier one has a later moment
+back_in_time : standing_of (record { domain = codes "a"; moment = pos 9; ok = true } ∷ record {
+  domain = codes "a";
+  moment =
+      pos 7;
+  ok = true;
+} ∷ []) (codes "a") ≡ record { domain = codes "a"; last = Some (pos 7); succeeded = Some (pos 7); failures = 0 }
+back_in_time = refl
+
+-- where every poll failed there is no success
+only_failures : standing_of (record { domain = codes "a"; moment = pos 7; ok = false } ∷ []) (codes "a")
+    ≡ record { domain = codes "a"; last = Some (pos 7); succeeded = None; failures = 1 }
+only_failures = refl
+
 -- of a domain that was never polled there is no moment and no failure
-never : standing_of [] (codes "a") ≡ record { domain = codes "a"; last = None; failures = 0 }
+never : standing_of [] (codes "a") ≡ record { domain = codes "a"; last = None; succeeded = None; failures = 0 }
 never = refl

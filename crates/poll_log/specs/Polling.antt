@@ -2,6 +2,7 @@
 use Rattle.std.specs.Prelude.{◌≡◌, ℕ, zero, suc, ◌*◌, ◌^◌, min, max, ℤ, pos, ◌+ℤ◌, ◌≤ℤ◌, ⊤, Bool}
 use Rattle.std.specs.Prelude.{not, List, ◌∷◌, [], ◌++◌, map, filter, reverse, find, bytes_eq}
 use Rattle.std.specs.Prelude.{Contains, Option, Some, None, Result, MatchResult, Ok, Err}
+use Rattle.std.specs.Prelude.{option_and_then}
 use Rattle.std.specs.List.{suffix_len}
 use Rattle.std.specs.List.Sorted.{IsStrictlySortedBy}
 use Rattle.jiff.specs.Words.{IsTimestampNanos}
@@ -40,6 +41,9 @@ is_of_domain domain p = bytes_eq p.domain domain
 abbrev pub has_failed : Poll → Bool
 has_failed p = not p.ok
 
+abbrev pub has_succeeded : Poll → Bool
+has_succeeded p = p.ok
+
 abbrev pub polls_of : List ℕ → List Poll → List Poll
 polls_of domain polls = filter (is_of_domain domain) polls
 
@@ -48,20 +52,25 @@ abbrev pub first_moment : List Poll → Option ℤ
 first_moment [] = None
 first_moment (p ∷ others) = Some p.moment
 
+abbrev pub last_moment : List Poll → Option ℤ
+last_moment polls = first_moment (reverse polls)
+
 -- ---- a log
 
 -- what is kept of a domain's polls
 pub record PollStatus : Type 0 where
   pub domain : List ℕ
   pub last : Option ℤ
+  pub succeeded : Option ℤ
   pub failures : ℕ
 
--- the moment of the last one, if there was any, and how many failed in a row up to it, counted to
--- twelve
+-- the moment of the last one, if there was any, that of the last one that succeeded, if any did,
+-- and how many failed in a row up to the last one, counted to twelve
 abbrev pub standing_of : List Poll → List ℕ → PollStatus
 standing_of polls domain = record {
   domain = domain;
-  last = first_moment (reverse (polls_of domain polls));
+  last = last_moment (polls_of domain polls);
+  succeeded = last_moment (filter has_succeeded (polls_of domain polls));
   failures = min 12 (suffix_len has_failed (polls_of domain polls));
 }
 
@@ -95,11 +104,20 @@ Records old p new (Ok _) = Contains (polled_domains old) p.domain × RecordsPoll
 Records old p new (Err e) = (e ≡ NoRelationship) × (Contains (polled_domains old) p.domain → ⊥)
     × (new ≡ old)
 
--- ---- the next poll
+-- ---- what is kept of one domain
 
 -- what is kept for the domain, if it is polled
 abbrev pub standing_in : List PollStatus → List ℕ → Option PollStatus
 standing_in log domain = find (λ s. bytes_eq s.domain domain) log
+
+-- when a poll of the domain succeeded last, if it is polled and one did
+abbrev pub success_in : List PollStatus → List ℕ → Option ℤ
+success_in log domain = option_and_then (λ s. s.succeeded) (standing_in log domain)
+
+abbrev pub nanos_of : Timestamp → ℤ
+nanos_of t = t.nanosecond
+
+-- ---- the next poll
 
 -- the last moment and then the wait, in nanoseconds since the Unix epoch
 abbrev pub next_nanos : Option ℕ → ℕ → ℤ → ℤ

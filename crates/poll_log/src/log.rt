@@ -1,9 +1,10 @@
 //! What a replica keeps of its polls.
 ghost use Rattle.std.specs.Prelude.{◌≡◌, ◌<◌, ◌↔◌, [], ℕ, List, map, length, Some, IsTrue};
-ghost use Rattle.std.specs.Prelude.{MatchResult, slice_get};
+ghost use Rattle.std.specs.Prelude.{MatchResult, option_copied, slice_get};
+ghost use Rattle.std.specs.Option.{option_map};
 ghost use Rattle.fed_config.specs.Configuration.{IsConfiguration};
 ghost use Rattle.poll_log.specs.Polling.{RecordsPoll, IsPollDue, IsNext, Records, polled_domains};
-ghost use Rattle.poll_log.specs.Polling.{log_of, polled, standing_in};
+ghost use Rattle.poll_log.specs.Polling.{log_of, nanos_of, polled, standing_in, success_in};
 ghost use Rattle.poll_log.specs.Inside.Statuses.{AreNames, IsPlaceOf, after, kept_status};
 
 use crate::error::PollError;
@@ -15,8 +16,8 @@ use std::alloc::{AllocError, Global};
 use std::marker::Model;
 use std::time::Duration;
 
-/// When each trust domain with a relationship was polled last, and how many polls in a row failed
-/// since.
+/// When each trust domain with a relationship was polled last, when a poll of it succeeded last,
+/// and how many polls in a row failed up to the last one.
 ///
 /// No clock is read: moments are handed in, and may go back. The last poll recorded counts.
 #[derive(Debug, Drop)]
@@ -91,8 +92,8 @@ impl PollLog {
     ) -> Result<Option<Timestamp>, PollError>
         ensures { IsNext hint (standing_in self.now domain.now) result }
     {
-        match self.place_of(domain.as_str().as_bytes()) {
-            Some(place) => self.statuses[place].next_poll(hint),
+        match self.status_of(domain) {
+            Some(status) => status.next_poll(hint),
             None => Err(PollError::NoRelationship),
         }
     }
@@ -107,6 +108,28 @@ impl PollLog {
             Ok(Some(next)) => next <= now,
             Ok(None) => true,
             Err(_) => false,
+        }
+    }
+
+    /// When a poll of the domain succeeded last. `None` if none did, and if there is no
+    /// relationship with the domain. It takes no memory.
+    pub fn succeeded(&self, domain: &TrustDomain) -> Option<Timestamp>
+        ensures { option_map nanos_of result ≡ success_in self.now domain.now }
+    {
+        match self.status_of(domain) {
+            Some(status) => status.succeeded,
+            None => None,
+        }
+    }
+
+    /// What the log keeps of the domain, if there is a relationship with it.
+    fn status_of(&self, domain: &TrustDomain) -> Option<&PollStatus>
+        ensures { option_map kept_status (option_copied result)
+            ≡ standing_in self.now domain.now }
+    {
+        match self.place_of(domain.as_str().as_bytes()) {
+            Some(place) => Some(&self.statuses[place]),
+            None => None,
         }
     }
 
@@ -136,6 +159,7 @@ impl PollLog {
 struct PollStatus {
     domain: TrustDomain,
     last: Option<Timestamp>,
+    succeeded: Option<Timestamp>,
     failures: u32,
 }
 
@@ -146,11 +170,12 @@ impl PollStatus {
         ensures { kept_status self.new ≡ after (kept_status self.old) moment.nanosecond ok }
     {
         self.last = Some(moment);
-        self.failures = if ok {
-            0
+        if ok {
+            self.succeeded = Some(moment);
+            self.failures = 0;
         } else {
-            self.failures.min(MOST_FAILURES - 1) + 1
-        };
+            self.failures = self.failures.min(MOST_FAILURES - 1) + 1;
+        }
     }
 
     fn next_poll(&self, hint: Option<u64>) -> Result<Option<Timestamp>, PollError>
@@ -181,6 +206,7 @@ fn never_polled(
         statuses.push(PollStatus {
             domain: relationship.domain.try_clone(alloc)?,
             last: None,
+            succeeded: None,
             failures: 0,
         })?;
     }

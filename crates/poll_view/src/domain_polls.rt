@@ -72,7 +72,9 @@ fn domain_poll<C: Closure>(
     })
 }
 
-fn current_hint<C: Closure>(closure: &C, domain: &TrustDomain) -> Option<u64>
+/// The refresh hint of the domain's current document (SPIFFE Trust Domain and Bundle, section
+/// 4.1.2). `None` if the document has none, and without a current document.
+pub fn current_hint<C: Closure>(closure: &C, domain: &TrustDomain) -> Option<u64>
     ensures { IsHint (C.state closure.now).meaning domain.now result }
 {
     match current(closure, domain) {

@@ -5,5 +5,5 @@
 mod domain_polls;
 mod polls_writer;
 
-pub use domain_polls::{DomainPoll, NextPoll, next_polls};
+pub use domain_polls::{DomainPoll, NextPoll, current_hint, next_polls};
 pub use polls_writer::{PollsForm, polls_text};

@@ -15,18 +15,21 @@ use std::io;
 use std::net::SocketAddr;
 use std::time::{Clock, Duration, Instant};
 
-/// The most connections at once: those of this machine, those on which other replicas ask, one with
-/// each peer, and some on which is only replied that there are too many.
-const MOST_CONNECTIONS: usize = 144;
+/// The most connections at once: those of this machine, those on which pages are asked for, those on
+/// which other replicas ask, one with each peer, and some on which is only replied that there are too
+/// many.
+const MOST_CONNECTIONS: usize = 160;
 
 const MOST_LOCAL: usize = 64;
+
+const MOST_PAGES: usize = 16;
 
 const MOST_SERVED: usize = 48;
 
 const MOST_PULLS: usize = 16;
 
 /// The number of the first connection; those below it are of the listeners.
-const FIRST_SERIAL: usize = 3;
+const FIRST_SERIAL: usize = 4;
 
 /// For how long one turn carries out work of one kind, beyond what it began.
 const MILLIS_A_TURN: u64 = 4;
@@ -40,6 +43,9 @@ enum Group {
     Local,
     /// Those of this machine whose request has not come whole, though all that came was read.
     Awaited,
+    Pages,
+    /// Those of pages whose head has not come whole, though all that came was read.
+    AwaitedPages,
     Pulls,
 }
 
@@ -72,6 +78,7 @@ impl ConnectionTable {
         match talk {
             Talk::Served(_) => self.has_room() && self.count(Group::Served) < MOST_SERVED,
             Talk::Local(_) => self.has_room(),
+            Talk::Page(_) => self.has_room() && self.count(Group::Pages) < MOST_PAGES,
             Talk::Pull(_) => self.has_pull_room(),
         }
     }
@@ -97,10 +104,24 @@ impl ConnectionTable {
             return;
         }
         if let Some(serial) = self.first_to_go(Group::Served, now) {
-            for conn in &mut self.connections {
-                if conn.serial == serial {
-                    conn.ending = Some(Ending::GaveWay);
-                }
+            self.end_to_give_way(serial);
+        }
+    }
+
+    /// Where as many pages are asked for as may be, a request gives way that has not come whole.
+    pub(crate) fn make_page_room(&mut self, now: Instant) {
+        if self.count(Group::Pages) < MOST_PAGES {
+            return;
+        }
+        if let Some(serial) = self.first_to_go(Group::AwaitedPages, now) {
+            self.end_to_give_way(serial);
+        }
+    }
+
+    fn end_to_give_way(&mut self, serial: usize) {
+        for conn in &mut self.connections {
+            if conn.serial == serial {
+                conn.ending = Some(Ending::GaveWay);
             }
         }
     }
@@ -291,6 +312,24 @@ impl ConnectionTable {
         self.connections.retain(|conn| conn.ending.is_none());
     }
 
+    /// How many bytes came on the connections that there are.
+    pub(crate) fn received_bytes(&self) -> u64 {
+        let mut bytes: u64 = 0;
+        for conn in &self.connections {
+            bytes = bytes.saturating_add(conn.received_bytes());
+        }
+        bytes
+    }
+
+    /// How many bytes were sent on them.
+    pub(crate) fn sent_bytes(&self) -> u64 {
+        let mut bytes: u64 = 0;
+        for conn in &self.connections {
+            bytes = bytes.saturating_add(conn.sent_bytes());
+        }
+        bytes
+    }
+
     pub(crate) fn all(&self) -> &[LiveConnection] {
         self.connections.as_slice()
     }
@@ -307,6 +346,8 @@ fn is_of(conn: &LiveConnection, group: Group) -> bool {
     match (&conn.talk, group) {
         (_, Group::All) => true,
         (Talk::Served(_), Group::Served) | (Talk::Pull(_), Group::Pulls) => true,
+        (Talk::Page(_), Group::Pages) => true,
+        (Talk::Page(talk), Group::AwaitedPages) => talk.wants_bytes() && !conn.may_have_come(),
         (Talk::Local(talk), Group::Local) => talk.takes_place(),
         (Talk::Local(talk), Group::Awaited) => talk.wants_bytes() && !conn.may_have_come(),
         _ => false,
@@ -345,9 +386,9 @@ fn has_change(conn: &LiveConnection) -> bool {
 
 fn has_reply(conn: &LiveConnection) -> bool {
     match &conn.talk {
-        Talk::Local(talk) => {
-            conn.ending.is_none() && (talk.work().is_some() || !talk.output().is_empty())
+        Talk::Local(_) | Talk::Page(_) => {
+            conn.ending.is_none() && (conn.talk.work().is_some() || !conn.talk.output().is_empty())
         }
-        _ => false,
+        Talk::Served(_) | Talk::Pull(_) => false,
     }
 }

@@ -20,6 +20,8 @@ pub(crate) enum LogEvent {
     Serve(Option<SocketAddr>, Duration, Ending),
     /// A connection of this machine has ended.
     Local(Duration, Ending),
+    /// A connection on which a page was asked for has ended.
+    Page(Option<SocketAddr>, Duration, Ending),
     /// There was no room for a connection, or one gave way to it.
     Refuse,
     /// A connection that came could not be taken.
@@ -59,6 +61,7 @@ impl LogEvent {
         match (self, other) {
             (LogEvent::Serve(_, _, one), LogEvent::Serve(_, _, two)) => have_one_code(*one, *two),
             (LogEvent::Local(_, one), LogEvent::Local(_, two)) => have_one_code(*one, *two),
+            (LogEvent::Page(_, _, one), LogEvent::Page(_, _, two)) => have_one_code(*one, *two),
             (LogEvent::Refuse, LogEvent::Refuse) => true,
             (LogEvent::Accept, LogEvent::Accept) => true,
             (LogEvent::Poll, LogEvent::Poll) => true,
@@ -96,6 +99,14 @@ impl Display for LogEvent {
             }
             LogEvent::Local(time, ending) => {
                 write!(f, "event=local seconds={}", Seconds(*time))?;
+                Outcome(*ending).fmt(f)
+            }
+            LogEvent::Page(Some(peer), time, ending) => {
+                write!(f, "event=health peer={peer} seconds={}", Seconds(*time))?;
+                Outcome(*ending).fmt(f)
+            }
+            LogEvent::Page(None, time, ending) => {
+                write!(f, "event=health seconds={}", Seconds(*time))?;
                 Outcome(*ending).fmt(f)
             }
             LogEvent::Refuse => f.write_str("event=refuse"),

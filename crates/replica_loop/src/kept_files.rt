@@ -19,6 +19,8 @@ pub(crate) struct KeptFiles {
     // Whether a fault came while the journal was emptied: the state file has all that is held, and
     // no line may be appended before a journal is begun anew.
     is_unsettled: bool,
+    // How often the snapshot was written anew.
+    folds: u64,
 }
 
 impl KeptFiles {
@@ -27,7 +29,13 @@ impl KeptFiles {
             lock,
             journal,
             is_unsettled: false,
+            folds: 0,
         }
+    }
+
+    /// How often the snapshot was written anew.
+    pub(crate) fn folds(&self) -> u64 {
+        self.folds
     }
 
     /// How many bytes the state file has.
@@ -108,7 +116,7 @@ impl KeptFiles {
     ) -> Result<(), FileFault> {
         self.journal = begin_anew(rt, alloc, closure, path)?;
         self.is_unsettled = false;
-        log_event(rt, alloc, LogEvent::Fold(self.snapshot_bytes()));
+        self.note_fold(rt, alloc);
         Ok(())
     }
 
@@ -140,7 +148,7 @@ impl KeptFiles {
         path: &str,
     ) {
         match fold_state(rt, alloc, closure, path, &mut self.journal) {
-            Ok(true) => log_event(rt, alloc, LogEvent::Fold(self.snapshot_bytes())),
+            Ok(true) => self.note_fold(rt, alloc),
             Ok(false) => self.journal.put_off(),
             Err(FoldFault::Kept(fault)) => self.put_off(rt, alloc, fault),
             Err(FoldFault::Emptying(fault)) => {
@@ -148,6 +156,11 @@ impl KeptFiles {
                 log_event(rt, alloc, LogEvent::FoldFault(fault.why));
             }
         }
+    }
+
+    fn note_fold<R: Eprint>(&mut self, rt: &R, alloc: Global) {
+        self.folds = self.folds.saturating_add(1);
+        log_event(rt, alloc, LogEvent::Fold(self.snapshot_bytes()));
     }
 
     fn put_off<R: Eprint>(&mut self, rt: &R, alloc: Global, fault: FileFault) {

@@ -11,7 +11,8 @@
 //! `request_work` says which requests show much, and which may change what is held. `kept_files`
 //! has these files, by the calls of `state_files`. Connections come in at the `listeners`; a
 //! `socket_path` is that of one of them. `connection_table` has them, `live_connection` is one of
-//! them, and what is said on it is a `talk`. `peers` has what `status` shows of the peers.
+//! them, and what is said on it is a `talk`. `peers` has what `status` shows of the peers, and
+//! `turn_counts` what the metrics show of the loop.
 //! `event_log` writes what is reported, and `event_counts` counts what may come often. `client` is
 //! the other side of a local request.
 #![tactic(auto)]
@@ -26,6 +27,7 @@ mod kept_files;
 mod listeners;
 mod live_connection;
 mod local_talk;
+mod page_talk;
 mod peers;
 mod pull_talk;
 mod replica;
@@ -37,6 +39,7 @@ mod socket_path;
 mod step_fault;
 mod talk;
 mod turn;
+mod turn_counts;
 mod unread_bytes;
 
 pub use client::{AskFault, LocalRequest, ask_replica};

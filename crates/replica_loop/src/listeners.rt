@@ -1,5 +1,5 @@
-//! Where connections come in: the sockets of local requests, and the address where other replicas
-//! ask; and the poll, which says what is ready.
+//! Where connections come in: the sockets of local requests, the address where other replicas ask,
+//! and the one where pages are asked for; and the poll, which says what is ready.
 use crate::local_talk::Rights;
 use crate::settings::Settings;
 use crate::socket::Socket;
@@ -23,6 +23,8 @@ pub(crate) const GOSSIP_LISTENER: usize = 1;
 
 pub(crate) const READ_LISTENER: usize = 2;
 
+pub(crate) const HEALTH_LISTENER: usize = 3;
+
 /// The mode of the socket: its owner alone connects.
 const OWNER_ONLY: u32 = 0o600;
 
@@ -33,12 +35,14 @@ const OWNER_AND_GROUP: u32 = 0o660;
 const PAUSE_MILLIS: u64 = 100;
 
 /// A span of time, and how many connections of this machine may come within one, and how many of
-/// other replicas: so few that they do not fill the table before one of them has asked.
+/// other replicas or for pages: so few that they do not fill the table before one of them has asked.
 const SPAN_MILLIS: u64 = 125;
 
 const LOCAL_A_SPAN: u64 = 128;
 
 const GOSSIP_A_SPAN: u64 = 8;
+
+const HEALTH_A_SPAN: u64 = 8;
 
 /// The listeners, and what is known of them.
 #[derive(Drop)]
@@ -46,8 +50,8 @@ pub(crate) struct Listeners {
     pub(crate) poll: Poll,
     local: LocalListener,
     read: Option<LocalListener>,
-    gossip: Option<TcpListener>,
-    at_gossip: Queue,
+    gossip: Option<AddressListener>,
+    health: Option<AddressListener>,
 }
 
 /// A socket of this machine, and who waits there.
@@ -56,6 +60,20 @@ struct LocalListener {
     socket: UnixListener,
     file: FileId,
     queue: Queue,
+}
+
+/// An address, and who waits there.
+#[derive(Drop)]
+struct AddressListener {
+    socket: TcpListener,
+    queue: Queue,
+}
+
+/// How an address is opened.
+#[derive(Clone, Copy)]
+struct AddressGate {
+    token: usize,
+    most_a_span: u64,
 }
 
 /// How a socket of this machine is opened.
@@ -84,6 +102,8 @@ pub(crate) enum Arrival {
     Local(Socket, Rights),
     /// A connection of another replica, with its address.
     Gossip(Socket, SocketAddr),
+    /// A connection on which a page is asked for, with its address.
+    Page(Socket, SocketAddr),
     /// Nobody waits.
     Nobody,
     /// The one who waited has left, or a signal came. Others may wait.
@@ -108,17 +128,27 @@ impl Listeners {
         };
         let local = LocalListener::open(rt, &poll, gate, now)?;
         let read = open_read(rt, &poll, settings.read_socket, now)?;
-        let gossip = match settings.listen {
-            Some(address) => Some(at_step(Step::Listen, open_gossip(rt, &poll, address))?),
-            None => None,
+        let at_gossip = AddressGate {
+            token: GOSSIP_LISTENER,
+            most_a_span: GOSSIP_A_SPAN,
+        };
+        let at_health = AddressGate {
+            token: HEALTH_LISTENER,
+            most_a_span: HEALTH_A_SPAN,
         };
         Ok(Listeners {
-            poll,
             local,
             read,
-            gossip,
-            at_gossip: Queue::new(GOSSIP_A_SPAN, now),
+            gossip: AddressListener::open(rt, &poll, settings.listen, at_gossip, now)?,
+            health: AddressListener::open(rt, &poll, settings.health, at_health, now)?,
+            poll,
         })
+    }
+
+    /// The address where pages are asked for, as the system has chosen it.
+    pub(crate) fn health_address(&self) -> Option<SocketAddr> {
+        let health = self.health.as_ref()?;
+        health.socket.local_addr().ok()
     }
 
     /// Removes the sockets' files, unless their paths name something else by now. One that stays is
@@ -135,7 +165,8 @@ impl Listeners {
         match listener {
             LOCAL_LISTENER => self.local.queue.is_filled = true,
             READ_LISTENER => self.mark_read(),
-            GOSSIP_LISTENER => self.at_gossip.is_filled = true,
+            GOSSIP_LISTENER => mark_filled(&mut self.gossip),
+            HEALTH_LISTENER => mark_filled(&mut self.health),
             _ => {}
         }
     }
@@ -153,7 +184,8 @@ impl Listeners {
             None => None,
         };
         let local = first_of(self.local.queue.time_left(now), read);
-        first_of(local, self.at_gossip.time_left(now))
+        let gossip = time_left_at(&self.gossip, now);
+        first_of(first_of(local, gossip), time_left_at(&self.health, now))
     }
 
     /// The next connection of this machine at the socket with these rights.
@@ -167,20 +199,74 @@ impl Listeners {
 
     /// The next connection of another replica.
     pub(crate) fn accept_gossip(&mut self, now: Instant) -> Arrival {
-        if !self.at_gossip.is_open(now) {
-            return Arrival::Nobody;
+        match accept_at(&mut self.gossip, now) {
+            Ok((socket, peer)) => Arrival::Gossip(socket, peer),
+            Err(nobody) => nobody,
         }
-        let Some(listener) = &self.gossip else {
-            return Arrival::Nobody;
+    }
+
+    /// The next connection on which a page is asked for.
+    pub(crate) fn accept_page(&mut self, now: Instant) -> Arrival {
+        match accept_at(&mut self.health, now) {
+            Ok((socket, peer)) => Arrival::Page(socket, peer),
+            Err(nobody) => nobody,
+        }
+    }
+}
+
+// Who came at the address, or else why nobody did.
+fn accept_at(
+    listener: &mut Option<AddressListener>,
+    now: Instant,
+) -> Result<(Socket, SocketAddr), Arrival> {
+    match listener {
+        Some(listener) => listener.accept(now),
+        None => Err(Arrival::Nobody),
+    }
+}
+
+fn mark_filled(listener: &mut Option<AddressListener>) {
+    if let Some(listener) = listener {
+        listener.queue.is_filled = true;
+    }
+}
+
+fn time_left_at(listener: &Option<AddressListener>, now: Instant) -> Option<Duration> {
+    match listener {
+        Some(listener) => listener.queue.time_left(now),
+        None => None,
+    }
+}
+
+impl AddressListener {
+    fn open<R: Net>(
+        rt: &R,
+        poll: &Poll,
+        address: Option<SocketAddr>,
+        gate: AddressGate,
+        now: Instant,
+    ) -> Result<Option<AddressListener>, Exit> {
+        let Some(address) = address else {
+            return Ok(None);
         };
-        match listener.accept() {
+        Ok(Some(AddressListener {
+            socket: at_step(Step::Listen, open_address(rt, poll, address, gate))?,
+            queue: Queue::new(gate.most_a_span, now),
+        }))
+    }
+
+    fn accept(&mut self, now: Instant) -> Result<(Socket, SocketAddr), Arrival> {
+        if !self.queue.is_open(now) {
+            return Err(Arrival::Nobody);
+        }
+        match self.socket.accept() {
             Ok((stream, peer)) => {
                 // Without it an answer may wait for a moment.
                 let _ = stream.set_nodelay(true);
-                self.at_gossip.note_arrival(now);
-                Arrival::Gossip(Socket::Tcp(stream), peer)
+                self.queue.note_arrival(now);
+                Ok((Socket::Tcp(stream), peer))
             }
-            Err(error) => self.at_gossip.note(&error, now),
+            Err(error) => Err(self.queue.note(&error, now)),
         }
     }
 }
@@ -290,10 +376,15 @@ impl Queue {
     }
 }
 
-fn open_gossip<R: Net>(rt: &R, poll: &Poll, address: SocketAddr) -> io::Result<TcpListener> {
+fn open_address<R: Net>(
+    rt: &R,
+    poll: &Poll,
+    address: SocketAddr,
+    gate: AddressGate,
+) -> io::Result<TcpListener> {
     let mut listener = TcpListener::bind(rt, address)?;
     poll.registry()
-        .register(&mut listener, Token(GOSSIP_LISTENER), Interest::READABLE)?;
+        .register(&mut listener, Token(gate.token), Interest::READABLE)?;
     Ok(listener)
 }
 

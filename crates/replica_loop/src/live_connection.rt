@@ -39,8 +39,9 @@ pub(crate) struct LiveConnection {
     // When it last asked something whole, or came.
     asked: Instant,
     moved: Instant,
-    // How many bytes moved, of both sides.
-    moved_bytes: u64,
+    // How many bytes came, and how many were sent.
+    received_bytes: u64,
+    sent_bytes: u64,
     is_connected: bool,
     can_read: bool,
     can_write: bool,
@@ -67,7 +68,8 @@ impl LiveConnection {
             begun: now,
             asked: now,
             moved: now,
-            moved_bytes: 0,
+            received_bytes: 0,
+            sent_bytes: 0,
             can_read: is_connected,
             can_write: is_connected,
             ending: None,
@@ -105,14 +107,32 @@ impl LiveConnection {
     // A session that this replica asked for ends earlier where little moves.
     fn max_age_seconds(&self) -> u64 {
         match &self.talk {
-            Talk::Pull(_) => most_seconds(self.moved_bytes).min(MAX_AGE_SECONDS),
-            Talk::Local(_) | Talk::Served(_) => MAX_AGE_SECONDS,
+            Talk::Pull(_) => {
+                let moved = self.received_bytes.saturating_add(self.sent_bytes);
+                most_seconds(moved).min(MAX_AGE_SECONDS)
+            }
+            Talk::Local(_) | Talk::Page(_) | Talk::Served(_) => MAX_AGE_SECONDS,
         }
     }
 
-    fn note_moved(&mut self, count: usize, now: Instant) {
+    /// How many bytes came.
+    pub(crate) fn received_bytes(&self) -> u64 {
+        self.received_bytes
+    }
+
+    /// How many bytes were sent.
+    pub(crate) fn sent_bytes(&self) -> u64 {
+        self.sent_bytes
+    }
+
+    fn note_received(&mut self, count: usize, now: Instant) {
         self.moved = now;
-        self.moved_bytes = self.moved_bytes.saturating_add(count as u64);
+        self.received_bytes = self.received_bytes.saturating_add(count as u64);
+    }
+
+    fn note_sent(&mut self, count: usize, now: Instant) {
+        self.moved = now;
+        self.sent_bytes = self.sent_bytes.saturating_add(count as u64);
     }
 
     /// What waits for its turn, where something does.
@@ -198,7 +218,7 @@ impl LiveConnection {
             }
             Progress::Bytes(count) => {
                 let count = count.min(buffer.len());
-                self.note_moved(count, now);
+                self.note_received(count, now);
                 self.talk.take(alloc, &buffer[..count], room)?;
                 Ok(count)
             }
@@ -211,12 +231,14 @@ impl LiveConnection {
         }
     }
 
-    /// A change could not be put on the disk: a request is refused, and nothing is sent to another
-    /// replica.
+    /// A change could not be put on the disk: a request is refused, and nothing is sent to anyone
+    /// else.
     pub(crate) fn fail(&mut self) {
         match &mut self.talk {
             Talk::Local(talk) => talk.fail(),
-            Talk::Served(_) | Talk::Pull(_) => self.ending = Some(Ending::Fault(SyncError::Io)),
+            Talk::Page(_) | Talk::Served(_) | Talk::Pull(_) => {
+                self.ending = Some(Ending::Fault(SyncError::Io));
+            }
         }
     }
 
@@ -266,7 +288,7 @@ impl LiveConnection {
         }
         match self.socket.write(&output[..count]) {
             Progress::Bytes(count) => {
-                self.note_moved(count, now);
+                self.note_sent(count, now);
                 self.talk.wrote(count);
                 return count;
             }

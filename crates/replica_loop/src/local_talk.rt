@@ -4,8 +4,9 @@ use crate::held_state::HeldState;
 use crate::request_work::work_of;
 use closure_core::Closure;
 use fair_turns::{ByteRoom, Work};
-use local_answers::{Reply, RequestFault, RequestParts, Sending, answer_look, answer_request};
-use status_view::RunningStatus;
+use local_answers::{
+    PageSource, Reply, RequestFault, RequestParts, Sending, answer_look, answer_request,
+};
 use std::alloc::Global;
 use std::time::Instant;
 
@@ -15,7 +16,7 @@ pub(crate) struct Surroundings<'a> {
     pub(crate) now: Instant,
     /// The room for requests and replies.
     pub(crate) room: ByteRoom,
-    pub(crate) running: RunningStatus<'a>,
+    pub(crate) pages: PageSource<'a>,
 }
 
 /// The reply where a change could not be put on the disk. It takes no memory.
@@ -168,7 +169,7 @@ impl LocalTalk {
         around: &Surroundings<'_>,
     ) -> Result<Reply, RequestFault> {
         let request = self.parts.whole()?;
-        let (running, words, input) = (&around.running, request.words, request.input);
+        let (running, words, input) = (&around.pages.running, request.words, request.input);
         match self.rights {
             Rights::Change => answer_request(alloc, &mut held.closure, running, words, input),
             Rights::Look => answer_look(alloc, &held.closure, running, words, input),
@@ -213,6 +214,11 @@ impl LocalTalk {
         if is_refused {
             self.answer = LocalAnswer::Fault(DISK_FAILED);
         }
+    }
+
+    /// Whether the reply is one of a command.
+    pub(crate) fn has_reply(&self) -> bool {
+        matches!(self.answer, LocalAnswer::Whole(_))
     }
 
     /// Whether it asks the replica to end.

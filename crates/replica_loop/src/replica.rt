@@ -24,7 +24,8 @@ const MOST_EVENTS: usize = 256;
 
 /// Runs a replica until a request stops it or the state cannot be kept. It has the lock of the
 /// state for all that time. Once it accepts requests it prints `ready`, the configuration's digest,
-/// and how many receipts and records of distrust it holds.
+/// and how many receipts and records of distrust it holds; before that, on standard error, where it
+/// listens for requests of pages, if the system has chosen the port or [`Settings::is_verbose`] is set.
 ///
 /// A change is on the disk before it is acknowledged. So the process may be killed at any moment.
 ///
@@ -109,6 +110,7 @@ fn run_held<C: Closure, R: Files<File = File> + Net + Clock + Print + Eprint>(
 ) -> Result<(), Exit> {
     let mut running = RunningReplica::begin(rt, alloc, &held.closure, lock, beginning, settings)?;
     let mut events = Events::with_capacity(alloc, MOST_EVENTS)?;
+    say_health(rt, alloc, &running, settings);
     print_ready(rt, alloc, &held.closure)?;
     let ended = run_turns(rt, alloc, held, &mut running, &mut events, settings);
     running.tell_all(rt, alloc);
@@ -135,6 +137,24 @@ fn run_turns<C: Closure, R: Files<File = File> + Net + Clock + Eprint>(
         }
     }
     Ok(())
+}
+
+// That it cannot be said changes nothing.
+fn say_health<R: Eprint>(
+    rt: &R,
+    alloc: Global,
+    running: &RunningReplica,
+    settings: &Settings<'_, '_>,
+) {
+    let (Some(wanted), Some(address)) = (settings.health, running.health_address()) else {
+        return;
+    };
+    if wanted.port() != 0 && !settings.is_verbose {
+        return;
+    }
+    if let Ok(line) = format!(in alloc; "fedbundle: health {address}\n") {
+        let _ = rt.eprint(line);
+    }
 }
 
 fn print_ready<C: Closure, R: Print>(rt: &R, alloc: Global, closure: &C) -> Result<(), Exit> {

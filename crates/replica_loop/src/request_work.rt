@@ -1,6 +1,7 @@
 //! What a request asks for, as far as it decides when its turn comes.
 use fair_turns::Work;
 use fedbundle::{CommandName, command_of};
+use health_pages::Page;
 use request_lines::read_request_words;
 use std::alloc::Global;
 
@@ -19,6 +20,14 @@ pub(crate) fn work_of(alloc: Global, line: &[u8]) -> Work {
     match command_of(first.as_str()) {
         Some(name) => work_of_command(name, words.iter().any(|word| word.as_str() == DRY_RUN)),
         None => Work::Short,
+    }
+}
+
+/// What a request for this page is.
+pub(crate) fn work_of_page(page: Page) -> Work {
+    match page {
+        Page::Index | Page::Style | Page::Script | Page::Live | Page::Ready => Work::Short,
+        Page::Metrics | Page::Status | Page::Report | Page::Keys | Page::Graph => Work::Long,
     }
 }
 

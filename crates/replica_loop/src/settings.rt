@@ -1,4 +1,5 @@
 //! What the words say of a replica.
+use local_answers::PageLimits;
 use std::net::SocketAddr;
 use std::time::Duration;
 
@@ -13,6 +14,12 @@ pub struct Settings<'a, 'p> {
     pub read_socket: Option<&'a str>,
     /// Where other replicas pull from this one.
     pub listen: Option<SocketAddr>,
+    /// Where pages for health and metrics are asked for.
+    pub health: Option<SocketAddr>,
+    /// By which limits these warn.
+    pub page_limits: PageLimits,
+    /// The version of the program, which they show.
+    pub version: &'static str,
     /// From which replicas this one pulls.
     pub peers: &'p [SocketAddr],
     /// How long after a pull began the next one from that peer begins.

@@ -1,8 +1,9 @@
-//! What is said on a connection: a local request, an answer to another replica, or a question to
-//! one.
+//! What is said on a connection: a local request, a request for a page, an answer to another replica,
+//! or a question to one.
 use crate::ending::Ending;
 use crate::held_state::HeldState;
 use crate::local_talk::{LocalTalk, Surroundings};
+use crate::page_talk::PageTalk;
 use crate::pull_talk::PullTalk;
 use crate::served_talk::ServedTalk;
 use closure_core::Closure;
@@ -15,6 +16,8 @@ use std::alloc::{AllocError, Global};
 pub(crate) enum Talk {
     /// A request of this machine.
     Local(LocalTalk),
+    /// A request for a page.
+    Page(PageTalk),
     /// Another replica asks.
     Served(ServedTalk),
     /// This replica asks.
@@ -26,6 +29,7 @@ impl Talk {
     pub(crate) fn wants_bytes(&self) -> bool {
         match self {
             Talk::Local(talk) => talk.wants_bytes(),
+            Talk::Page(talk) => talk.wants_bytes(),
             Talk::Served(talk) => talk.wants_bytes(),
             Talk::Pull(talk) => talk.wants_bytes(),
         }
@@ -35,16 +39,18 @@ impl Talk {
     pub(crate) fn work(&self) -> Option<Work> {
         match self {
             Talk::Local(talk) => talk.work(),
+            Talk::Page(talk) => talk.work(),
             Talk::Served(talk) if talk.has_work() => Some(Work::Short),
             Talk::Pull(talk) if talk.has_work() => Some(Work::Change),
             Talk::Served(_) | Talk::Pull(_) => None,
         }
     }
 
-    /// How many bytes are held of a request of this machine, or of its reply.
+    /// How many bytes are held of a request of this machine or for a page, or of what is replied.
     pub(crate) fn held_bytes(&self) -> u64 {
         match self {
             Talk::Local(talk) => talk.held_bytes(),
+            Talk::Page(talk) => talk.held_bytes(),
             Talk::Served(_) | Talk::Pull(_) => 0,
         }
     }
@@ -58,6 +64,10 @@ impl Talk {
     ) -> Result<(), AllocError> {
         match self {
             Talk::Local(talk) => {
+                talk.take(alloc, piece, room);
+                Ok(())
+            }
+            Talk::Page(talk) => {
                 talk.take(alloc, piece, room);
                 Ok(())
             }
@@ -78,6 +88,10 @@ impl Talk {
                 talk.answer(alloc, held, around);
                 Ok(())
             }
+            Talk::Page(talk) => {
+                talk.answer(alloc, held, around);
+                Ok(())
+            }
             Talk::Served(talk) => talk.go_on(alloc, &held.closure),
             Talk::Pull(talk) => talk.go_on(alloc, held),
         }
@@ -88,6 +102,10 @@ impl Talk {
         match self {
             Talk::Local(talk) => {
                 talk.end_input(alloc);
+                Ok(())
+            }
+            Talk::Page(talk) => {
+                talk.end_input();
                 Ok(())
             }
             Talk::Served(talk) => {
@@ -102,6 +120,7 @@ impl Talk {
     pub(crate) fn output(&self) -> &[u8] {
         match self {
             Talk::Local(talk) => talk.output(),
+            Talk::Page(talk) => talk.output(),
             Talk::Served(talk) => talk.output(),
             Talk::Pull(talk) => talk.output(),
         }
@@ -111,6 +130,7 @@ impl Talk {
     pub(crate) fn wrote(&mut self, count: usize) {
         match self {
             Talk::Local(talk) => talk.wrote(count),
+            Talk::Page(talk) => talk.wrote(count),
             Talk::Served(talk) => talk.wrote(count),
             Talk::Pull(talk) => talk.wrote(count),
         }
@@ -120,6 +140,7 @@ impl Talk {
     pub(crate) fn ending(&self) -> Option<Ending> {
         match self {
             Talk::Local(talk) => talk.ending(),
+            Talk::Page(talk) => talk.ending(),
             Talk::Served(talk) => talk.ending(),
             Talk::Pull(talk) => talk.ending(),
         }

@@ -11,6 +11,7 @@ use crate::kept_files::KeptFiles;
 use crate::listeners::{Arrival, Listeners};
 use crate::live_connection::LiveConnection;
 use crate::local_talk::{LocalTalk, Rights, Surroundings};
+use crate::page_talk::PageTalk;
 use crate::peers::Peers;
 use crate::pull_talk::PullTalk;
 use crate::served_talk::ServedTalk;
@@ -18,9 +19,11 @@ use crate::settings::Settings;
 use crate::socket::Socket;
 use crate::step_fault::{at_step, file_at_step};
 use crate::talk::Talk;
+use crate::turn_counts::TurnCounts;
 use closure_core::Closure;
 use fair_turns::Work;
 use fedbundle::{Exit, FileFault, Step};
+use local_answers::{PageLimits, PageSource};
 use mio::Events;
 use mio::net::TcpStream;
 use replica_sync::SyncError;
@@ -64,6 +67,9 @@ pub(crate) struct RunningReplica {
     // Whether it was reported that a connection had no room, or was not accepted, and none came
     // since.
     has_reported: bool,
+    counts: TurnCounts,
+    page_limits: PageLimits,
+    version: &'static str,
 }
 
 impl RunningReplica {
@@ -79,6 +85,7 @@ impl RunningReplica {
         let now = at_step(Step::Socket, Instant::now(rt))?;
         let listeners = Listeners::open(rt, settings, now)?;
         let journal = beginning.begin_journal(rt, alloc, closure, settings.state);
+        let began = unix_seconds(rt).unwrap_or(0);
         Ok(RunningReplica {
             listeners,
             table: ConnectionTable::new(alloc, settings.most_request_bytes)?,
@@ -86,10 +93,18 @@ impl RunningReplica {
             files: KeptFiles::new(lock, file_at_step(Step::Journal, journal)?),
             events: EventCounts::new(alloc),
             now,
-            began: unix_seconds(rt).unwrap_or(0),
+            began,
             ends_at: None,
             has_reported: false,
+            counts: TurnCounts::new(began),
+            page_limits: settings.page_limits,
+            version: settings.version,
         })
+    }
+
+    /// The address where pages are asked for, as the system has chosen it.
+    pub(crate) fn health_address(&self) -> Option<SocketAddr> {
+        self.listeners.health_address()
     }
 
     /// Waits until something is ready or due.
@@ -141,6 +156,12 @@ impl RunningReplica {
         self.accept_local(rt, alloc, Rights::Change);
         self.accept_local(rt, alloc, Rights::Look);
         for _ in 0..ARRIVALS_A_TURN {
+            let arrival = self.listeners.accept_page(self.now);
+            if !self.take_in(rt, alloc, arrival) {
+                break;
+            }
+        }
+        for _ in 0..ARRIVALS_A_TURN {
             let arrival = self.listeners.accept_gossip(self.now);
             if !self.take_in(rt, alloc, arrival) {
                 break;
@@ -169,6 +190,12 @@ impl RunningReplica {
             Arrival::Local(socket, rights) => {
                 let talk = Talk::Local(self.local_talk(alloc, rights));
                 self.add(rt, alloc, socket, talk, None);
+                true
+            }
+            Arrival::Page(socket, peer) => {
+                self.table.make_page_room(self.now);
+                let talk = Talk::Page(PageTalk::new(alloc));
+                self.add(rt, alloc, socket, talk, Some(peer));
                 true
             }
             Arrival::Gossip(socket, peer) => {
@@ -305,7 +332,12 @@ impl RunningReplica {
         let around = Surroundings {
             now: self.now,
             room: self.table.room(),
-            running: running_status(rt, &self.files, &self.peers, self.began),
+            pages: PageSource {
+                running: running_status(rt, &self.files, &self.peers, self.began),
+                counts: self.counts.all(&self.table, &self.files),
+                version: self.version,
+                limits: self.page_limits,
+            },
         };
         self.table.carry_out(rt, alloc, held, &around, work);
         if self.ends_at.is_none() && self.table.is_stopped() {
@@ -352,6 +384,7 @@ impl RunningReplica {
             if let Some(ending) = conn.ending {
                 let time = self.now.duration_since(conn.begun);
                 note_pull(rt, &mut self.peers, conn, ending);
+                self.counts.note_end(conn, ending);
                 if let Some(event) = event_of(conn, ending, time, is_verbose) {
                     self.events.note(rt, alloc, event, self.now);
                 }
@@ -359,6 +392,13 @@ impl RunningReplica {
         }
         self.table.remove_ended();
         self.events.tell(rt, alloc, self.now);
+    }
+
+    /// The turn that began when the wait ended is over.
+    pub(crate) fn note_turn<R: Clock>(&mut self, rt: &R) {
+        if let Ok(now) = Instant::now(rt) {
+            self.counts.note_turn(now.duration_since(self.now));
+        }
     }
 
     /// Reports what was only counted.
@@ -425,6 +465,7 @@ fn event_of(
         Talk::Pull(talk) => Some(LogEvent::Pull(conn.peer?, talk.taken(), time, ending)),
         Talk::Served(_) if is_said => Some(LogEvent::Serve(conn.peer, time, ending)),
         Talk::Local(_) if is_said => Some(LogEvent::Local(time, ending)),
+        Talk::Page(_) if is_said => Some(LogEvent::Page(conn.peer, time, ending)),
         _ => None,
     }
 }
@@ -450,5 +491,6 @@ pub(crate) fn turn<C: Closure, R: Files<File = File> + Net + Clock + Eprint>(
     running
         .files
         .fold(rt, alloc, &held.closure, settings.state)?;
+    running.note_turn(rt);
     Ok(running.has_ended())
 }

@@ -12,11 +12,10 @@ use Rattle.bundle_view.specs.Current.{IsCurrent}
 use Rattle.status_warnings.specs.declared.seen.CertificateEnd.{CertificateEnd}
 
 -- Each gives its part of the list, in their order.
-abbrev pub AreParts : {X : Type 0} → (X → List CertificateEnd → Type 0) → List X
-    → List CertificateEnd → Type 0
-AreParts Gives [] ends = ends ≡ []
-AreParts Gives (x ∷ xs) ends = (part : List CertificateEnd) × (others : List CertificateEnd)
-    × Gives x part × AreParts Gives xs others × (ends ≡ part ++ others)
+abbrev pub AreParts : {X Y : Type 0} → (X → List Y → Type 0) → List X → List Y → Type 0
+AreParts Gives [] whole = whole ≡ []
+AreParts {Y = Y} Gives (x ∷ xs) whole = (part : List Y) × (others : List Y)
+    × Gives x part × AreParts Gives xs others × (whole ≡ part ++ others)
 
 -- the certificate, and the last second at which it is valid (RFC 5280, section 4.1.2.5)
 pub record IsEnd (domain der : List ℕ) (e : CertificateEnd) : Type 0 where
@@ -53,5 +52,5 @@ pub record AreAllEnds (m : Meaning) (ends : List CertificateEnd) : Type 0 where
   pub each : AreParts (AreEndsOf m) domains ends
 
 -- Such a part was added.
-abbrev pub AddsPart : (List CertificateEnd → Type 0) → (old new : List CertificateEnd) → Type 0
-AddsPart Is old new = (part : List CertificateEnd) × Is part × (new ≡ old ++ part)
+abbrev pub AddsPart : {Y : Type 0} → (List Y → Type 0) → (old new : List Y) → Type 0
+AddsPart {Y = Y} Is old new = (part : List Y) × Is part × (new ≡ old ++ part)

@@ -14,10 +14,12 @@ use Rattle.status_view.specs.StatusJson.{status_members}
 use Rattle.status_view.specs.StatusMetrics.{status_metrics}
 use Rattle.status_warnings.specs.declared.seen.CertificateEnd.{CertificateEnd}
 use Rattle.status_warnings.specs.declared.seen.Fetch.{Fetch}
+use Rattle.status_warnings.specs.declared.seen.SamePublicKey.{SamePublicKey}
 use Rattle.status_warnings.specs.declared.seen.WarnLimits.{WarnLimits}
 use Rattle.status_warnings.specs.declared.seen.Watch.{Watch}
 use Rattle.status_warnings.specs.declared.warning_kinds.Warning.{Warning}
 use Rattle.status_warnings.specs.CertificateEnds.{AreAllEnds}
+use Rattle.status_warnings.specs.SameKeys.{AreAllSameKeys}
 use Rattle.status_warnings.specs.Warnings.{Sight, warnings_of}
 use Rattle.status_warnings.specs.WarningLines.{lines_of_warnings}
 use Rattle.status_warnings.specs.WarningJson.{warning_member}
@@ -47,17 +49,20 @@ abbrev pub began_of : Option RunningStatus → ℕ
 began_of None = 0
 began_of (Some r) = r.began
 
-abbrev pub sight_with : Watching → Status → List CertificateEnd → Sight
-sight_with w s certificates = record {
+abbrev pub sight_with : Watching → Status → List CertificateEnd → List SamePublicKey → Sight
+sight_with w s certificates same_keys = record {
   status = s;
   certificates = certificates;
+  same_keys = same_keys;
   fetches = w.fetches;
   peers = peers_of w.running;
   began = began_of w.running;
 }
 
-abbrev pub found_in : Watching → Status → List CertificateEnd → List Warning
-found_in w s certificates = warnings_of w.limits (sight_with w s certificates)
+abbrev pub found_in : Watching → Status → List CertificateEnd → List SamePublicKey
+    → List Warning
+found_in w s certificates same_keys =
+    warnings_of w.limits (sight_with w s certificates same_keys)
 
 -- ---- the texts: what was written without warnings stands first
 
@@ -93,9 +98,10 @@ warned_text Json running sight warnings = warned_json running sight.status warni
 warned_text Prometheus running sight warnings = warned_metrics running sight warnings
 
 -- the text of what is seen, and of what is found in that
-abbrev pub seen_text : StatusFormat → Watching → Status → List CertificateEnd → List ℕ
-seen_text format w s certificates =
-    warned_text format w.running (sight_with w s certificates) (found_in w s certificates)
+abbrev pub seen_text : StatusFormat → Watching → Status → List CertificateEnd
+    → List SamePublicKey → List ℕ
+seen_text format w s certificates same_keys = warned_text format w.running
+    (sight_with w s certificates same_keys) (found_in w s certificates same_keys)
 
 -- the text of how the replica stands
 pub record IsWarnedStatusIn (m : Meaning) (w : Watching) (format : StatusFormat)
@@ -104,4 +110,6 @@ pub record IsWarnedStatusIn (m : Meaning) (w : Watching) (format : StatusFormat)
   pub is_status : IsStatus m status
   pub certificates : List CertificateEnd
   pub are_ends : AreAllEnds m certificates
-  pub is : text ≡ seen_text format w status certificates
+  pub same_keys : List SamePublicKey
+  pub are_same : AreAllSameKeys m same_keys
+  pub is : text ≡ seen_text format w status certificates same_keys

@@ -7,11 +7,15 @@ use Rattle.status_warnings.specs.declared.warning_kinds.Stock.{Stock}
 use Rattle.status_warnings.specs.declared.warning_kinds.Warning.{Warning}
 use Rattle.status_warnings.specs.declared.warning_kinds.Warning.TheVariants.{Domain, Expires}
 use Rattle.status_warnings.specs.declared.warning_kinds.Warning.TheVariants.{NearlyFull, NotFetched}
-use Rattle.status_warnings.specs.declared.warning_kinds.Warning.TheVariants.{QuietPeer}
+use Rattle.status_warnings.specs.declared.warning_kinds.Warning.TheVariants.{QuietPeer, SameKey}
 use Rattle.status_warnings.specs.WarningLines.{kind_name, stock_name}
 
 abbrev pub domain_member : List ℕ → List ℕ
 domain_member domain = codes ",\"domain\":\"" ++ (domain ++ codes "\"")
+
+abbrev pub key_members : (domain key : List ℕ) → List ℕ
+key_members domain key = domain_member domain
+    ++ (codes ",\"key\":\"" ++ (encode_lower key ++ codes "\""))
 
 abbrev pub expiry_members : (domain key : List ℕ) → ℤ → List ℕ
 expiry_members domain key at = domain_member domain
@@ -36,6 +40,7 @@ stock_members stock held = codes ",\"what\":\""
 
 abbrev pub warning_members : Warning → List ℕ
 warning_members (Domain fault domain) = domain_member domain
+warning_members (SameKey domain key) = key_members domain key.0
 warning_members (Expires domain key at) = expiry_members domain key.0 at
 warning_members (NotFetched domain fetched) = fetch_members domain fetched
 warning_members (QuietPeer peer since) = peer_members peer since

@@ -12,7 +12,7 @@ use Rattle.status_warnings.specs.declared.warning_kinds.Stock.TheVariants.{Recei
 use Rattle.status_warnings.specs.declared.warning_kinds.Warning.{Warning}
 use Rattle.status_warnings.specs.declared.warning_kinds.Warning.TheVariants.{Domain, Expires}
 use Rattle.status_warnings.specs.declared.warning_kinds.Warning.TheVariants.{NearlyFull, NotFetched}
-use Rattle.status_warnings.specs.declared.warning_kinds.Warning.TheVariants.{QuietPeer}
+use Rattle.status_warnings.specs.declared.warning_kinds.Warning.TheVariants.{QuietPeer, SameKey}
 
 -- ---- names, in each of the texts
 
@@ -24,6 +24,7 @@ kind_of_fault NoSequence = codes "no-sequence"
 
 abbrev pub kind_name : Warning → List ℕ
 kind_name (Domain fault domain) = kind_of_fault fault
+kind_name (SameKey domain key) = codes "same-key"
 kind_name (Expires domain key at) = codes "expires"
 kind_name (NotFetched domain fetched) = codes "not-fetched"
 kind_name (QuietPeer peer since) = codes "quiet-peer"
@@ -43,6 +44,11 @@ fault_words NoSequence = codes " has several accepted bundles, and the current h
 
 abbrev pub domain_words : DomainFault → List ℕ → List ℕ
 domain_words fault domain = domain ++ fault_words fault
+
+abbrev pub same_key_words : (domain key : List ℕ) → List ℕ
+same_key_words domain key = domain
+    ++ (codes " accepts key "
+    ++ (encode_lower key ++ codes ", which has the public key of a distrusted key"))
 
 abbrev pub expiry_words : (domain key : List ℕ) → ℤ → List ℕ
 expiry_words domain key at = domain
@@ -69,6 +75,7 @@ stock_words stock held = decimal held ++ most_words stock
 
 abbrev pub warning_words : Warning → List ℕ
 warning_words (Domain fault domain) = domain_words fault domain
+warning_words (SameKey domain key) = same_key_words domain key.0
 warning_words (Expires domain key at) = expiry_words domain key.0 at
 warning_words (NotFetched domain fetched) = fetch_words domain fetched
 warning_words (QuietPeer peer since) = peer_words peer since

@@ -8,7 +8,7 @@ use Rattle.status_warnings.specs.declared.warning_kinds.Stock.{Stock}
 use Rattle.status_warnings.specs.declared.warning_kinds.Warning.{Warning}
 use Rattle.status_warnings.specs.declared.warning_kinds.Warning.TheVariants.{Domain, Expires}
 use Rattle.status_warnings.specs.declared.warning_kinds.Warning.TheVariants.{NearlyFull, NotFetched}
-use Rattle.status_warnings.specs.declared.warning_kinds.Warning.TheVariants.{QuietPeer}
+use Rattle.status_warnings.specs.declared.warning_kinds.Warning.TheVariants.{QuietPeer, SameKey}
 use Rattle.status_warnings.specs.WarningLines.{kind_name, stock_name}
 
 -- ---- the warnings
@@ -29,6 +29,7 @@ stock_label stock = codes "what=\"" ++ (stock_name stock ++ codes "\"")
 -- what is warned of
 abbrev pub warning_labels : Warning → List ℕ
 warning_labels (Domain fault domain) = domain_label domain
+warning_labels (SameKey domain key) = key_labels domain key.0
 warning_labels (Expires domain key at) = key_labels domain key.0
 warning_labels (NotFetched domain fetched) = domain_label domain
 warning_labels (QuietPeer peer since) = quiet_label peer

@@ -11,6 +11,7 @@ use Rattle.status_view.specs.declared.status.KeyStatus.{KeyStatus}
 use Rattle.status_view.specs.Status.{is_nearly_full}
 use Rattle.status_warnings.specs.declared.seen.CertificateEnd.{CertificateEnd}
 use Rattle.status_warnings.specs.declared.seen.Fetch.{Fetch}
+use Rattle.status_warnings.specs.declared.seen.SamePublicKey.{SamePublicKey}
 use Rattle.status_warnings.specs.declared.seen.Seen.{Seen}
 use Rattle.status_warnings.specs.declared.seen.WarnLimits.{WarnLimits}
 use Rattle.status_warnings.specs.declared.warning_kinds.DomainFault.{DomainFault}
@@ -23,7 +24,7 @@ use Rattle.status_warnings.specs.declared.warning_kinds.Stock.TheVariants.{Recei
 use Rattle.status_warnings.specs.declared.warning_kinds.Warning.{Warning}
 use Rattle.status_warnings.specs.declared.warning_kinds.Warning.TheVariants.{Domain, Expires}
 use Rattle.status_warnings.specs.declared.warning_kinds.Warning.TheVariants.{NearlyFull, NotFetched}
-use Rattle.status_warnings.specs.declared.warning_kinds.Warning.TheVariants.{QuietPeer}
+use Rattle.status_warnings.specs.declared.warning_kinds.Warning.TheVariants.{QuietPeer, SameKey}
 
 -- ---- a trust domain
 
@@ -64,6 +65,12 @@ warnings_of_fault domains fault = flat_map (domain_warning fault) domains
 
 abbrev pub all_domain_faults : List DomainFault
 all_domain_faults = NoCurrent ∷ LockedOut ∷ Conflict ∷ NoSequence ∷ []
+
+-- ---- a public key
+
+-- an accepted bundle has the key, which is not distrusted, though one with its public key is
+abbrev pub same_key_warning : SamePublicKey → List Warning
+same_key_warning s = SameKey s.domain s.key ∷ []
 
 -- ---- a certificate
 
@@ -114,11 +121,13 @@ full_warnings s =
 
 -- ---- the whole
 
--- what is looked at: how the replica stands, the certificates of current bundles, how domains are
--- fetched, the peers, and when the replica began that has them
+-- what is looked at: how the replica stands, the certificates of current bundles, the keys that have
+-- the public key of a distrusted one, how domains are fetched, the peers, and when the replica began
+-- that has them
 pub record Sight : Type 0 where
   pub status : Status
   pub certificates : List CertificateEnd
+  pub same_keys : List SamePublicKey
   pub fetches : List Fetch
   pub peers : List PeerStatus
   pub began : ℕ
@@ -127,6 +136,7 @@ abbrev pub sight_of : Seen → Sight
 sight_of seen = record {
   status = seen.status.now;
   certificates = seen.certificates.now;
+  same_keys = seen.same_keys.now;
   fetches = seen.fetches.now;
   peers = seen.peers.now;
   began = seen.began;
@@ -136,7 +146,8 @@ sight_of seen = record {
 abbrev pub warnings_of : WarnLimits → Sight → List Warning
 warnings_of limits sight =
     flat_map (warnings_of_fault sight.status.domains.items) all_domain_faults
+    ++ (flat_map same_key_warning sight.same_keys
     ++ (flat_map (expiry_warning limits) sight.certificates
     ++ (flat_map (late_warning limits) sight.fetches
     ++ (flat_map (quiet_warning limits sight.began) sight.peers
-    ++ full_warnings sight.status)))
+    ++ full_warnings sight.status))))

@@ -10,6 +10,7 @@ pub(crate) fn kind_name(warning: &Warning) -> &'static str
 {
     match warning {
         Warning::Domain(fault, _) => kind_of_fault(*fault),
+        Warning::SameKey(..) => "same-key",
         Warning::Expires(..) => "expires",
         Warning::NotFetched(..) => "not-fetched",
         Warning::QuietPeer(..) => "quiet-peer",

@@ -1,15 +1,18 @@
 //! What is wrong with a replica, for operators: a list of warnings, and what of it stands at the
 //! end of the three texts of a status. It reads no clock: the moment is handed in.
 //!
-//! `seen` has what is looked at, of which `ending_certificates` finds the certificates, and
-//! `warning_kinds` has what is found. `warning_search` finds it. `warning_lines`, `warning_json`
-//! and `warning_metrics` write it, as functions of the list alone. `warned_text` puts that after
-//! the texts of a status, and `warned_writer` writes the whole.
+//! `seen` has what is looked at: `ending_certificates` finds the certificates, `same_keys` the keys
+//! of distrusted public keys, and `fetches` says how the domains are fetched. `warning_kinds` has
+//! what is found, and `warning_search` finds it. `warning_lines`, `warning_json` and
+//! `warning_metrics` write it, as functions of the list alone. `warned_text` puts that after the
+//! texts of a status, and `warned_writer` writes the whole.
 #![tactic(auto)]
 
 mod ending_certificates;
+mod fetches;
 mod kind;
 mod peer_address;
+mod same_keys;
 mod seen;
 mod warned_text;
 mod warned_writer;
@@ -20,8 +23,10 @@ mod warning_metrics;
 mod warning_search;
 
 pub use ending_certificates::certificate_ends;
+pub use fetches::fetches_of;
 pub use peer_address::PeerAddress;
-pub use seen::{CertificateEnd, Fetch, Seen, WarnLimits, Watch};
+pub use same_keys::find_same_keys;
+pub use seen::{CertificateEnd, Fetch, SamePublicKey, Seen, WarnLimits, Watch};
 pub use warned_writer::write_warned_status;
 pub use warning_json::push_warning_member;
 pub use warning_kinds::{DomainFault, Stock, Warning};

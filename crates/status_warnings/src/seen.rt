@@ -32,6 +32,8 @@ pub struct Seen<'a> {
     pub status: &'a Status,
     /// The certificates of current bundles, domains rising.
     pub certificates: &'a [CertificateEnd],
+    /// The keys that have the public key of a distrusted one, domains rising.
+    pub same_keys: &'a [SamePublicKey],
     /// How the domains are fetched, rising; empty if no log of polls is known.
     pub fetches: &'a [Fetch],
     /// The peers, in the order in which they are asked; empty if the replica does not run.
@@ -49,6 +51,16 @@ pub struct CertificateEnd {
     pub key: KeyId,
     /// The last Unix second at which the certificate is valid (RFC 5280, section 4.1.2.5).
     pub not_after: i64,
+}
+
+/// A key of an accepted bundle that is not distrusted, though a distrusted key of the trust domain
+/// has its public key.
+#[derive(Debug, Drop)]
+pub struct SamePublicKey {
+    /// The domain.
+    pub domain: TrustDomain,
+    /// The id of the key.
+    pub key: KeyId,
 }
 
 /// How the bundle of a trust domain is fetched.

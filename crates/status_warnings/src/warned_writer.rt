@@ -7,7 +7,8 @@ ghost use Rattle.status_view.specs.StatusRuns.{IsWarned};
 ghost use Rattle.status_warnings.specs.WarnedStatus.{IsWarnedStatusIn, seen_text, watching_of};
 
 use crate::ending_certificates::certificate_ends;
-use crate::seen::{CertificateEnd, Seen, Watch};
+use crate::same_keys::find_same_keys;
+use crate::seen::{CertificateEnd, SamePublicKey, Seen, Watch};
 use crate::warned_text::{began_of, peers_of, warned_text};
 use crate::warning_search::find_warnings;
 use byte_lines::{DeviceError, Sink, write_all};
@@ -43,7 +44,15 @@ pub fn write_warned_status<C: Closure, W: Sink>(
 {
     let status = read_status(alloc, closure)?;
     let certificates = certificate_ends(alloc, closure)?;
-    let text = seen_text(alloc, watch, &status, certificates.as_slice(), format)?;
+    let same_keys = find_same_keys(alloc, closure)?;
+    let text = seen_text(
+        alloc,
+        watch,
+        &status,
+        certificates.as_slice(),
+        same_keys.as_slice(),
+        format,
+    )?;
     write_all(sink, text.as_slice())?;
     Ok(has_warning(&status))
 }
@@ -53,14 +62,17 @@ fn seen_text(
     watch: &Watch<'_>,
     status: &Status,
     certificates: &[CertificateEnd],
+    same_keys: &[SamePublicKey],
     format: StatusFormat,
 ) -> Result<Vec<u8>, AllocError>
     ensures { IfOk result (λ text. text.items
-        ≡ seen_text format (watching_of watch.now) status.now certificates.now) }
+        ≡ seen_text format (watching_of watch.now) status.now certificates.now
+        same_keys.now) }
 {
     let seen = Seen {
         status,
         certificates,
+        same_keys,
         fetches: watch.fetches,
         peers: peers_of(watch.running),
         began: began_of(watch.running),

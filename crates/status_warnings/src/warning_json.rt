@@ -2,7 +2,7 @@
 ghost use Rattle.std.specs.Prelude.{◌≡◌, ◌++◌, false, OnOk};
 ghost use Rattle.json_text.specs.JsonText.{parted_texts};
 ghost use Rattle.status_warnings.specs.WarningJson.{domain_member, expiry_members};
-ghost use Rattle.status_warnings.specs.WarningJson.{fetch_members, peer_members};
+ghost use Rattle.status_warnings.specs.WarningJson.{fetch_members, key_members, peer_members};
 ghost use Rattle.status_warnings.specs.WarningJson.{second_or_null, stock_members};
 ghost use Rattle.status_warnings.specs.WarningJson.{warning_json, warning_member};
 ghost use Rattle.status_warnings.specs.WarningJson.{warning_members};
@@ -21,6 +21,7 @@ use std::alloc::{AllocError, Global};
 /// | Kind | Members |
 /// |---|---|
 /// | `no-current`, `locked-out`, `conflict`, `no-sequence` | `domain` |
+/// | `same-key` | `domain` and `key` |
 /// | `expires` | `domain`, `key` and `not_after` |
 /// | `not-fetched` | `domain`, and `fetched`, which is `null` if no poll succeeded |
 /// | `quiet-peer` | `peer` and `since` |
@@ -72,6 +73,7 @@ fn push_members(alloc: Global, out: &mut Vec<u8>, warning: &Warning) -> Result<(
 {
     match warning {
         Warning::Domain(_, domain) => push_domain_member(out, domain),
+        Warning::SameKey(domain, key) => push_key_members(out, domain, key),
         Warning::Expires(domain, key, at) => push_expiry_members(out, domain, key, *at),
         Warning::NotFetched(domain, fetched) => push_fetch_members(out, domain, *fetched),
         Warning::QuietPeer(peer, since) => push_peer_members(alloc, out, peer.as_str(), *since),
@@ -84,6 +86,16 @@ fn push_domain_member(out: &mut Vec<u8>, domain: &TrustDomain) -> Result<(), All
 {
     out.extend_from_slice(b",\"domain\":\"")?;
     out.extend_from_slice(domain.as_str().as_bytes())?;
+    out.extend_from_slice(b"\"")?;
+    Ok(())
+}
+
+fn push_key_members(out: &mut Vec<u8>, domain: &TrustDomain, key: &KeyId) -> Result<(), AllocError>
+    ensures { OnOk result (out.new.items ≡ out.old.items ++ key_members domain.now key.now.0) }
+{
+    push_domain_member(out, domain)?;
+    out.extend_from_slice(b",\"key\":\"")?;
+    push_digits(out, &key.0)?;
     out.extend_from_slice(b"\"")?;
     Ok(())
 }

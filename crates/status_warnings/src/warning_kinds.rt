@@ -8,6 +8,9 @@ use spiffe_name::TrustDomain;
 pub enum Warning {
     /// The trust domain has this fault.
     Domain(DomainFault, TrustDomain),
+    /// An accepted bundle of the domain has this key, which is not distrusted, though a distrusted
+    /// key of the domain has its public key.
+    SameKey(TrustDomain, KeyId),
     /// The certificate of this key, in the current bundle of the domain, is valid only up to this
     /// Unix second.
     Expires(TrustDomain, KeyId, i64),

@@ -5,7 +5,7 @@ ghost use Rattle.status_warnings.specs.WarningLines.{domain_words, expiry_words,
 ghost use Rattle.status_warnings.specs.WarningLines.{fetch_words, most_words, peer_words};
 ghost use Rattle.status_warnings.specs.WarningLines.{second_or_never, stock_words};
 ghost use Rattle.status_warnings.specs.WarningLines.{lines_of_warnings, warning_line};
-ghost use Rattle.status_warnings.specs.WarningLines.{warning_words};
+ghost use Rattle.status_warnings.specs.WarningLines.{same_key_words, warning_words};
 
 use crate::kind::kind_name;
 use crate::warning_kinds::{DomainFault, Stock, Warning};
@@ -45,6 +45,7 @@ fn push_words(out: &mut Vec<u8>, warning: &Warning) -> Result<(), AllocError>
 {
     match warning {
         Warning::Domain(fault, domain) => push_domain_words(out, *fault, domain),
+        Warning::SameKey(domain, key) => push_same_key_words(out, domain, key),
         Warning::Expires(domain, key, at) => push_expiry_words(out, domain, key, *at),
         Warning::NotFetched(domain, fetched) => push_fetch_words(out, domain, *fetched),
         Warning::QuietPeer(peer, since) => push_peer_words(out, peer.as_str(), *since),
@@ -73,6 +74,20 @@ fn fault_words(fault: DomainFault) -> &'static str
         DomainFault::Conflict => " has several accepted bundles with one sequence number",
         DomainFault::NoSequence => " has several accepted bundles, and the current has no number",
     }
+}
+
+fn push_same_key_words(
+    out: &mut Vec<u8>,
+    domain: &TrustDomain,
+    key: &KeyId,
+) -> Result<(), AllocError>
+    ensures { OnOk result (out.new.items ≡ out.old.items ++ same_key_words domain.now key.now.0) }
+{
+    out.extend_from_slice(domain.as_str().as_bytes())?;
+    out.extend_from_slice(b" accepts key ")?;
+    push_digits(out, &key.0)?;
+    out.extend_from_slice(b", which has the public key of a distrusted key")?;
+    Ok(())
 }
 
 fn push_expiry_words(

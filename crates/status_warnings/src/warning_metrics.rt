@@ -16,7 +16,7 @@ use status_view::{push_gauge_head, push_label_value};
 use std::alloc::AllocError;
 
 /// Adds the gauge `fedbundle_warning_info`: 1 for each warning, with its kind as the label `kind`,
-/// and the label `domain`, with `key` for `expires`; `peer` for `quiet-peer`; and for `nearly-full`
+/// and the label `domain`, with `key` for `same-key` and `expires`; `peer` for `quiet-peer`; and for `nearly-full`
 /// `what`, which is `receipts` or `records`.
 ///
 /// # Errors
@@ -58,6 +58,7 @@ fn push_labels(out: &mut Vec<u8>, warning: &Warning) -> Result<(), AllocError>
 {
     match warning {
         Warning::Domain(_, domain) => push_domain_label(out, domain),
+        Warning::SameKey(domain, key) => push_key_labels(out, domain, key),
         Warning::Expires(domain, key, _) => push_key_labels(out, domain, key),
         Warning::NotFetched(domain, _) => push_domain_label(out, domain),
         Warning::QuietPeer(peer, _) => push_quiet_label(out, peer.as_str()),

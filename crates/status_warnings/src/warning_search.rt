@@ -7,10 +7,11 @@ ghost use Rattle.status_warnings.specs.Warnings.{has_fault, is_late, is_locked_o
 ghost use Rattle.status_warnings.specs.Warnings.{is_unordered, is_without, late_warning};
 ghost use Rattle.status_warnings.specs.Warnings.{lists_no_trusted, peer_warning};
 ghost use Rattle.status_warnings.specs.Warnings.{quiet_since, quiet_warning, sight_of};
+ghost use Rattle.status_warnings.specs.Warnings.{same_key_warning};
 ghost use Rattle.status_warnings.specs.Warnings.{stock_warning, warnings_of, warnings_of_fault};
 
 use crate::peer_address::PeerAddress;
-use crate::seen::{CertificateEnd, Fetch, Seen, WarnLimits};
+use crate::seen::{CertificateEnd, Fetch, SamePublicKey, Seen, WarnLimits};
 use crate::warning_kinds::{DomainFault, Stock, Warning};
 use status_view::{CurrentStatus, DomainStatus, KeyStatus, PeerStatus, Status, is_nearly_full};
 use std::alloc::{AllocError, Global};
@@ -34,6 +35,8 @@ const MOST_RECORDS: u64 = 4_096;
 /// | `locked-out` | its current bundle has no X.509 authority, or only distrusted ones |
 /// | `conflict` | several of its accepted bundles have one sequence number |
 /// | `no-sequence` | its current bundle has no sequence number, and another bundle is accepted |
+/// | `same-key` | an accepted bundle has a key that is not distrusted, though a distrusted key of
+/// the domain has its public key |
 /// | `expires` | a certificate ends within the days of the limits, or has ended |
 /// | `not-fetched` | no poll of it succeeded for three times its wait, or none ever did |
 /// | `quiet-peer` | no session with a peer ended well for the seconds of the limits, nor since the
@@ -54,6 +57,7 @@ pub fn find_warnings(
 {
     let mut found = Vec::new(alloc);
     push_faults(alloc, &mut found, seen.status.domains.as_slice())?;
+    push_same_keys(alloc, &mut found, seen.same_keys)?;
     push_expiries(alloc, &mut found, limits, seen.certificates)?;
     push_late(alloc, &mut found, limits, seen.fetches)?;
     push_quiet(alloc, &mut found, limits, seen.began, seen.peers)?;
@@ -152,6 +156,20 @@ fn is_unordered(current: &Option<CurrentStatus>) -> bool
         Some(current) => current.sequence.is_none(),
         None => false,
     }
+}
+
+fn push_same_keys(
+    alloc: Global,
+    found: &mut Vec<Warning>,
+    same_keys: &[SamePublicKey],
+) -> Result<(), AllocError>
+    ensures { OnOk result (found.new.items
+        ≡ found.old.items ++ flat_map same_key_warning same_keys.now) }
+{
+    for same in same_keys {
+        found.push(Warning::SameKey(same.domain.try_clone(alloc)?, same.key))?;
+    }
+    Ok(())
 }
 
 fn push_expiries(

@@ -1,15 +1,16 @@
 //! What is printed as JSON and as a graph.
 use crate::configurations::AMPLE_ROOM;
+use crate::poll_logs::log_of;
 use crate::states::replica_of;
 use bundle_doc::Document;
 use bundle_view::explain;
-use byte_lines::{DeviceError, MemSink, MemSource};
+use byte_lines::{DeviceError, MemSink};
 use closure_core::Closure;
 use config_view::write_config_json;
 use fed_config::Config;
 use jiff::Timestamp;
 use json_reports::{chain_json, document_json, write_report_json};
-use poll_log::{read_polls, read_seconds};
+use poll_log::read_seconds;
 use poll_view::{PollsForm, polls_text};
 use replica_view::{write_graph, write_held_json};
 use row_script::Script;
@@ -165,9 +166,7 @@ pub(crate) fn polls<C: Closure>(
     let Ok(now) = Timestamp::from_second(seconds) else {
         return answer.push_str("no moment\n");
     };
-    let bytes = Vec::from_slice(alloc, script.text(name).unwrap_or(b""))?;
-    let mut source = MemSource::new(bytes, Vec::new(alloc));
-    let log = match read_polls(alloc, replica.config(), &mut source) {
+    let log = match log_of(alloc, script, replica.config(), name) {
         Ok(log) => log,
         Err(error) => return write!(answer, "{error}\n"),
     };

@@ -17,6 +17,8 @@
 //! - `warned CONFIG FORMAT MOMENT BEGAN WORD.. = LINES`: the same of one with empty files, and its
 //!   warnings at that Unix second. A word is a peer, or `DOMAIN@FETCHED@WAIT`: when a domain was
 //!   last fetched, with a hyphen for never, and its wait.
+//! - `fetched CONFIG NAME = LINES`: when each domain was last fetched, and its wait, by the polls
+//!   of the text of NAME.
 //! - `config-json = CONFIGURATION`, `canon-json DOMAIN = DOCUMENT`, `list-json CONFIG = LINES`,
 //!   `list-json CONFIG DOMAIN = LINES`, `report-json CONFIG = LINES`, `explain-json CONFIG DOMAIN
 //!   NAME = LINES` and `polls-json CONFIG SECONDS NAME = LINES`: what is printed as JSON, where the
@@ -26,6 +28,7 @@
 
 mod configurations;
 mod json_shown;
+mod poll_logs;
 mod running_states;
 mod states;
 mod warned_states;
@@ -61,6 +64,7 @@ impl Rows for Calls {
             "status" => status(self.alloc, script, row.words, text, answer),
             "running" => running(self.alloc, script, row.words, text, answer),
             "warned" => warned(self.alloc, script, row.words, text, answer),
+            "fetched" => fetched(self.alloc, script, row.words, text, answer),
             _ => json(self.alloc, script, row, answer),
         }
     }
@@ -133,4 +137,14 @@ fn warned(
     answer: &mut String,
 ) -> Result<(), AllocError> {
     warned_states::stand::<IndexedClosure>(alloc, script, words, lines, answer)
+}
+
+fn fetched(
+    alloc: Global,
+    script: &Script,
+    words: &str,
+    lines: &[u8],
+    answer: &mut String,
+) -> Result<(), AllocError> {
+    poll_logs::fetched::<IndexedClosure>(alloc, script, words, lines, answer)
 }

@@ -9,13 +9,6 @@ use key_view::same_keys_text;
 use spiffe_name::TrustDomain;
 use trust_closure::IndexedClosure;
 
-/// How many authorities of a domain are looked at for one public key: the work grows with their
-/// square, and the record is not made before it is done.
-const MOST_AUTHORITIES: usize = 512;
-
-/// What is printed where there are more.
-static NOT_LOOKED_FOR: &[u8] = b"same public key: not looked for among more than 512 authorities\n";
-
 /// Takes the record of distrust that the options say.
 pub(crate) fn run(rt: &HostRuntime, config: &Config, call: &Call<'_>) -> Result<u8, Exit> {
     change(rt, config, call, Coming::Record)
@@ -59,32 +52,7 @@ fn print_same_keys<W: Sink>(
     domain: &TrustDomain,
     sink: &mut W,
 ) -> Result<(), Exit> {
-    if accepted_authorities(closure, domain) > MOST_AUTHORITIES
-        || held_authorities(closure, domain) > MOST_AUTHORITIES
-    {
-        return Ok(write_all(sink, NOT_LOOKED_FOR).map_err(|_| CommandError::Io)?);
-    }
     let text = same_keys_text(rt.alloc(), closure, domain)?;
     write_all(sink, text.as_slice()).map_err(|_| CommandError::Io)?;
     Ok(())
-}
-
-// How many authorities the accepted documents of the domain list.
-fn accepted_authorities(closure: &IndexedClosure, domain: &TrustDomain) -> usize {
-    let mut count: usize = 0;
-    for document in closure.accepted(domain) {
-        count = count.saturating_add(document.authorities().len());
-    }
-    count
-}
-
-// How many the domain's documents of held receipts list.
-fn held_authorities(closure: &IndexedClosure, domain: &TrustDomain) -> usize {
-    let mut count: usize = 0;
-    for receipt in closure.receipts() {
-        if receipt.domain() == domain {
-            count = count.saturating_add(receipt.document().authorities().len());
-        }
-    }
-    count
 }

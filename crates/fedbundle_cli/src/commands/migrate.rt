@@ -2,7 +2,7 @@
 use crate::options;
 use crate::streams::{complaints, output};
 use fed_config::Config;
-use fedbundle::{Call, Exit, OptionName, given, run_migrate, wanted};
+use fedbundle::{Call, Exit, OptionName, given, is_flag_given, run_migrate, wanted};
 use migration::Choice;
 use trust_closure::IndexedClosure;
 
@@ -10,7 +10,7 @@ use trust_closure::IndexedClosure;
 /// further option is.
 pub(crate) fn run(rt: &HostRuntime, closure: &IndexedClosure, call: &Call<'_>) -> Result<u8, Exit> {
     let to = options::config(rt, rt.alloc(), wanted(call, OptionName::To)?)?;
-    let choice = if given(call, OptionName::RecordsOnly) == Some("true") {
+    let choice = if is_flag_given(given(call, OptionName::RecordsOnly)) {
         Choice::RecordsOnly
     } else {
         Choice::All

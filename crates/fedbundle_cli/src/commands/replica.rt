@@ -1,8 +1,10 @@
 // `replica`: what the words say of it, read, and the replica run.
 use crate::options;
 use crate::streams::warn_of_anywhere;
+use command_line::number_given;
 use fed_config::Config;
 use fedbundle::{Call, CommandError, Exit, OptionName, given, manner_of, wanted};
+use local_answers::PageLimits;
 use replica_loop::{Settings, run_replica};
 use std::alloc::Global;
 use std::net::SocketAddr;
@@ -17,6 +19,19 @@ const MAX_EVERY_SECONDS: u64 = 86_400;
 /// How many bytes requests and their replies may have together where nothing else is said.
 const MOST_REQUEST_BYTES: u64 = 536_870_912;
 
+/// How many days before its end the pages warn of a certificate, and how many seconds a peer may be
+/// quiet, where nothing else is said; and at most.
+const EXPIRES_WITHIN: u64 = 7;
+
+const MAX_EXPIRES_WITHIN: u64 = 36_525;
+
+const PEER_QUIET: u64 = 600;
+
+const MAX_PEER_QUIET: u64 = 31_536_000;
+
+/// The version of the program, as `--version` prints it.
+const VERSION: &str = "0.6.0";
+
 /// From how many replicas one pulls at most.
 const MOST_PEERS: usize = 16;
 
@@ -24,7 +39,7 @@ const MOST_PEERS: usize = 16;
 pub(crate) fn run(rt: &HostRuntime, config: &Config, call: &Call<'_>) -> Result<u8, Exit> {
     let peers = peers_of(rt.alloc(), given(call, OptionName::Peers))?;
     let settings = settings_of(call, peers.as_slice())?;
-    if let Some(address) = settings.listen {
+    for address in [settings.listen, settings.health].into_iter().flatten() {
         warn_of_anywhere(rt, address);
     }
     run_replica(rt, config, &settings)?;
@@ -38,6 +53,9 @@ fn settings_of<'a, 'p>(call: &Call<'a>, peers: &'p [SocketAddr]) -> Result<Setti
         socket: wanted(call, OptionName::Socket)?,
         read_socket: given(call, OptionName::ReadSocket),
         listen: listen_of(call)?,
+        health: health_of(call)?,
+        page_limits: page_limits_of(call)?,
+        version: VERSION,
         peers,
         every: Duration::from_secs(every_of(given(call, OptionName::Every))?),
         most_bytes: manner.most_bytes,
@@ -58,6 +76,28 @@ fn listen_of(call: &Call<'_>) -> Result<Option<SocketAddr>, Exit> {
     } else {
         Err(Exit::BadAddress)
     }
+}
+
+// Whoever reaches the address sees what is held. The system chooses the port if that is 0.
+fn health_of(call: &Call<'_>) -> Result<Option<SocketAddr>, Exit> {
+    let Some(text) = given(call, OptionName::Health) else {
+        return Ok(None);
+    };
+    let address = options::address(text)?;
+    if may_listen(call, address) {
+        Ok(Some(address))
+    } else {
+        Err(Exit::BadAddress)
+    }
+}
+
+fn page_limits_of(call: &Call<'_>) -> Result<PageLimits, Exit> {
+    let days = OptionName::ExpiresWithin;
+    let seconds = OptionName::PeerQuiet;
+    Ok(PageLimits {
+        expires_within: number_given(call, days, EXPIRES_WITHIN, MAX_EXPIRES_WITHIN)?,
+        peer_quiet: number_given(call, seconds, PEER_QUIET, MAX_PEER_QUIET)?,
+    })
 }
 
 /// Whether the words allow a replica to listen there.

@@ -9,7 +9,7 @@ use trust_closure::{Closure, IndexedClosure};
 
 /// Prints the report of the receipts that standard input has. That is text alone.
 pub(crate) fn report_lines(rt: &HostRuntime, config: &Config, call: &Call<'_>) -> Result<u8, Exit> {
-    if read_output_form(given(call, OptionName::FileFormat))? == OutputForm::Json {
+    if read_output_form(given(call, OptionName::Format))? == OutputForm::Json {
         return Err(Exit::Usage);
     }
     let mut errors = complaints(rt);

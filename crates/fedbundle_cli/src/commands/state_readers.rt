@@ -1,10 +1,11 @@
 // The subcommands that show what a state file holds, and write no file: they take no lock. The
 // replica is made and given back in one place, and each command only borrows it.
-use crate::commands::{diff, distrust, graph, list, migrate, reseed};
+use crate::commands::{diff, distrust, migrate, reseed};
+use crate::options;
 use crate::state_access::{leave, load, state_access_of};
 use crate::streams::{input, output};
 use fed_config::Config;
-use fedbundle::{Call, CommandName, Exit, Shown, run_shown};
+use fedbundle::{Call, CommandName, Exit, OptionName, Shown, given, run_shown};
 use std::rt::Clock;
 use trust_closure::IndexedClosure;
 
@@ -23,9 +24,7 @@ fn show_of(
     call: &Call<'_>,
 ) -> Result<u8, Exit> {
     match call.name {
-        CommandName::List => list::run(rt, closure, call),
         CommandName::Diff => diff::run(rt, config, closure, call),
-        CommandName::Graph => graph::run(rt, closure, call),
         CommandName::Migrate => migrate::run(rt, closure, call),
         CommandName::Reseed => reseed::run(rt, closure, call),
         CommandName::Distrust => {
@@ -48,7 +47,13 @@ fn show_as_replica(
         running: None,
         moment: unix_second(rt),
     };
-    run_shown(rt.alloc(), closure, shown, &mut input(rt), &mut output(rt))
+    match given(call, OptionName::Polls) {
+        Some(path) => {
+            let mut polls = options::file(rt, path)?;
+            run_shown(rt.alloc(), closure, shown, &mut polls, &mut output(rt))
+        }
+        None => run_shown(rt.alloc(), closure, shown, &mut input(rt), &mut output(rt)),
+    }
 }
 
 // The time of day; 0 if the clock has none.

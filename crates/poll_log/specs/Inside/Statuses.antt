@@ -2,18 +2,15 @@
 use Rattle.std.specs.Prelude.{◌≡◌, ℕ, ◌+◌, min, ℤ, Bool, if◌then◌else◌, List, Contains, Option}
 use Rattle.std.specs.Prelude.{Some, None, slice_get}
 use Rattle.std.specs.Option.{option_map}
-use Rattle.jiff.specs.Types.{Timestamp}
 use Rattle.spiffe_name.specs.TrustDomain.{IsDomainText}
-use Rattle.poll_log.specs.Polling.{PollStatus, polled_domains}
+use Rattle.poll_log.specs.Polling.{PollStatus, nanos_of, polled_domains}
 use Rattle.poll_log.specs.declared.log.PollStatus as held
-
-abbrev pub nanos_of : Timestamp → ℤ
-nanos_of t = t.nanosecond
 
 abbrev pub kept_status : held.PollStatus → PollStatus
 kept_status s = record {
   domain = s.domain;
   last = option_map nanos_of s.last;
+  succeeded = option_map nanos_of s.succeeded;
   failures = s.failures;
 }
 
@@ -22,6 +19,7 @@ abbrev pub after : PollStatus → ℤ → Bool → PollStatus
 after s moment ok = record {
   domain = s.domain;
   last = Some moment;
+  succeeded = if ok then Some moment else s.succeeded;
   failures = if ok then 0 else min s.failures 11 + 1;
 }
 

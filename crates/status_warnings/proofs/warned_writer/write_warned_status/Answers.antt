@@ -1,4 +1,4 @@
-use Rattle.std.proofs.Common.{◌∙◌, ap, rules, subst}
+use Rattle.std.proofs.Common.{◌∙◌, ap₂, rules, subst}
 use Rattle.std.specs.Io.KnownBytes.{Appends}
 use Rattle.byte_lines.specs.Device.{AppendsBeginning}
 use Rattle.status_warnings.specs.WarnedStatus.{seen_text, watching_of}
@@ -14,10 +14,12 @@ returns-in_err-write_all-clause-io g c = λ _. (
       is_status = c.in_ok-status.ensures;
       certificates = c.in_ok-certificates.certificates.items;
       are_ends = c.in_ok-certificates.ensures;
+      same_keys = c.in_ok-same_keys.same_keys.items;
+      are_same = c.in_ok-same_keys.ensures;
       is = c.in_ok-text.ensures
-          ∙ ap (seen_text c.args.format (watching_of c.args.watch.now) c.in_ok-status.status) c.as_slice.ensures.value;
+          ∙ ap₂ (seen_text c.args.format (watching_of c.args.watch.now) c.in_ok-status.status) c.as_slice.ensures.value c.as_slice-2.ensures.value;
     };
-    begun = subst (AppendsBeginning (g.W.Sink.contents c.args.sink.now) (g.W.Sink.contents c.write_all.new.sink)) c.as_slice-2.ensures.value
+    begun = subst (AppendsBeginning (g.W.Sink.contents c.args.sink.now) (g.W.Sink.contents c.write_all.new.sink)) c.as_slice-3.ensures.value
         c.in_err-write_all.ensures.beginning;
   },
 )
@@ -30,10 +32,12 @@ returns-clause-ok g c = record {
     is_status = c.in_ok-status.ensures;
     certificates = c.in_ok-certificates.certificates.items;
     are_ends = c.in_ok-certificates.ensures;
+    same_keys = c.in_ok-same_keys.same_keys.items;
+    are_same = c.in_ok-same_keys.ensures;
     is = c.in_ok-text.ensures
-        ∙ ap (seen_text c.args.format (watching_of c.args.watch.now) c.in_ok-status.status) c.as_slice.ensures.value;
+        ∙ ap₂ (seen_text c.args.format (watching_of c.args.watch.now) c.in_ok-status.status) c.as_slice.ensures.value c.as_slice-2.ensures.value;
   };
-  written = subst (Appends (g.W.Sink.contents c.args.sink.now) (g.W.Sink.contents c.write_all.new.sink)) c.as_slice-2.ensures.value
+  written = subst (Appends (g.W.Sink.contents c.args.sink.now) (g.W.Sink.contents c.write_all.new.sink)) c.as_slice-3.ensures.value
       c.in_ok-write_all.ensures.ok;
 }
 

@@ -1,0 +1,50 @@
+"""Makes the requests that it reads, one a line, and prints what came of each, as bindings/go/requests does. That says how a
+line is written."""
+import base64
+import dataclasses
+import json
+import sys
+
+from fedbundle_client import Client, Poll, ReplicaError, parse_bundle
+
+
+def shown(value):
+    """The value as JSON has it, with bytes in base64."""
+    if isinstance(value, bytes):
+        return base64.b64encode(value).decode()
+    if isinstance(value, (list, tuple)):
+        return [shown(one) for one in value]
+    if isinstance(value, dict):
+        return {name: shown(one) for name, one in value.items()}
+    return shown(dataclasses.asdict(value)) if dataclasses.is_dataclass(value) else value
+
+
+def without_none(warning):
+    return {name: value for name, value in warning.items() if value is not None}
+
+
+def answer(line):
+    client = Client(line["Socket"], timeout=line["Seconds"])
+    name, texts = line["Call"], line.get("Texts", [])
+    data = base64.b64decode(line.get("Input", "")) + b" " * line.get("Spaces", 0)
+    if name == "status":
+        found = shown(client.status())
+        return {**found, "warnings": [without_none(one) for one in found["warnings"]]}
+    if name == "parsed":
+        return shown(parse_bundle(texts[0], client.bundle(texts[0])))
+    if name == "polls":
+        polls = [Poll(one["Domain"], one["OK"], one["Second"]) for one in line.get("Polls", [])]
+        return shown(client.polls(line["Number"], polls))
+    if name == "merge_at_most":
+        return client.merge(data, most_bytes=line["Number"])
+    if name == "ask":
+        return shown(client.ask(texts, data))
+    given = [*texts, data] if name in ("explain", "explain_short", "observe", "merge") else texts
+    return shown(getattr(client, name)(*given))
+
+
+for text in sys.stdin:
+    try:
+        print(json.dumps({"answer": answer(json.loads(text))}), flush=True)
+    except ReplicaError as error:
+        print(json.dumps({"code": error.code, "text": error.text, "status": error.status}), flush=True)

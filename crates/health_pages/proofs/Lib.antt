@@ -1,0 +1,3 @@
+mod NameFacts
+mod SendingFacts
+mod VerdictFacts

@@ -1,0 +1,139 @@
+-- What the bytes of a request ask for (RFC 9112). The head is all up to the first empty line; what
+-- comes after it is not read.
+use Rattle.std.specs.Prelude.{◌≡◌, ℕ, ◌+◌, ◌-◌, ◌<◌, ◌≤◌, ◌⊎◌, ◌==◌, ◌&&◌, ◌||◌, ◌++◌, not}
+use Rattle.std.specs.Prelude.{List, [], Bool, true, false, codes, count_by, if◌then◌else◌, length}
+use Rattle.std.specs.Prelude.{map, nat_le, Option, Some, None, Result, Ok, Err, take}
+use Rattle.std.specs.List.{list_all}
+use Rattle.std.specs.Char.{to_ascii_lowercase}
+use Rattle.std.specs.Str.{bytes_eq}
+use Rattle.httparse.specs.declared.spans.HeaderSpan.{HeaderSpan}
+use Rattle.httparse.specs.declared.spans.RequestSpans.{RequestSpans}
+use Rattle.httparse.specs.Grammar.{ReadsRequest, RequestHead}
+use Rattle.httparse.specs.Spans.{IsRequestAt, IsRequestWithin, name_and_value}
+use Rattle.memchr.specs.Find.{FindsNeedle}
+use Rattle.health_pages.specs.declared.asked_page.AskedPage.{AskedPage}
+use Rattle.health_pages.specs.declared.asked_page.Page.{Page}
+use Rattle.health_pages.specs.declared.asked_page.PageFault.{PageFault}
+use Rattle.health_pages.specs.declared.asked_page.PageFault.TheVariants.{TooLong, BadHead}
+use Rattle.health_pages.specs.declared.asked_page.PageFault.TheVariants.{BadMethod, NoPage}
+use Rattle.health_pages.specs.declared.asked_page.PageFault.TheVariants.{BadFields}
+use Rattle.health_pages.specs.declared.head_verdict.HeadVerdict.{HeadVerdict}
+use Rattle.health_pages.specs.Pages.{asked_view, page_at}
+
+-- the most bytes of a head, and the most fields of one
+abbrev pub head_limit : ℕ
+head_limit = 8192
+
+abbrev pub field_limit : ℕ
+field_limit = 64
+
+-- what is kept of a stream, with a piece more
+abbrev pub with_piece : List ℕ → List ℕ → List ℕ
+with_piece bytes piece = bytes ++ take (head_limit - length bytes) piece
+
+-- ---- fields, as pairs of a name and a value
+
+abbrev pub is_get : List ℕ → Bool
+is_get method = bytes_eq method (codes "GET")
+
+abbrev pub is_head : List ℕ → Bool
+is_head method = bytes_eq method (codes "HEAD")
+
+-- the names are equal, in letters of any case
+abbrev pub is_named : List ℕ → List ℕ → Bool
+is_named wanted name = bytes_eq (map to_ascii_lowercase name) (map to_ascii_lowercase wanted)
+
+-- the field announces no body (RFC 9112, section 6)
+abbrev pub is_bodiless : List ℕ × List ℕ → Bool
+is_bodiless field = not (is_named (codes "transfer-encoding") field.0)
+    && (not (is_named (codes "content-length") field.0) || bytes_eq field.1 (codes "0"))
+
+-- as many fields `Host` as the version wants: one, or with HTTP/1.0 at most one (section 3.2)
+abbrev pub is_hosted : ℕ → ℕ → Bool
+is_hosted minor count = if minor == 1 then count == 1 else nat_le count 1
+
+abbrev pub are_fine : ℕ → List (List ℕ × List ℕ) → Bool
+are_fine minor fields = list_all is_bodiless fields
+    && is_hosted minor (count_by (λ field. is_named (codes "host") field.0) fields)
+
+-- ---- a head
+
+abbrev pub asked_with : Option (Page × Option (List ℕ)) → (fine : Bool)
+    → Result (Page × Option (List ℕ)) PageFault
+asked_with None fine = Err NoPage
+asked_with (Some asked) true = Ok asked
+asked_with (Some asked) false = Err BadFields
+
+-- what a head with this method and target asks for: of several causes of a refusal the first one
+abbrev pub asked_by : (method target : List ℕ) → (fine : Bool)
+    → Result (Page × Option (List ℕ)) PageFault
+asked_by method target fine = if is_get method || is_head method
+    then asked_with (page_at target) fine else Err BadMethod
+
+-- the same of a whole head
+abbrev pub asked_of : RequestHead → Result (Page × Option (List ℕ)) PageFault
+asked_of h = asked_by h.method h.target (are_fine h.minor (map name_and_value h.fields))
+
+-- the same of what is read
+abbrev pub result_view : Result AskedPage PageFault → Result (Page × Option (List ℕ)) PageFault
+result_view (Ok asked) = Ok (asked_view asked)
+result_view (Err fault) = Err fault
+
+-- The bytes are this head, with not too many fields.
+pub record IsHead (bytes : List ℕ) (h : RequestHead) : Type 0 where
+  pub reads : ReadsRequest bytes h []
+  pub few : length h.fields ≤ field_limit
+
+-- the bytes are no such head
+abbrev pub IsNoHead : List ℕ → Type 0
+IsNoHead bytes = (h : RequestHead) → IsHead bytes h → ⊥
+
+-- They are one, with its parts at these places.
+pub record IsHeadAt (bytes : List ℕ) (fields : List HeaderSpan) (r : RequestSpans) : Type 0 where
+  pub within : IsRequestWithin bytes fields r
+  pub head : RequestHead
+  pub at : IsRequestAt bytes fields r head
+  pub is : IsHead bytes head
+
+-- They are one, and that is what it asks for.
+pub record SaysHead (bytes : List ℕ) (v : HeadVerdict) : Type 0 where
+  pub head : RequestHead
+  pub is : IsHead bytes head
+  pub is_head : v.is_head ≡ is_head head.method
+  pub asked : result_view v.asked ≡ asked_of head
+
+-- the head is refused without a look at its parts
+pub record RefusesHead (fault : PageFault) (v : HeadVerdict) : Type 0 where
+  pub is_head : v.is_head ≡ false
+  pub asked : result_view v.asked ≡ Err fault
+
+-- the verdict on all bytes of a head
+abbrev pub IsVerdictOfHead : List ℕ → HeadVerdict → Type 0
+IsVerdictOfHead bytes v = SaysHead bytes v ⊎ (IsNoHead bytes × RefusesHead BadHead v)
+
+-- ---- bytes that came
+
+-- the end of a line, and the empty line that ends a head
+abbrev pub head_end : List ℕ
+head_end = codes "\r\n\r\n"
+
+-- the place at which the end of the head begins, if it came
+abbrev pub EndsAt : List ℕ → Option ℕ → Type 0
+EndsAt bytes place = FindsNeedle bytes head_end 0 place
+
+-- The head has come whole.
+pub record AnswersWhole (bytes : List ℕ) (v : HeadVerdict) : Type 0 where
+  pub place : ℕ
+  pub ends : EndsAt bytes (Some place)
+  pub verdict : IsVerdictOfHead (take (place + 4) bytes) v
+
+-- It is longer than it may be.
+pub record AnswersLong (bytes : List ℕ) (v : HeadVerdict) : Type 0 where
+  pub ends : EndsAt bytes None
+  pub long : length bytes ≡ head_limit
+  pub verdict : RefusesHead TooLong v
+
+-- what the bytes that came ask for, or that more has to come
+abbrev pub IsVerdict : List ℕ → Option HeadVerdict → Type 0
+IsVerdict bytes None = EndsAt bytes None × (length bytes < head_limit)
+IsVerdict bytes (Some v) = AnswersWhole bytes v ⊎ AnswersLong bytes v

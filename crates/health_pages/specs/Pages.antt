@@ -1,0 +1,66 @@
+-- The pages, and the target of a request that asks for one (RFC 9112, section 3.2.1): a path, and
+-- nothing else, or the path of the graph with a query that names a domain.
+use Rattle.std.specs.Prelude.{ℕ, List, [], ◌∷◌, ◌==◌, ◌||◌, Bool, false, codes, drop, find, length}
+use Rattle.std.specs.Prelude.{if◌then◌else◌, nat_eq, Option, Some, None, option_map}
+use Rattle.std.specs.List.{list_all, starts_with}
+use Rattle.std.specs.Char.{is_ascii_digit, is_ascii_lowercase}
+use Rattle.std.specs.Str.{bytes_eq}
+use Rattle.health_pages.specs.declared.asked_page.AskedPage.{AskedPage}
+use Rattle.health_pages.specs.declared.asked_page.Page.{Page}
+use Rattle.health_pages.specs.declared.asked_page.Page.TheVariants.{Index, Style, Script, Metrics}
+use Rattle.health_pages.specs.declared.asked_page.Page.TheVariants.{Live, Ready, Status, Report}
+use Rattle.health_pages.specs.declared.asked_page.Page.TheVariants.{Keys, Graph}
+
+abbrev pub page_path : Page → List ℕ
+page_path Index = codes "/"
+page_path Style = codes "/page.css"
+page_path Script = codes "/page.js"
+page_path Metrics = codes "/metrics"
+page_path Live = codes "/live"
+page_path Ready = codes "/ready"
+page_path Status = codes "/status.json"
+page_path Report = codes "/report.json"
+page_path Keys = codes "/keys.json"
+page_path Graph = codes "/graph.dot"
+
+abbrev pub all_pages : List Page
+all_pages = Index ∷ Style ∷ Script ∷ Metrics ∷ Live ∷ Ready ∷ Status ∷ Report ∷ Keys ∷ Graph ∷ []
+
+-- the page whose path it is
+abbrev pub page_of : List ℕ → Option Page
+page_of target = find (λ page. bytes_eq (page_path page) target) all_pages
+
+-- ---- the graph of one domain
+
+abbrev pub is_name_byte : ℕ → Bool
+is_name_byte b = is_ascii_lowercase b || is_ascii_digit b || b == 45 || b == 46 || b == 95
+
+-- lower-case letters, digits, dots, hyphens and underscores, at least one
+abbrev pub is_name : List ℕ → Bool
+is_name [] = false
+is_name bytes = list_all is_name_byte bytes
+
+abbrev pub domain_prefix : List ℕ
+domain_prefix = codes "/graph.dot?domain="
+
+-- the graph of the domain that the bytes are, where they are a name
+abbrev pub graph_of : List ℕ → Option (Page × Option (List ℕ))
+graph_of name = if is_name name then Some (Graph, Some name) else None
+
+abbrev pub graph_at : List ℕ → Option (Page × Option (List ℕ))
+graph_at target = if starts_with nat_eq target domain_prefix
+    then graph_of (drop (length domain_prefix) target) else None
+
+-- ---- a target
+
+abbrev pub page_or_graph : Option Page → List ℕ → Option (Page × Option (List ℕ))
+page_or_graph (Some page) target = Some (page, None)
+page_or_graph None target = graph_at target
+
+-- the page that a target asks for, with its domain
+abbrev pub page_at : List ℕ → Option (Page × Option (List ℕ))
+page_at target = page_or_graph (page_of target) target
+
+-- the same of what is read
+abbrev pub asked_view : AskedPage → Page × Option (List ℕ)
+asked_view asked = (asked.page, option_map (λ domain. domain.now) asked.domain)

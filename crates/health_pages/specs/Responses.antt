@@ -1,0 +1,111 @@
+-- A response as bytes (RFC 9112, section 4)
+use Rattle.std.specs.Prelude.{ℕ, List, [], ◌++◌, Bool, codes, decimal, if◌then◌else◌, length}
+use Rattle.health_pages.specs.declared.asked_page.Page.{Page}
+use Rattle.health_pages.specs.declared.asked_page.Page.TheVariants as page
+use Rattle.health_pages.specs.declared.asked_page.PageFault.{PageFault}
+use Rattle.health_pages.specs.declared.asked_page.PageFault.TheVariants as fault
+use Rattle.health_pages.specs.declared.response.ContentType.{ContentType}
+use Rattle.health_pages.specs.declared.response.ContentType.TheVariants.{Html, Style, Script, Text}
+use Rattle.health_pages.specs.declared.response.ContentType.TheVariants.{Metrics, Json, Graph}
+use Rattle.health_pages.specs.declared.response.ResponseStatus.{ResponseStatus}
+use Rattle.health_pages.specs.declared.response.ResponseStatus.TheVariants.{Done, BadRequest}
+use Rattle.health_pages.specs.declared.response.ResponseStatus.TheVariants.{NotFound, NotAllowed}
+use Rattle.health_pages.specs.declared.response.ResponseStatus.TheVariants.{TooLong, Unavailable}
+
+-- ---- the head
+
+abbrev pub status_text : ResponseStatus → List ℕ
+status_text Done = codes "200 OK"
+status_text BadRequest = codes "400 Bad Request"
+status_text NotFound = codes "404 Not Found"
+status_text NotAllowed = codes "405 Method Not Allowed"
+status_text TooLong = codes "431 Request Header Fields Too Large"
+status_text Unavailable = codes "503 Service Unavailable"
+
+abbrev pub type_text : ContentType → List ℕ
+type_text Html = codes "text/html; charset=utf-8"
+type_text Style = codes "text/css; charset=utf-8"
+type_text Script = codes "text/javascript; charset=utf-8"
+type_text Text = codes "text/plain; charset=utf-8"
+type_text Metrics = codes "text/plain; version=0.0.4; charset=utf-8"
+type_text Json = codes "application/json"
+type_text Graph = codes "text/vnd.graphviz; charset=utf-8"
+
+-- after a method that is not allowed, those that are
+abbrev pub allow_line : ResponseStatus → List ℕ
+allow_line NotAllowed = codes "Allow: GET, HEAD\r\n"
+allow_line status = []
+
+-- the page for people loads what this address has, and nothing else
+abbrev pub policy_line : ContentType → List ℕ
+policy_line Html = codes "Content-Security-Policy: default-src 'none'; script-src 'self'; "
+    ++ codes "style-src 'self'; connect-src 'self'; base-uri 'none'; form-action 'none'; "
+    ++ codes "frame-ancestors 'none'\r\n"
+policy_line content = []
+
+abbrev pub ended_line : (label text : List ℕ) → List ℕ
+ended_line label text = label ++ (text ++ codes "\r\n")
+
+abbrev pub status_line : ResponseStatus → List ℕ
+status_line status = ended_line (codes "HTTP/1.1 ") (status_text status)
+
+abbrev pub length_line : ℕ → List ℕ
+length_line count = ended_line (codes "Content-Length: ") (decimal count)
+
+abbrev pub type_line : ContentType → List ℕ
+type_line content = ended_line (codes "Content-Type: ") (type_text content)
+
+-- the fields that each response has
+abbrev pub fixed_lines : List ℕ
+fixed_lines = codes "Connection: close\r\nX-Content-Type-Options: nosniff\r\n"
+    ++ codes "Cache-Control: no-store\r\n"
+
+-- the other fields, and the empty line
+abbrev pub further_lines : ResponseStatus → ContentType → List ℕ
+further_lines status content = fixed_lines
+    ++ (allow_line status ++ (policy_line content ++ codes "\r\n"))
+
+-- the head of a response whose body has so many bytes
+abbrev pub head_text : ResponseStatus → ContentType → ℕ → List ℕ
+head_text status content count = status_line status
+    ++ (length_line count ++ (type_line content ++ further_lines status content))
+
+-- ---- the whole
+
+-- the body, which a response to HEAD does not have (RFC 9110, section 9.3.2)
+abbrev pub sent_body : List ℕ → Bool → List ℕ
+sent_body body is_head = if is_head then [] else body
+
+abbrev pub response_text : ResponseStatus → ContentType → (body : List ℕ) → (is_head : Bool) → List ℕ
+response_text status content body is_head =
+    head_text status content (length body) ++ sent_body body is_head
+
+-- ---- what is said of a refusal
+
+abbrev pub fault_status : PageFault → ResponseStatus
+fault_status fault.TooLong = TooLong
+fault_status fault.BadHead = BadRequest
+fault_status fault.BadMethod = NotAllowed
+fault_status fault.NoPage = NotFound
+fault_status fault.BadFields = BadRequest
+
+abbrev pub fault_text : PageFault → List ℕ
+fault_text fault.TooLong = codes "head too long\n"
+fault_text fault.BadHead = codes "bad head\n"
+fault_text fault.BadMethod = codes "bad method\n"
+fault_text fault.NoPage = codes "no page\n"
+fault_text fault.BadFields = codes "bad fields\n"
+
+-- ---- what the pages are
+
+abbrev pub page_type : Page → ContentType
+page_type page.Index = Html
+page_type page.Style = Style
+page_type page.Script = Script
+page_type page.Metrics = Metrics
+page_type page.Live = Text
+page_type page.Ready = Text
+page_type page.Status = Json
+page_type page.Report = Json
+page_type page.Keys = Json
+page_type page.Graph = Graph

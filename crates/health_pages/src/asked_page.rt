@@ -1,0 +1,149 @@
+//! The pages, and the target of a request that asks for one.
+ghost use Rattle.std.specs.Prelude.{◌≡◌, option_map};
+ghost use Rattle.std.specs.List.{list_all};
+ghost use Rattle.health_pages.specs.Pages.{asked_view, domain_prefix, graph_at, is_name};
+ghost use Rattle.health_pages.specs.Pages.{is_name_byte, page_at, page_of, page_path};
+
+use std::str;
+
+/// What can be asked for.
+#[derive(Clone, Copy, Debug, PartialEq, Eq)]
+pub enum Page {
+    /// The page for people, its style and its script.
+    Index,
+    Style,
+    Script,
+    /// What is measured, in the text format of Prometheus.
+    Metrics,
+    /// Whether the replica runs.
+    Live,
+    /// Whether it is heard by a peer, where it has some.
+    Ready,
+    Status,
+    Report,
+    Keys,
+    Graph,
+}
+
+static PAGES: [Page; 10] = [
+    Page::Index,
+    Page::Style,
+    Page::Script,
+    Page::Metrics,
+    Page::Live,
+    Page::Ready,
+    Page::Status,
+    Page::Report,
+    Page::Keys,
+    Page::Graph,
+];
+
+/// What comes before the domain in the target of its graph.
+const DOMAIN_PREFIX: &str = "/graph.dot?domain=";
+
+impl Page {
+    /// The path of the page.
+    pub fn path<'a>(self) -> &'a str
+        ensures { result.now ≡ page_path self }
+    {
+        match self {
+            Page::Index => "/",
+            Page::Style => "/page.css",
+            Page::Script => "/page.js",
+            Page::Metrics => "/metrics",
+            Page::Live => "/live",
+            Page::Ready => "/ready",
+            Page::Status => "/status.json",
+            Page::Report => "/report.json",
+            Page::Keys => "/keys.json",
+            Page::Graph => "/graph.dot",
+        }
+    }
+}
+
+/// A page, and what else its target says.
+#[derive(Clone, Copy, Debug)]
+pub struct AskedPage<'a> {
+    pub page: Page,
+    /// The trust domain of the graph, where one is named: lower-case letters, digits, dots, hyphens
+    /// and underscores, at least one.
+    pub domain: Option<&'a str>,
+}
+
+/// Why a request asks for no page.
+#[derive(Clone, Copy, Debug, PartialEq, Eq)]
+pub enum PageFault {
+    /// The head is longer than 8,192 bytes.
+    TooLong,
+    /// It is not a head of a request, of HTTP/1.0 or 1.1 with at most 64 fields.
+    BadHead,
+    /// The method is neither GET nor HEAD.
+    BadMethod,
+    /// The target is none of the pages.
+    NoPage,
+    /// A body is announced, or there is not the one field `Host` that has to be.
+    BadFields,
+}
+
+/// The page of a request's target.
+pub(crate) fn page_at(target: &[u8]) -> Option<AskedPage<'_>>
+    ensures { option_map asked_view result ≡ page_at target.now }
+{
+    match page_of(target) {
+        Some(page) => Some(AskedPage { page, domain: None }),
+        None => graph_at(target),
+    }
+}
+
+fn page_of(target: &[u8]) -> Option<Page>
+    ensures { result ≡ page_of target.now }
+{
+    'pages: for &page in PAGES.as_slice() {
+        if page.path().as_bytes() == target {
+            return Some(page);
+        }
+    }
+    None
+}
+
+// The graph of one domain.
+fn graph_at(target: &[u8]) -> Option<AskedPage<'_>>
+    ensures { option_map asked_view result ≡ graph_at target.now }
+{
+    let name = target.strip_prefix(DOMAIN_PREFIX.as_bytes())?;
+    if !is_name(name) {
+        return None;
+    }
+    match str::from_utf8(name) {
+        Ok(name) => Some(AskedPage {
+            page: Page::Graph,
+            domain: Some(name),
+        }),
+        Err(_) => None,
+    }
+}
+
+fn is_name(name: &[u8]) -> bool
+    ensures { result ≡ is_name name.now }
+{
+    match name {
+        [] => false,
+        _ => are_name_bytes(name),
+    }
+}
+
+fn are_name_bytes(bytes: &[u8]) -> bool
+    ensures { result ≡ list_all is_name_byte bytes.now }
+{
+    bytes.iter().all(|byte| is_name_byte(*byte))
+}
+
+fn is_name_byte(byte: u8) -> bool
+    ensures { result ≡ is_name_byte byte }
+{
+    byte.is_ascii_lowercase()
+        || byte.is_ascii_digit()
+        || byte == b'-'
+        || byte == b'.'
+        || byte == b'_'
+}

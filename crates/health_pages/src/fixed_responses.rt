@@ -1,0 +1,23 @@
+//! Responses that take no memory.
+ghost use Rattle.std.specs.Prelude.{◌≡◌, codes, false};
+ghost use Rattle.health_pages.specs.Responses.{response_text};
+ghost use Rattle.health_pages.specs.declared.response.ContentType.TheVariants.{Text};
+ghost use Rattle.health_pages.specs.declared.response.ResponseStatus.TheVariants.{Unavailable};
+
+/// What is replied where memory ran out.
+pub fn memory_response<'a>(is_head: bool) -> &'a [u8]
+    ensures { result.now ≡ response_text Unavailable Text (codes "out of memory\n") is_head }
+{
+    if is_head {
+        b"HTTP/1.1 503 Service Unavailable\r\nContent-Length: 14\r\nContent-Type: text/plain; charset=utf-8\r\nConnection: close\r\nX-Content-Type-Options: nosniff\r\nCache-Control: no-store\r\n\r\n"
+    } else {
+        b"HTTP/1.1 503 Service Unavailable\r\nContent-Length: 14\r\nContent-Type: text/plain; charset=utf-8\r\nConnection: close\r\nX-Content-Type-Options: nosniff\r\nCache-Control: no-store\r\n\r\nout of memory\n"
+    }
+}
+
+/// What is replied where there is no room for one more request.
+pub fn crowd_response<'a>() -> &'a [u8]
+    ensures { result.now ≡ response_text Unavailable Text (codes "too many requests\n") false }
+{
+    b"HTTP/1.1 503 Service Unavailable\r\nContent-Length: 18\r\nContent-Type: text/plain; charset=utf-8\r\nConnection: close\r\nX-Content-Type-Options: nosniff\r\nCache-Control: no-store\r\n\r\ntoo many requests\n"
+}
