@@ -26,7 +26,7 @@ class WatchedReplica:
 
     def __init__(self, program, folder, config, receipts=(), words=(), has_stand_in=False, quiet=600):
         self.program, self.folder, self.words, self.quiet = program, Path(folder), list(words), quiet
-        self.has_stand_in, self.process, self.stand_in = has_stand_in, None, None
+        self.has_stand_in, self.process, self.stand_in, self.askable = has_stand_in, None, None, {}
         self.folder.mkdir(parents=True, exist_ok=True)
         (self.folder / "config").write_text(json.dumps(config))
         if not (self.folder / "state").exists():
@@ -42,6 +42,14 @@ class WatchedReplica:
     def at(self, word, *more, given=b"", text=False):
         """What a command prints that asks the replica."""
         return self.printed(word, "--at", "socket", *more, given=given, text=text)
+
+    def shown(self, word, *more, text=False):
+        """What a command prints that shows what is held: of the replica, if the command can ask it."""
+        if word not in self.askable:
+            about = subprocess.run([self.program, word, "--help"], capture_output=True, text=True).stdout
+            form = next((line for line in about.splitlines() if f" {word} --at <PATH>" in line), "")
+            self.askable[word] = bool(form) and ("--format" in form or "--format" not in about)
+        return (self.at if self.askable[word] else self.files)(word, *more, text=text)
 
     def printed(self, *words, given=b"", text=False):
         ran = subprocess.run([self.program, *words], input=given, capture_output=True, cwd=self.folder, timeout=60)
