@@ -9,7 +9,7 @@ use Rattle.httparse.proofs.GrammarLemmas.{request_unique}
 use Rattle.health_pages.specs.declared.asked_page.PageFault.{PageFault}
 use Rattle.health_pages.specs.declared.asked_page.PageFault.TheVariants.{BadHead, TooLong}
 use Rattle.health_pages.specs.declared.head_verdict.HeadVerdict.{HeadVerdict}
-use Rattle.health_pages.specs.Heads.{AnswersWhole, EndsAt, IsVerdict, IsVerdictOfHead, RefusesHead, SaysHead}
+use Rattle.health_pages.specs.Heads.{AnswersWhole, EndsAt, IsVerdict, IsVerdictOfHead, RefusesRequest, SaysHead}
 use Rattle.health_pages.specs.Heads.{asked_of, head_end, head_limit, is_head, result_view, with_piece}
 
 -- ---- the place at which a head ends
@@ -55,7 +55,7 @@ no_end bytes p a none = none p a.0.low a.0.high a.1
 abbrev AreSame : HeadVerdict → HeadVerdict → Type 0
 AreSame v w = (v.is_head ≡ w.is_head) × (result_view v.asked ≡ result_view w.asked)
 
-same_refusal : (fault : PageFault) (v w : HeadVerdict) → RefusesHead fault v → RefusesHead fault w → AreSame v w
+same_refusal : (fault : PageFault) (v w : HeadVerdict) → RefusesRequest fault v → RefusesRequest fault w → AreSame v w
 same_refusal fault v w a b = (a.is_head ∙ sym b.is_head, a.asked ∙ sym b.asked)
 
 same_heads : (bytes : List ℕ) (v w : HeadVerdict) → SaysHead bytes v → SaysHead bytes w → AreSame v w

@@ -2,5 +2,5 @@
 use Rattle.std.specs.Prelude.{ℕ, List}
 use Rattle.health_pages.specs.declared.head_bytes.HeadBytes.{HeadBytes}
 
-abbrev pub bytes_come : HeadBytes → List ℕ
-bytes_come head = head.bytes.items
+abbrev pub head_bytes_come : HeadBytes → List ℕ
+head_bytes_come head = head.bytes.items

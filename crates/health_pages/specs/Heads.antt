@@ -40,13 +40,13 @@ abbrev pub is_head : List ℕ → Bool
 is_head method = bytes_eq method (codes "HEAD")
 
 -- the names are equal, in letters of any case
-abbrev pub is_named : List ℕ → List ℕ → Bool
-is_named wanted name = bytes_eq (map to_ascii_lowercase name) (map to_ascii_lowercase wanted)
+abbrev pub has_field_name : List ℕ → List ℕ → Bool
+has_field_name wanted name = bytes_eq (map to_ascii_lowercase name) (map to_ascii_lowercase wanted)
 
 -- the field announces no body (RFC 9112, section 6)
 abbrev pub is_bodiless : List ℕ × List ℕ → Bool
-is_bodiless field = not (is_named (codes "transfer-encoding") field.0)
-    && (not (is_named (codes "content-length") field.0) || bytes_eq field.1 (codes "0"))
+is_bodiless field = not (has_field_name (codes "transfer-encoding") field.0)
+    && (not (has_field_name (codes "content-length") field.0) || bytes_eq field.1 (codes "0"))
 
 -- as many fields `Host` as the version wants: one, or with HTTP/1.0 at most one (section 3.2)
 abbrev pub is_hosted : ℕ → ℕ → Bool
@@ -54,7 +54,7 @@ is_hosted minor count = if minor == 1 then count == 1 else nat_le count 1
 
 abbrev pub are_fine : ℕ → List (List ℕ × List ℕ) → Bool
 are_fine minor fields = list_all is_bodiless fields
-    && is_hosted minor (count_by (λ field. is_named (codes "host") field.0) fields)
+    && is_hosted minor (count_by (λ field. has_field_name (codes "host") field.0) fields)
 
 -- ---- a head
 
@@ -103,13 +103,13 @@ pub record SaysHead (bytes : List ℕ) (v : HeadVerdict) : Type 0 where
   pub asked : result_view v.asked ≡ asked_of head
 
 -- the head is refused without a look at its parts
-pub record RefusesHead (fault : PageFault) (v : HeadVerdict) : Type 0 where
+pub record RefusesRequest (fault : PageFault) (v : HeadVerdict) : Type 0 where
   pub is_head : v.is_head ≡ false
   pub asked : result_view v.asked ≡ Err fault
 
 -- the verdict on all bytes of a head
 abbrev pub IsVerdictOfHead : List ℕ → HeadVerdict → Type 0
-IsVerdictOfHead bytes v = SaysHead bytes v ⊎ (IsNoHead bytes × RefusesHead BadHead v)
+IsVerdictOfHead bytes v = SaysHead bytes v ⊎ (IsNoHead bytes × RefusesRequest BadHead v)
 
 -- ---- bytes that came
 
@@ -131,7 +131,7 @@ pub record AnswersWhole (bytes : List ℕ) (v : HeadVerdict) : Type 0 where
 pub record AnswersLong (bytes : List ℕ) (v : HeadVerdict) : Type 0 where
   pub ends : EndsAt bytes None
   pub long : length bytes ≡ head_limit
-  pub verdict : RefusesHead TooLong v
+  pub verdict : RefusesRequest TooLong v
 
 -- what the bytes that came ask for, or that more has to come
 abbrev pub IsVerdict : List ℕ → Option HeadVerdict → Type 0

@@ -60,8 +60,8 @@ count_value counts SentBytes = counts.sent_bytes
 count_value counts Folds = counts.folds
 count_value counts Began = counts.began
 
-abbrev pub count_text : LoopCounts → LoopCount → List ℕ
-count_text counts count = metric_head (count_name count) (count_help count) (count_kind count)
+abbrev pub counter_text : LoopCounts → LoopCount → List ℕ
+counter_text counts count = metric_head (count_name count) (count_help count) (count_kind count)
     ++ (codes " " ++ (decimal (count_value counts count) ++ codes "\n"))
 
 abbrev pub all_counts : List LoopCount
@@ -73,13 +73,13 @@ abbrev pub zeros_before : ℕ → List ℕ
 zeros_before rest =
     if nat_lt rest 10 then codes "00" else (if nat_lt rest 100 then codes "0" else [])
 
-abbrev pub seconds_text : ℕ → List ℕ
-seconds_text millis = decimal (millis / 1000)
+abbrev pub decimal_seconds : ℕ → List ℕ
+decimal_seconds millis = decimal (millis / 1000)
     ++ (codes "." ++ (zeros_before (millis % 1000) ++ decimal (millis % 1000)))
 
 abbrev pub seconds_gauge : (name help : List ℕ) → ℕ → List ℕ
 seconds_gauge name help millis = metric_head name help (codes "gauge")
-    ++ (codes " " ++ (seconds_text millis ++ codes "\n"))
+    ++ (codes " " ++ (decimal_seconds millis ++ codes "\n"))
 
 abbrev pub turn_text : ℕ → List ℕ
 turn_text millis = seconds_gauge (codes "fedbundle_loop_longest_turn_seconds")
@@ -89,4 +89,4 @@ turn_text millis = seconds_gauge (codes "fedbundle_loop_longest_turn_seconds")
 
 abbrev pub loop_metrics : (version : List ℕ) → LoopCounts → List ℕ
 loop_metrics version counts = version_text version
-    ++ (flat_map (count_text counts) all_counts ++ turn_text counts.longest_turn)
+    ++ (flat_map (counter_text counts) all_counts ++ turn_text counts.longest_turn)

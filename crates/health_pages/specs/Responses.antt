@@ -14,13 +14,13 @@ use Rattle.health_pages.specs.declared.response.ResponseStatus.TheVariants.{TooL
 
 -- ---- the head
 
-abbrev pub status_text : ResponseStatus → List ℕ
-status_text Done = codes "200 OK"
-status_text BadRequest = codes "400 Bad Request"
-status_text NotFound = codes "404 Not Found"
-status_text NotAllowed = codes "405 Method Not Allowed"
-status_text TooLong = codes "431 Request Header Fields Too Large"
-status_text Unavailable = codes "503 Service Unavailable"
+abbrev pub status_phrase : ResponseStatus → List ℕ
+status_phrase Done = codes "200 OK"
+status_phrase BadRequest = codes "400 Bad Request"
+status_phrase NotFound = codes "404 Not Found"
+status_phrase NotAllowed = codes "405 Method Not Allowed"
+status_phrase TooLong = codes "431 Request Header Fields Too Large"
+status_phrase Unavailable = codes "503 Service Unavailable"
 
 abbrev pub type_text : ContentType → List ℕ
 type_text Html = codes "text/html; charset=utf-8"
@@ -43,17 +43,17 @@ policy_line Html = codes "Content-Security-Policy: default-src 'none'; script-sr
     ++ codes "frame-ancestors 'none'\r\n"
 policy_line content = []
 
-abbrev pub ended_line : (label text : List ℕ) → List ℕ
-ended_line label text = label ++ (text ++ codes "\r\n")
+abbrev pub response_line : (label text : List ℕ) → List ℕ
+response_line label text = label ++ (text ++ codes "\r\n")
 
 abbrev pub status_line : ResponseStatus → List ℕ
-status_line status = ended_line (codes "HTTP/1.1 ") (status_text status)
+status_line status = response_line (codes "HTTP/1.1 ") (status_phrase status)
 
 abbrev pub length_line : ℕ → List ℕ
-length_line count = ended_line (codes "Content-Length: ") (decimal count)
+length_line count = response_line (codes "Content-Length: ") (decimal count)
 
-abbrev pub type_line : ContentType → List ℕ
-type_line content = ended_line (codes "Content-Type: ") (type_text content)
+abbrev pub content_line : ContentType → List ℕ
+content_line content = response_line (codes "Content-Type: ") (type_text content)
 
 -- the fields that each response has
 abbrev pub fixed_lines : List ℕ
@@ -66,9 +66,9 @@ further_lines status content = fixed_lines
     ++ (allow_line status ++ (policy_line content ++ codes "\r\n"))
 
 -- the head of a response whose body has so many bytes
-abbrev pub head_text : ResponseStatus → ContentType → ℕ → List ℕ
-head_text status content count = status_line status
-    ++ (length_line count ++ (type_line content ++ further_lines status content))
+abbrev pub response_head : ResponseStatus → ContentType → ℕ → List ℕ
+response_head status content count = status_line status
+    ++ (length_line count ++ (content_line content ++ further_lines status content))
 
 -- ---- the whole
 
@@ -78,7 +78,7 @@ sent_body body is_head = if is_head then [] else body
 
 abbrev pub response_text : ResponseStatus → ContentType → (body : List ℕ) → (is_head : Bool) → List ℕ
 response_text status content body is_head =
-    head_text status content (length body) ++ sent_body body is_head
+    response_head status content (length body) ++ sent_body body is_head
 
 -- ---- what is said of a refusal
 
@@ -89,12 +89,12 @@ fault_status fault.BadMethod = NotAllowed
 fault_status fault.NoPage = NotFound
 fault_status fault.BadFields = BadRequest
 
-abbrev pub fault_text : PageFault → List ℕ
-fault_text fault.TooLong = codes "head too long\n"
-fault_text fault.BadHead = codes "bad head\n"
-fault_text fault.BadMethod = codes "bad method\n"
-fault_text fault.NoPage = codes "no page\n"
-fault_text fault.BadFields = codes "bad fields\n"
+abbrev pub page_fault_text : PageFault → List ℕ
+page_fault_text fault.TooLong = codes "head too long\n"
+page_fault_text fault.BadHead = codes "bad head\n"
+page_fault_text fault.BadMethod = codes "bad method\n"
+page_fault_text fault.NoPage = codes "no page\n"
+page_fault_text fault.BadFields = codes "bad fields\n"
 
 -- ---- what the pages are
 

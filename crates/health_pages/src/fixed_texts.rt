@@ -1,7 +1,7 @@
 //! Bodies that never change.
 ghost use Rattle.std.specs.Prelude.{◌≡◌, option_map};
 ghost use Rattle.health_pages.specs.FixedTexts.{fixed_text};
-ghost use Rattle.health_pages.specs.Responses.{fault_status, fault_text, page_type};
+ghost use Rattle.health_pages.specs.Responses.{fault_status, page_fault_text, page_type};
 
 use crate::asked_page::{Page, PageFault};
 use crate::page_files::{INDEX_HTML, PAGE_CSS, PAGE_JS};
@@ -52,7 +52,7 @@ impl PageFault {
 
     /// The body of the response.
     pub fn text<'a>(self) -> &'a str
-        ensures { result.now ≡ fault_text self }
+        ensures { result.now ≡ page_fault_text self }
     {
         match self {
             PageFault::TooLong => "head too long\n",

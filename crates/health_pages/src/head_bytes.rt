@@ -23,12 +23,12 @@ pub struct HeadBytes {
 
 impl HeadBytes {
     ghost use Rattle.std.specs.Prelude.{◌≡◌, [], OnErr, OnOk};
-    ghost use Rattle.health_pages.specs.HeadParts.{bytes_come};
+    ghost use Rattle.health_pages.specs.HeadParts.{head_bytes_come};
     ghost use Rattle.health_pages.specs.Heads.{with_piece};
 
     /// Nothing came yet.
     pub fn new(alloc: Global) -> HeadBytes
-        ensures { bytes_come result ≡ [] }
+        ensures { head_bytes_come result ≡ [] }
     {
         HeadBytes {
             bytes: Vec::new(alloc),
@@ -40,8 +40,8 @@ impl HeadBytes {
     /// # Errors
     /// Memory ran out. Nothing was taken.
     pub fn take(&mut self, piece: &[u8]) -> Result<(), AllocError>
-        ensures taken { OnOk result (bytes_come self.new ≡ with_piece (bytes_come self.old) piece.now) }
-        ensures left { OnErr result (bytes_come self.new ≡ bytes_come self.old) }
+        ensures taken { OnOk result (head_bytes_come self.new ≡ with_piece (head_bytes_come self.old) piece.now) }
+        ensures left { OnErr result (head_bytes_come self.new ≡ head_bytes_come self.old) }
     {
         let room = MOST_HEAD - self.bytes.len();
         self.bytes
@@ -50,7 +50,7 @@ impl HeadBytes {
 
     /// What the head asks for: `None` as long as it has not come whole, and more of it may come.
     pub fn verdict(&self) -> Option<HeadVerdict<'_>>
-        ensures { IsVerdict (bytes_come self.now) result }
+        ensures { IsVerdict (head_bytes_come self.now) result }
     {
         verdict_of_bytes(self.bytes.as_slice())
     }

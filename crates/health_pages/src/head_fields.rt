@@ -2,7 +2,7 @@
 ghost use Rattle.std.specs.Prelude.{◌≡◌, All, count_by, codes, length, map};
 ghost use Rattle.std.specs.List.{list_all};
 ghost use Rattle.httparse.specs.Spans.{IsHeaderWithin, header_bytes};
-ghost use Rattle.health_pages.specs.Heads.{are_fine, is_bodiless, is_hosted, is_named};
+ghost use Rattle.health_pages.specs.Heads.{are_fine, is_bodiless, is_hosted, has_field_name};
 
 use httparse::spans::HeaderSpan;
 
@@ -29,27 +29,27 @@ fn are_bodiless(head: &[u8], fields: &[HeaderSpan]) -> bool
 fn is_bodiless(name: &[u8], value: &[u8]) -> bool
     ensures { result ≡ is_bodiless (name.now, value.now) }
 {
-    if is_named(b"content-length", name) && value != b"0".as_slice() {
+    if has_field_name(b"content-length", name) && value != b"0".as_slice() {
         return false;
     }
-    !is_named(b"transfer-encoding", name)
+    !has_field_name(b"transfer-encoding", name)
 }
 
 // Whether the name is this one, in letters of any case.
-fn is_named(wanted: &[u8], name: &[u8]) -> bool
-    ensures { result ≡ is_named wanted.now name.now }
+fn has_field_name(wanted: &[u8], name: &[u8]) -> bool
+    ensures { result ≡ has_field_name wanted.now name.now }
 {
     name.eq_ignore_ascii_case(wanted)
 }
 
 fn host_count(head: &[u8], fields: &[HeaderSpan]) -> usize
     requires { All (IsHeaderWithin (length head.now)) fields.now }
-    ensures { result ≡ count_by (λ field. is_named (codes "host") field.0)
+    ensures { result ≡ count_by (λ field. has_field_name (codes "host") field.0)
         (map (header_bytes head.now) fields.now) }
 {
     let mut count: usize = 0;
     'fields: for field in fields {
-        if is_named(b"host", field.name.of(head)) {
+        if has_field_name(b"host", field.name.of(head)) {
             count += 1;
         }
     }

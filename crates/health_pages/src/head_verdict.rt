@@ -1,6 +1,6 @@
 //! What a head asks for, once it has come whole.
 ghost use Rattle.std.specs.Prelude.{◌≡◌, MatchOption, length};
-ghost use Rattle.health_pages.specs.Heads.{IsHeadAt, IsNoHead, IsVerdictOfHead, RefusesHead};
+ghost use Rattle.health_pages.specs.Heads.{IsHeadAt, IsNoHead, IsVerdictOfHead, RefusesRequest};
 ghost use Rattle.health_pages.specs.Heads.{SaysHead, asked_by, field_limit, is_get, is_head};
 ghost use Rattle.health_pages.specs.Heads.{result_view};
 
@@ -23,7 +23,7 @@ pub struct HeadVerdict<'a> {
 
 /// The verdict on a head that is not read.
 pub(crate) fn refused_head<'a>(fault: PageFault) -> HeadVerdict<'a>
-    ensures { RefusesHead fault result }
+    ensures { RefusesRequest fault result }
 {
     HeadVerdict {
         is_head: false,

@@ -1,9 +1,9 @@
 //! What the loop of a replica counts, in the text format of Prometheus.
 ghost use Rattle.std.specs.Prelude.{◌≡◌, ◌++◌, OnOk, flat_map};
 ghost use Rattle.health_pages.specs.LoopMetrics.{all_counts, comment_line, count_help};
-ghost use Rattle.health_pages.specs.LoopMetrics.{count_kind, count_name, count_text, count_value};
+ghost use Rattle.health_pages.specs.LoopMetrics.{count_kind, count_name, counter_text, count_value};
 ghost use Rattle.health_pages.specs.LoopMetrics.{info_text, loop_metrics, metric_head};
-ghost use Rattle.health_pages.specs.LoopMetrics.{seconds_gauge, seconds_text, turn_text};
+ghost use Rattle.health_pages.specs.LoopMetrics.{seconds_gauge, decimal_seconds, turn_text};
 ghost use Rattle.health_pages.specs.LoopMetrics.{version_text, zeros_before};
 
 use byte_lines::push_number;
@@ -94,7 +94,7 @@ fn push_info(out: &mut Vec<u8>, name: &str, help: &str, version: &str) -> Result
 
 fn push_counts(out: &mut Vec<u8>, counts: &LoopCounts) -> Result<(), AllocError>
     ensures { OnOk result (out.new.items
-        ≡ out.old.items ++ flat_map (count_text counts.now) all_counts) }
+        ≡ out.old.items ++ flat_map (counter_text counts.now) all_counts) }
 {
     'counts: for &count in COUNTS.as_slice() {
         push_count(out, counts, count)?;
@@ -103,7 +103,7 @@ fn push_counts(out: &mut Vec<u8>, counts: &LoopCounts) -> Result<(), AllocError>
 }
 
 fn push_count(out: &mut Vec<u8>, counts: &LoopCounts, count: LoopCount) -> Result<(), AllocError>
-    ensures { OnOk result (out.new.items ≡ out.old.items ++ count_text counts.now count) }
+    ensures { OnOk result (out.new.items ≡ out.old.items ++ counter_text counts.now count) }
 {
     push_metric_head(out, count_name(count), count_help(count), count_kind(count))?;
     out.extend_from_slice(b" ")?;
@@ -214,7 +214,7 @@ fn push_seconds_gauge(
 
 // Milliseconds as seconds with three decimals.
 fn push_seconds(out: &mut Vec<u8>, millis: u64) -> Result<(), AllocError>
-    ensures { OnOk result (out.new.items ≡ out.old.items ++ seconds_text millis) }
+    ensures { OnOk result (out.new.items ≡ out.old.items ++ decimal_seconds millis) }
 {
     push_number(out, millis / 1_000)?;
     out.extend_from_slice(b".")?;

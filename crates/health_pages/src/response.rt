@@ -1,10 +1,10 @@
 //! A response as bytes (RFC 9112). No field of its head has a byte that a request chose.
 ghost use Rattle.std.specs.Prelude.{◌≡◌, ◌++◌, IfOk, OnOk};
-ghost use Rattle.health_pages.specs.Responses.{allow_line, ended_line, fixed_lines};
-ghost use Rattle.health_pages.specs.Responses.{further_lines, head_text, length_line};
+ghost use Rattle.health_pages.specs.Responses.{allow_line, response_line, fixed_lines};
+ghost use Rattle.health_pages.specs.Responses.{further_lines, response_head, length_line};
 ghost use Rattle.health_pages.specs.Responses.{policy_line};
-ghost use Rattle.health_pages.specs.Responses.{response_text, status_line, status_text};
-ghost use Rattle.health_pages.specs.Responses.{type_line, type_text};
+ghost use Rattle.health_pages.specs.Responses.{response_text, status_line, status_phrase};
+ghost use Rattle.health_pages.specs.Responses.{content_line, type_text};
 
 use byte_lines::push_number;
 use std::alloc::{AllocError, Global};
@@ -66,7 +66,7 @@ fn push_head(
     content: ContentType,
     count: u64,
 ) -> Result<(), AllocError>
-    ensures { OnOk result (out.new.items ≡ out.old.items ++ head_text status content count) }
+    ensures { OnOk result (out.new.items ≡ out.old.items ++ response_head status content count) }
 {
     push_status_line(out, status)?;
     push_length_line(out, count)?;
@@ -77,11 +77,11 @@ fn push_head(
 fn push_status_line(out: &mut Vec<u8>, status: ResponseStatus) -> Result<(), AllocError>
     ensures { OnOk result (out.new.items ≡ out.old.items ++ status_line status) }
 {
-    push_line(out, "HTTP/1.1 ", status_text(status))
+    push_line(out, "HTTP/1.1 ", status_phrase(status))
 }
 
 fn push_line(out: &mut Vec<u8>, label: &str, text: &str) -> Result<(), AllocError>
-    ensures { OnOk result (out.new.items ≡ out.old.items ++ ended_line label.now text.now) }
+    ensures { OnOk result (out.new.items ≡ out.old.items ++ response_line label.now text.now) }
 {
     push_text(out, label)?;
     push_text(out, text)?;
@@ -97,7 +97,7 @@ fn push_length_line(out: &mut Vec<u8>, count: u64) -> Result<(), AllocError>
 }
 
 fn push_type_line(out: &mut Vec<u8>, content: ContentType) -> Result<(), AllocError>
-    ensures { OnOk result (out.new.items ≡ out.old.items ++ type_line content) }
+    ensures { OnOk result (out.new.items ≡ out.old.items ++ content_line content) }
 {
     push_line(out, "Content-Type: ", type_text(content))
 }
@@ -128,8 +128,8 @@ fn fixed_lines<'a>() -> &'a str
     "Connection: close\r\nX-Content-Type-Options: nosniff\r\nCache-Control: no-store\r\n"
 }
 
-fn status_text<'a>(status: ResponseStatus) -> &'a str
-    ensures { result.now ≡ status_text status }
+fn status_phrase<'a>(status: ResponseStatus) -> &'a str
+    ensures { result.now ≡ status_phrase status }
 {
     match status {
         ResponseStatus::Done => "200 OK",

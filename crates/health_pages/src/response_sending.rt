@@ -14,11 +14,11 @@ pub struct ResponseSending {
 }
 
 impl ResponseSending {
-    ghost use Rattle.health_pages.specs.Sending.{due_part, left_of_body, left_of_head, unsent};
+    ghost use Rattle.health_pages.specs.Sending.{response_due, left_of_body, left_of_response, response_unsent};
 
     /// Nothing of the response is sent yet.
     pub fn new(response: PageResponse) -> ResponseSending
-        ensures { unsent result ≡ response.head.items ++ response.body.items }
+        ensures { response_unsent result ≡ response.head.items ++ response.body.items }
     {
         ResponseSending {
             response,
@@ -42,7 +42,7 @@ impl ResponseSending {
 
     /// What is to be sent next: nothing only if all is sent.
     pub fn output(&self) -> &[u8]
-        ensures { result.now ≡ due_part self.now }
+        ensures { result.now ≡ response_due self.now }
     {
         let head = &self.response.head[self.head_sent..];
         if !head.is_empty() {
@@ -53,8 +53,8 @@ impl ResponseSending {
 
     /// Says that the first `count` bytes of what was to be sent were sent.
     pub fn wrote(&mut self, count: usize)
-        requires { count ≤ length (due_part self.old) }
-        ensures { unsent self.new ≡ drop count (unsent self.old) }
+        requires { count ≤ length (response_due self.old) }
+        ensures { response_unsent self.new ≡ drop count (response_unsent self.old) }
     {
         if self.head_sent < self.response.head.len() {
             self.head_sent += count;

@@ -1,5 +1,6 @@
 mod DomainKeyFacts
 mod ListingFacts
+mod MatchingFacts
 mod MetFacts
 mod PieceFacts
 mod PublicKeyFacts

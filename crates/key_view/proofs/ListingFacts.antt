@@ -17,11 +17,11 @@ use Rattle.bundle_doc.specs.declared.document.DocId.{DocId}
 use Rattle.receipt_core.specs.Receipt.{key_cmp}
 use Rattle.receipt_core.specs.declared.distrust.Distrust.{Distrust}
 use Rattle.key_view.specs.KnownKeys.{is_one_key}
-use Rattle.key_view.specs.KeyEntries.{IsKeyEntry, bundle_ids, bundle_lists, is_own_id, is_some_key}
+use Rattle.key_view.specs.KeyEntries.{IsKeyEntry, bundle_ids, bundle_lists, is_own_id}
 use Rattle.key_view.specs.declared.known_entry.KeyEntry.{KeyEntry}
 use Rattle.key_view.specs.declared.listings.Listing.{Listing}
 use Rattle.key_view.specs.declared.met_keys.KnownKey.{KnownKey}
-use Rattle.key_view.specs.Inside.Listed.{AddsKey, AddsListed, AreListings, IsBefore, IsListedEntry, ids_of, last_of, listing_at, with_id}
+use Rattle.key_view.specs.Inside.Listed.{AddsKey, AddsListed, AreListings, ListsBefore, IsListedEntry, ids_of, last_listed, listing_at, with_id}
 use Rattle.key_view.proofs.MetFacts.{same_key}
 
 -- ---- one key
@@ -35,9 +35,9 @@ new_ids true new old listing picked e h = ap ids_of e ∙ h refl
 new_ids false new old listing picked e h = ap ids_of e
 
 new_last : (b : Bool) (new old : Option Listing) (listing : Listing) (number : ℕ) → new ≡ cond b (Some listing) (cond b None old)
-    → listing.last ≡ number → last_of new ≡ cond b number (last_of old)
-new_last true new old listing number e h = ap last_of e ∙ h
-new_last false new old listing number e h = ap last_of e
+    → listing.last ≡ number → last_listed new ≡ cond b number (last_listed old)
+new_last true new old listing number e h = ap last_listed e ∙ h
+new_last false new old listing number e h = ap last_listed e
 
 -- what was known of the key was taken out, and put back with the document: the step of `list_key`
 pub key_listed : (id : DocId) (number : ℕ) (key : KeyId) (old mid new : BTreeMap KeyId Listing) (before : Option Listing) (listing : Listing)
@@ -64,11 +64,11 @@ nat_eq_below : (m n : ℕ) → m < n → nat_eq m n ≡ false
 nat_eq_below m n low = grind (arith, low)
 
 -- before the first authority
-pub listed_none : (id : DocId) (number : ℕ) (m : BTreeMap KeyId Listing) → IsBefore number m → AddsListed id number [] m m
+pub listed_none : (id : DocId) (number : ℕ) (m : BTreeMap KeyId Listing) → ListsBefore number m → AddsListed id number [] m m
 listed_none id number m before = record {
   ids = λ key. sym (append-nil (ids_of (listing_at m key)));
-  last = λ key. nat_eq_below (last_of (listing_at m key)) number (before.low key);
-  low = λ key. let low : last_of (listing_at m key) < number = before.low key in omega arith;
+  last = λ key. nat_eq_below (last_listed (listing_at m key)) number (before.low key);
+  low = λ key. let low : last_listed (listing_at m key) < number = before.low key in omega arith;
 }
 
 more_ids : (b c : Bool) (old mid new : List DocId) (id : DocId) → mid ≡ old ++ cond b (id ∷ []) []
@@ -96,10 +96,10 @@ adds_more id number authorities a old mid new so more = record {
       (more.ids key ∙ ap (λ b. cond (is_own_id key a) (cond b (ids_of (listing_at mid key)) (ids_of (listing_at mid key) ++ id ∷ []))
       (ids_of (listing_at mid key))) (so.last key))
       ∙ ap (λ b. ids_of (listing_at old key) ++ cond b (id ∷ []) []) (sym (list_any-append (is_own_id key) authorities (a ∷ [])));
-  last = λ key. more_last (list_any (is_own_id key) authorities) (is_own_id key a) (last_of (listing_at mid key)) (last_of (listing_at new key)) number
+  last = λ key. more_last (list_any (is_own_id key) authorities) (is_own_id key a) (last_listed (listing_at mid key)) (last_listed (listing_at new key)) number
       (so.last key) (more.last key)
       ∙ sym (list_any-append (is_own_id key) authorities (a ∷ []));
-  low = λ key. more_low (is_own_id key a) (last_of (listing_at mid key)) (last_of (listing_at new key)) number (so.low key) (more.last key);
+  low = λ key. more_low (is_own_id key a) (last_listed (listing_at mid key)) (last_listed (listing_at new key)) number (so.low key) (more.last key);
 }
 
 -- one more authority: the step of the loop in `list_document`
@@ -120,7 +120,7 @@ listed_all id number authorities k old new high so = subst (λ xs. AddsListed id
 -- so many documents were looked at
 pub record AreListed (domain : List ℕ) (accepted : List Bundle) (k : ℕ) (listings : BTreeMap KeyId Listing) : Type 0 where
   pub are : AreListings domain (take k accepted) listings
-  pub before : IsBefore (k + 1) listings
+  pub before : ListsBefore (k + 1) listings
 
 none_at : (m : BTreeMap KeyId Listing) (key : KeyId) → m.entries ≡ [] → listing_at m key ≡ None
 none_at m key empty = ap (λ es. lookup (is_at (key_cmp key)) es) empty
@@ -129,7 +129,7 @@ none_at m key empty = ap (λ es. lookup (is_at (key_cmp key)) es) empty
 pub listings_none : (domain : List ℕ) (accepted : List Bundle) (m : BTreeMap KeyId Listing) → m.entries ≡ [] → AreListed domain accepted 0 m
 listings_none domain accepted m empty = record {
   are = record { ids = λ key. ap ids_of (none_at m key empty) };
-  before = record { low = λ key. let none : last_of (listing_at m key) ≡ 0 = ap last_of (none_at m key empty) in omega arith };
+  before = record { low = λ key. let none : last_listed (listing_at m key) ≡ 0 = ap last_listed (none_at m key empty) in omega arith };
 }
 
 one_more : (b : Bool) (id : DocId) (others : List DocId) → cond b (id ∷ others) others ≡ cond b (id ∷ []) [] ++ others
@@ -162,7 +162,7 @@ listings_more domain accepted k d id number old new low is so is_id is_number mo
             ∙ ap (bundle_ids domain key) (sym taken);
       };
       before = record {
-        low = λ key. let high : last_of (listing_at new key) ≤ number = more.low key in omega arith;
+        low = λ key. let high : last_listed (listing_at new key) ≤ number = more.low key in omega arith;
       };
     }
 

@@ -2,8 +2,8 @@
 //! each document is hashed once.
 ghost use Rattle.std.specs.Prelude.{◌≡◌, IfOk, OnOk, Some};
 ghost use Rattle.jwk_set.specs.Element.{key_id_of};
-ghost use Rattle.key_view.specs.Inside.Listed.{AddsKey, AddsListed, AreListings, IsBefore};
-ghost use Rattle.key_view.specs.Inside.Listed.{ids_of, last_of, listing_at, with_id};
+ghost use Rattle.key_view.specs.Inside.Listed.{AddsKey, AddsListed, AreListings, ListsBefore};
+ghost use Rattle.key_view.specs.Inside.Listed.{ids_of, last_listed, listing_at, with_id};
 
 use crate::key_listing::AcceptedBundle;
 use bundle_doc::DocId;
@@ -74,7 +74,7 @@ fn list_document(
     document: Numbered,
     authorities: &[Authority],
 ) -> Result<(), AllocError>
-    requires { IsBefore document.number listings.old }
+    requires { ListsBefore document.number listings.old }
     ensures { OnOk result (AddsListed document.id document.number authorities.now listings.old
         listings.new) }
 {
@@ -134,7 +134,7 @@ fn with_document(
 
 fn listing_or_none(alloc: Global, before: Option<Listing>) -> Listing
     ensures ids { result.ids.items ≡ ids_of before }
-    ensures last { result.last ≡ last_of before }
+    ensures last { result.last ≡ last_listed before }
 {
     match before {
         Some(listing) => listing,

@@ -121,8 +121,9 @@ full_warnings s =
 
 -- ---- the whole
 
--- what is looked at: how the replica stands, the certificates of current bundles, the keys that have
--- the public key of a distrusted one, how domains are fetched, the peers, and when the replica began
+-- what is looked at: how the replica stands, the certificates of current bundles, the keys that
+-- have the public key of a distrusted one, how domains are fetched, the peers, and when the replica
+-- began
 -- that has them
 pub record Sight : Type 0 where
   pub status : Status

@@ -19,9 +19,9 @@ ids_of None = []
 ids_of (Some listing) = listing.ids.items
 
 -- the number of the document that was the last, and 0 for none
-abbrev pub last_of : Option Listing → ℕ
-last_of None = 0
-last_of (Some listing) = listing.last
+abbrev pub last_listed : Option Listing → ℕ
+last_listed None = 0
+last_listed (Some listing) = listing.last
 
 -- what is known of the key
 abbrev pub listing_at : BTreeMap KeyId Listing → KeyId → Option Listing
@@ -29,7 +29,7 @@ listing_at listings key = get key_cmp listings key
 
 -- the ids with this one, if this document was not the last
 abbrev pub with_id : DocId → ℕ → Option Listing → List DocId
-with_id id number listing = cond (nat_eq (last_of listing) number) (ids_of listing)
+with_id id number listing = cond (nat_eq (last_listed listing) number) (ids_of listing)
     (ids_of listing ++ id ∷ [])
 
 -- The document's id was added for the key, if there is one, unless this document was the last.
@@ -38,21 +38,21 @@ pub record AddsKey (id : DocId) (number : ℕ) (own : Option KeyId)
   pub ids : (key : KeyId) → ids_of (listing_at new key)
       ≡ cond (is_some_key own key) (with_id id number (listing_at old key))
       (ids_of (listing_at old key))
-  pub last : (key : KeyId) → last_of (listing_at new key)
-      ≡ cond (is_some_key own key) number (last_of (listing_at old key))
+  pub last : (key : KeyId) → last_listed (listing_at new key)
+      ≡ cond (is_some_key own key) number (last_listed (listing_at old key))
 
 -- No document with this number, or a higher one, was looked at.
-pub record IsBefore (number : ℕ) (listings : BTreeMap KeyId Listing) : Type 0 where
-  pub low : (key : KeyId) → last_of (listing_at listings key) < number
+pub record ListsBefore (number : ℕ) (listings : BTreeMap KeyId Listing) : Type 0 where
+  pub low : (key : KeyId) → last_listed (listing_at listings key) < number
 
 -- The document's id was added, once, for each key that one of the authorities has.
 pub record AddsListed (id : DocId) (number : ℕ) (authorities : List Authority)
     (old new : BTreeMap KeyId Listing) : Type 0 where
   pub ids : (key : KeyId) → ids_of (listing_at new key) ≡ ids_of (listing_at old key)
       ++ cond (list_any (is_own_id key) authorities) (id ∷ []) []
-  pub last : (key : KeyId) → nat_eq (last_of (listing_at new key)) number
+  pub last : (key : KeyId) → nat_eq (last_listed (listing_at new key)) number
       ≡ list_any (is_own_id key) authorities
-  pub low : (key : KeyId) → last_of (listing_at new key) ≤ number
+  pub low : (key : KeyId) → last_listed (listing_at new key) ≤ number
 
 -- For each key these are the ids of the documents that list it.
 pub record AreListings (domain : List ℕ) (accepted : List Bundle)

@@ -1,4 +1,4 @@
-use Rattle.std.proofs.Common.{◌≡◌, ◌++◌, drop, flat_map, map, option_copied}
+use Rattle.std.proofs.Common.{◌≡◌, ◌++◌, drop, flat_map, option_copied}
 use Rattle.key_view.specs.KeysText.{domain_jsons}
 use Rattle.key_view.proofs.keys_writer.key_jsons.Given as goal
 

@@ -1,4 +1,4 @@
-use Rattle.std.proofs.Common.{◌≡◌, ◌++◌, drop, flat_map, map, option_copied}
+use Rattle.std.proofs.Common.{◌≡◌, ◌++◌, drop, flat_map, option_copied}
 use Rattle.key_view.specs.KeysText.{domain_lines}
 use Rattle.key_view.proofs.keys_writer.keys_lines.Given as goal
 

@@ -1,9 +1,7 @@
-use Rattle.std.proofs.Common.{◌≡◌, [], map, ◌++◌, ◌∙◌, ap, codes, sym, subst}
-use Rattle.hex.specs.Hex.{encode_lower}
+use Rattle.std.proofs.Common.{[], map, ◌++◌, ◌∙◌, ap, codes}
 use Rattle.json_text.specs.JsonText.{array_member, digest_member, string_member, truth_member}
-use Rattle.key_view.specs.KeyEntries.{has_distrusted_key}
-use Rattle.key_view.specs.KeysText.{labelled, closing, key_number, parts_text, parts_json, yes_or_no, bundles_text, quoted_id}
-use Rattle.key_view.proofs.PieceFacts.{three_pieces, four_pieces, seven_pieces}
+use Rattle.key_view.specs.KeysText.{quoted_id}
+use Rattle.key_view.proofs.PieceFacts.{seven_pieces}
 use Rattle.key_view.proofs.keys_writer.known_key_json.Goals as goal
 
 pub returns : goal.returns

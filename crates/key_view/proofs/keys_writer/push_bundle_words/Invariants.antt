@@ -1,4 +1,4 @@
-use Rattle.std.proofs.Common.{◌≡◌, ◌++◌, drop, flat_map, map, option_copied}
+use Rattle.std.proofs.Common.{◌≡◌, ◌++◌, drop}
 use Rattle.key_view.specs.KeysText.{bundle_words}
 use Rattle.key_view.proofs.keys_writer.push_bundle_words.Given as goal
 

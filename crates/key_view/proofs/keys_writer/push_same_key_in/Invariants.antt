@@ -1,4 +1,4 @@
-use Rattle.std.proofs.Common.{◌≡◌, ◌++◌, drop, flat_map, map, option_copied}
+use Rattle.std.proofs.Common.{◌≡◌, ◌++◌, drop, flat_map}
 use Rattle.key_view.specs.KeysText.{same_key_line}
 use Rattle.key_view.proofs.keys_writer.push_same_key_in.Given as goal
 

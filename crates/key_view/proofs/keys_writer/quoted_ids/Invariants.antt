@@ -1,4 +1,4 @@
-use Rattle.std.proofs.Common.{◌≡◌, ◌++◌, drop, flat_map, map, option_copied}
+use Rattle.std.proofs.Common.{◌≡◌, ◌++◌, drop, map}
 use Rattle.key_view.specs.KeysText.{quoted_id}
 use Rattle.key_view.proofs.keys_writer.quoted_ids.Given as goal
 
