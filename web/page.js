@@ -32,7 +32,7 @@ async function readAll() {
   show();
   const domain = byId("chosen").value;
   if (domain && seen.drawn !== domain) {
-    const graph = graphOf(await textOf(`graph.dot?domain=${encodeURIComponent(domain)}`));
+    const graph = graphOf(await textOf(`graph.dot?domain=${domain}`));
     if (byId("chosen").value !== domain) return;
     showGraph(graph, domain);
     seen.drawn = domain;
@@ -71,6 +71,7 @@ const WARNINGS = {
   "locked-out": ["bad", () => "has no trusted X.509 authority in its current bundle", "It needs a new seed."],
   "conflict": ["warn", () => "has several accepted bundles with one sequence number", "Ask the domain's owner."],
   "no-sequence": ["warn", () => "has several accepted bundles, and the current has no number", "Ask for a number."],
+  "same-key": ["bad", (w) => `accepts key ${w.key}, which has the public key of a distrusted key`, "Distrust it, too."],
   "expires": ["warn", (w) => `has a certificate that ends at ${clock(w.not_after)}, of key ${w.key}`,
     "Look whether the domain's next bundle is fetched."],
   "not-fetched": ["warn", (w) => `was last fetched: ${w.fetched === null ? "never" : clock(w.fetched)}`,
@@ -96,7 +97,7 @@ function warningsOf(status) {
 }
 
 const ERRORS = {
-  S2: "another configuration", S3: "another format", S9: "no connection, or it failed", bytes: "too many bytes",
+  S2: "another configuration", S9: "no connection, or it failed", bytes: "too many bytes",
 };
 
 // ---- how it is shown
@@ -318,6 +319,7 @@ function showGraph(graph, domain) {
       ...boxes.map((box) => drawBox(domain, box)), ...arrows.flatMap(drawArrow)));
   }
   put(byId("graph"), drawn);
+  byId("graph").scrollTop = 1e6;
 }
 
 // ---- again and again
@@ -329,7 +331,7 @@ async function look() {
     await readAll();
     seen.at = now();
     if (!seen.isWhole) failed = "The keys were not read. Look now tries it again.";
-    byId("looked").textContent = `Seen at ${clock(seen.at)} UTC, and again every ${EVERY / 1000} s.`;
+    byId("looked").textContent = `Seen at ${clock(seen.at)} UTC, and again every 15 s.`;
   } catch (error) {
     failed = `The last look failed at ${clock(now())} UTC (${error.message}). `
       + (seen.at ? `What is below was seen at ${clock(seen.at)}.` : "Not all was seen yet.");

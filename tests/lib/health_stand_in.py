@@ -72,10 +72,11 @@ def read_head(stream, until):
 
 
 class StandIn:
-    """An address of health for a replica that runs in `folder`, with these names of its files there."""
+    """An address of health for a replica that runs in `folder`, with these names of its files there. A peer may be quiet for so
+    many seconds."""
 
-    def __init__(self, program, folder, config="config", state="state", path="socket", port=0):
-        self.program, self.folder = program, folder
+    def __init__(self, program, folder, config="config", state="state", path="socket", port=0, quiet=600):
+        self.program, self.folder, self.quiet, self.began = program, folder, quiet, time.time()
         self.files = ["--config", config, "--state", state]
         self.at = ["--at", path]
         self.listener = socket.create_server(("127.0.0.1", port), backlog=64)
@@ -141,8 +142,8 @@ class StandIn:
             return reply_of(200, b"live\n")
         if path == "/ready":
             peers = json.loads(self.printed("status", *self.at, "--format", "json"))["peers"]
-            is_ready = not peers or any(peer["ended_well"] is not None for peer in peers)
-            return reply_of(200, b"ready\n") if is_ready else reply_of(503, b"no peer was heard yet\n")
+            heard = [time.time() - (peer["ended_well"] or self.began) < self.quiet for peer in peers]
+            return reply_of(200, b"ready\n") if any(heard) or not peers else reply_of(503, b"all peers are quiet\n")
         if path == "/metrics":
             body = self.printed("status", *self.at, "--format", "prometheus")
             return reply_of(200, body + LOOP, "text/plain; version=0.0.4; charset=utf-8")

@@ -21,11 +21,12 @@ def has_health(program):
 
 class WatchedReplica:
     """A replica in a folder of its own, with this configuration and these receipts. It runs from its start to its stop, or
-    to the end of its holder. Where it has a stand-in, that one answers at its address of health."""
+    to the end of its holder. Where it has a stand-in, that one answers at its address of health. A peer may be quiet for so many
+    seconds."""
 
-    def __init__(self, program, folder, config, receipts=(), words=(), has_stand_in=False):
-        self.program, self.folder, self.words = program, Path(folder), list(words)
-        self.has_stand_in, self.process, self.stand_in = has_stand_in, None, None
+    def __init__(self, program, folder, config, receipts=(), words=(), has_stand_in=False, quiet=600):
+        self.program, self.folder, self.words, self.quiet = program, Path(folder), list(words), quiet
+        self.has_stand_in, self.process, self.stand_in, self.askable = has_stand_in, None, None, {}
         self.folder.mkdir(parents=True, exist_ok=True)
         (self.folder / "config").write_text(json.dumps(config))
         if not (self.folder / "state").exists():
@@ -42,6 +43,14 @@ class WatchedReplica:
         """What a command prints that asks the replica."""
         return self.printed(word, "--at", "socket", *more, given=given, text=text)
 
+    def shown(self, word, *more, text=False):
+        """What a command prints that shows what is held: of the replica, if the command can ask it."""
+        if word not in self.askable:
+            about = subprocess.run([self.program, word, "--help"], capture_output=True, text=True).stdout
+            form = next((line for line in about.splitlines() if f" {word} --at <PATH>" in line), "")
+            self.askable[word] = bool(form) and ("--format" in form or "--format" not in about)
+        return (self.at if self.askable[word] else self.files)(word, *more, text=text)
+
     def printed(self, *words, given=b"", text=False):
         ran = subprocess.run([self.program, *words], input=given, capture_output=True, cwd=self.folder, timeout=60)
         if ran.returncode > 1:
@@ -52,14 +61,14 @@ class WatchedReplica:
         return json.loads(self.at("status", "--format", "json"))
 
     def __enter__(self):
-        health = [] if self.has_stand_in else ["--health", "127.0.0.1:0"]
+        health = [] if self.has_stand_in else ["--health", "127.0.0.1:0", "--peer-quiet", str(self.quiet)]
         words = [self.program, "replica", "--config", "config", "--state", "state", "--socket", "socket", *health, *self.words]
         with open(self.folder / "log", "wb") as log:
             self.process = subprocess.Popen(words, cwd=self.folder, stdin=subprocess.DEVNULL, stdout=subprocess.PIPE, stderr=log)
         if not self.process.stdout.readline().startswith(b"ready "):
             raise OSError(f"the replica did not start: {self.said()}")
         if self.has_stand_in:
-            self.stand_in = StandIn(self.program, self.folder)
+            self.stand_in = StandIn(self.program, self.folder, quiet=self.quiet)
             self.address = self.stand_in.address
         else:
             self.address = self.printed_address()

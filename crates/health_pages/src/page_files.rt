@@ -101,9 +101,7 @@ differ in</th>
 </main>
 <footer>
 <p>Configuration <code id=\"config\">not known yet</code></p>
-<p>Times are UTC. For programs: <a href=\"status.json\">status</a>, <a \
-href=\"report.json\">report</a>,
-<a href=\"keys.json\">keys</a>, <a href=\"graph.dot\">graph</a>, <a \
+<p>Times are UTC. For programs: <a href=\"status.json\">status.json</a>, <a \
 href=\"metrics\">metrics</a>.</p>
 </footer>
 </body>
@@ -252,7 +250,7 @@ async function readAll() {
   show();
   const domain = byId(\"chosen\").value;
   if (domain && seen.drawn !== domain) {
-    const graph = graphOf(await textOf(`graph.dot?domain=${encodeURIComponent(domain)}`));
+    const graph = graphOf(await textOf(`graph.dot?domain=${domain}`));
     if (byId(\"chosen\").value !== domain) return;
     showGraph(graph, domain);
     seen.drawn = domain;
@@ -297,6 +295,8 @@ needs a new seed.\"],
 the domain's owner.\"],
   \"no-sequence\": [\"warn\", () => \"has several accepted bundles, and the current has no \
 number\", \"Ask for a number.\"],
+  \"same-key\": [\"bad\", (w) => `accepts key ${w.key}, which has the public key of a distrusted \
+key`, \"Distrust it, too.\"],
   \"expires\": [\"warn\", (w) => `has a certificate that ends at ${clock(w.not_after)}, of key \
 ${w.key}`,
     \"Look whether the domain's next bundle is fetched.\"],
@@ -328,8 +328,7 @@ ${seed.id}`, \"It authenticates nothing.\"]);
 }
 
 const ERRORS = {
-  S2: \"another configuration\", S3: \"another format\", S9: \"no connection, or it failed\", \
-bytes: \"too many bytes\",
+  S2: \"another configuration\", S9: \"no connection, or it failed\", bytes: \"too many bytes\",
 };
 
 // ---- how it is shown
@@ -582,6 +581,7 @@ also below as a list\" },
       ...boxes.map((box) => drawBox(domain, box)), ...arrows.flatMap(drawArrow)));
   }
   put(byId(\"graph\"), drawn);
+  byId(\"graph\").scrollTop = 1e6;
 }
 
 // ---- again and again
@@ -593,8 +593,7 @@ async function look() {
     await readAll();
     seen.at = now();
     if (!seen.isWhole) failed = \"The keys were not read. Look now tries it again.\";
-    byId(\"looked\").textContent = `Seen at ${clock(seen.at)} UTC, and again every ${EVERY / 1000} \
-s.`;
+    byId(\"looked\").textContent = `Seen at ${clock(seen.at)} UTC, and again every 15 s.`;
   } catch (error) {
     failed = `The last look failed at ${clock(now())} UTC (${error.message}). `
       + (seen.at ? `What is below was seen at ${clock(seen.at)}.` : \"Not all was seen yet.\");
