@@ -13,7 +13,7 @@ use Rattle.text_lines.specs.TextLines.{BeginsSome}
 use Rattle.fedbundle.specs.CommandRun.{CommandRun, DeviceRun, HasFailed, WritesNothing}
 use Rattle.fedbundle.specs.Errors.{of_read, of_report, of_run}
 use Rattle.fedbundle.specs.Polls.{RunsPollsIn, polls_call}
-use Rattle.fedbundle.specs.Shown.{IsUntouched, RefusesUnwritten, RunsWriter, ShownCall, ShowsBy, ShowsPolled, ShowsSight, StatusSight, polls_form}
+use Rattle.fedbundle.specs.Shown.{IsListIn, IsUntouched, RefusesUnwritten, RunsWriter, ShownCall, ShowsBy, ShowsPolled, ShowsSight, StatusSight, polls_form}
 use Rattle.poll_view.specs.declared.polls_writer.PollsForm.{PollsForm}
 use Rattle.command_line.specs.declared.option_texts.OutputForm.{OutputForm}
 use Rattle.fedbundle.specs.declared.error.CommandError.{CommandError}
@@ -75,3 +75,9 @@ none_shown name call run report list graph bundle explain polls status distrust 
 pub sight_by : (path : List ℕ) (said : Option (List ℕ)) (sight : StatusSight) (run : CommandRun) (result : Result ℕ Exit) → Some path ≡ said
     → ShowsPolled sight run result → ShowsSight said sight run result
 sight_by path said sight run result is shows = subst (λ text. ShowsSight text sight run result) is shows
+
+-- what is listed of a domain that is chosen
+pub list_chosen : (of_keys : Bool) (form : OutputForm) (m : Meaning) (a b : Option (List ℕ)) (sink : DeviceRun)
+    (answer : Result (Unit {0}) CommandError) → a ≡ b → RunsWriter (IsListIn of_keys form m a) sink answer
+    → RunsWriter (IsListIn of_keys form m b) sink answer
+list_chosen of_keys form m a b sink answer is runs = subst (λ chosen. RunsWriter (IsListIn of_keys form m chosen) sink answer) is runs

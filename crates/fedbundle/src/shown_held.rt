@@ -21,6 +21,13 @@ use replica_view::{write_graph, write_held, write_held_json};
 use spiffe_name::TrustDomain;
 use std::alloc::Global;
 
+/// What is listed, and how.
+#[derive(Clone, Copy, Debug)]
+struct Listing {
+    form: OutputForm,
+    is_of_keys: bool,
+}
+
 /// Each receipt and each record of distrust, or what is known of each key; or those of a domain.
 pub(crate) fn list<C: Closure, W: Sink>(
     alloc: Global,
@@ -34,11 +41,8 @@ pub(crate) fn list<C: Closure, W: Sink>(
     let form = read_output_form(given(shown.call, OptionName::Format))?;
     let is_of_keys = is_flag_given(given(shown.call, OptionName::Keys));
     let chosen = chosen_domain(alloc, shown.call)?;
-    if is_of_keys {
-        keys_in(alloc, closure, form, chosen.as_ref(), sink)?;
-    } else {
-        held_in(alloc, closure, form, chosen.as_ref(), sink)?;
-    }
+    let listing = Listing { form, is_of_keys };
+    list_in(alloc, closure, listing, chosen.as_ref(), sink)?;
     Ok(0)
 }
 
@@ -64,6 +68,23 @@ fn chosen_domain(alloc: Global, call: &Call<'_>) -> Result<Option<TrustDomain>, 
     match given(call, OptionName::OptionalDomain) {
         Some(text) => Ok(Some(read_domain(alloc, text)?)),
         None => Ok(None),
+    }
+}
+
+fn list_in<C: Closure, W: Sink>(
+    alloc: Global,
+    closure: &C,
+    listing: Listing,
+    chosen: Option<&TrustDomain>,
+    sink: &mut W,
+) -> Result<(), CommandError>
+    ensures { RunsWriter (IsListIn listing.is_of_keys listing.form (C.state closure.now).meaning
+        (option_copied chosen.entry))
+        (device_run W.contents W.has_failed sink.old sink.new) result }
+{
+    match listing.is_of_keys {
+        true => keys_in(alloc, closure, listing.form, chosen, sink),
+        false => held_in(alloc, closure, listing.form, chosen, sink),
     }
 }
 
