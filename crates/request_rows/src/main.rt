@@ -6,9 +6,13 @@
 //! - `reply = LINE`: what a reply's first line says,
 //! - `head ERRORS OUTPUT STATUS`: the first line of a reply with these numbers,
 //! - `parts SIZE = BYTES`: the words and the input of a request that comes in pieces of this size,
-//! - `fault NAME`: what is replied for a fault.
+//! - `fault NAME`: what is replied for a fault,
+//! - `ask SIZE = BYTES`: what a request asks for that comes in pieces of this size,
+//! - `response STATUS TYPE METHOD = BODY`: a response,
+//! - `counts BEGAN MILLIS`: the metrics of a loop.
 #![tactic(auto)]
 
+mod pages;
 mod parts;
 mod replies;
 mod requests;
@@ -42,6 +46,9 @@ impl Rows for Calls {
             "head" => replies::write(self.alloc, row.words, answer),
             "parts" => parts::take(self.alloc, row.words, text, answer),
             "fault" => parts::reply(self.alloc, row.words, answer),
+            "ask" => pages::ask(self.alloc, row.words, text, answer),
+            "response" => pages::respond(self.alloc, row.words, text, answer),
+            "counts" => pages::count(self.alloc, row.words, answer),
             _ => answer.push_str("unknown verb\n"),
         }
     }
