@@ -1,6 +1,7 @@
 -- What a page of a running replica shows, in the words of the request that it stands for.
 use Rattle.std.specs.Prelude.{◌≡◌, ℕ, List, [], ◌∷◌, ◌++◌, ◌==◌, ◌&&◌, Bool, codes, decimal}
-use Rattle.std.specs.Prelude.{flat_map, if◌then◌else◌, length, MatchBool, nat_lt, Option, Some, None}
+use Rattle.std.specs.Prelude.{flat_map, if◌then◌else◌, length, MatchBool, nat_lt, Option, Some}
+use Rattle.std.specs.Prelude.{None}
 use Rattle.serde_json.specs.Written.{compact_text}
 use Rattle.fedbundle.specs.CommandRun.{StateRun}
 use Rattle.status_warnings.specs.WarningLines.{lines_of_warnings}
@@ -121,7 +122,8 @@ abbrev pub ShowsUnlessFixed : Option (List ℕ) → PageSource → StateRun
 ShowsUnlessFixed (Some text) source state page domain answer =
     IsAnswer Done (page_type page) text answer
 ShowsUnlessFixed None source state Ready domain answer = IsReadyAnswer source answer
-ShowsUnlessFixed None source state page domain answer = ShowsReply source state (page, domain) answer
+ShowsUnlessFixed None source state page domain answer =
+    ShowsReply source state (page, domain) answer
 
 -- what a page shows: a text that never changes, whether a peer is heard, or a reply
 abbrev pub ShowsPage : PageSource → StateRun → Page × Option (List ℕ) → PageAnswer → Type 0

@@ -1,4 +1,4 @@
-//! What is said on a connection: a local request, a request for a page, an answer to another replica,
+//! What is said on a connection: a local request, a request for a page, an answer to a replica,
 //! or a question to one.
 use crate::ending::Ending;
 use crate::held_state::HeldState;
