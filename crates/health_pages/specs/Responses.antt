@@ -76,7 +76,8 @@ response_head status content count = status_line status
 abbrev pub sent_body : List ℕ → Bool → List ℕ
 sent_body body is_head = if is_head then [] else body
 
-abbrev pub response_text : ResponseStatus → ContentType → (body : List ℕ) → (is_head : Bool) → List ℕ
+abbrev pub response_text : ResponseStatus → ContentType → (body : List ℕ) → (is_head : Bool)
+    → List ℕ
 response_text status content body is_head =
     response_head status content (length body) ++ sent_body body is_head
 

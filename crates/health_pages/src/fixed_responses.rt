@@ -9,9 +9,14 @@ pub fn memory_response<'a>(is_head: bool) -> &'a [u8]
     ensures { result.now ≡ response_text Unavailable Text (codes "out of memory\n") is_head }
 {
     if is_head {
-        b"HTTP/1.1 503 Service Unavailable\r\nContent-Length: 14\r\nContent-Type: text/plain; charset=utf-8\r\nConnection: close\r\nX-Content-Type-Options: nosniff\r\nCache-Control: no-store\r\n\r\n"
+        b"HTTP/1.1 503 Service Unavailable\r\nContent-Length: 14\r\n\
+          Content-Type: text/plain; charset=utf-8\r\nConnection: close\r\n\
+          X-Content-Type-Options: nosniff\r\nCache-Control: no-store\r\n\r\n"
     } else {
-        b"HTTP/1.1 503 Service Unavailable\r\nContent-Length: 14\r\nContent-Type: text/plain; charset=utf-8\r\nConnection: close\r\nX-Content-Type-Options: nosniff\r\nCache-Control: no-store\r\n\r\nout of memory\n"
+        b"HTTP/1.1 503 Service Unavailable\r\nContent-Length: 14\r\n\
+          Content-Type: text/plain; charset=utf-8\r\nConnection: close\r\n\
+          X-Content-Type-Options: nosniff\r\nCache-Control: no-store\r\n\r\n\
+          out of memory\n"
     }
 }
 
@@ -19,5 +24,8 @@ pub fn memory_response<'a>(is_head: bool) -> &'a [u8]
 pub fn crowd_response<'a>() -> &'a [u8]
     ensures { result.now ≡ response_text Unavailable Text (codes "too many requests\n") false }
 {
-    b"HTTP/1.1 503 Service Unavailable\r\nContent-Length: 18\r\nContent-Type: text/plain; charset=utf-8\r\nConnection: close\r\nX-Content-Type-Options: nosniff\r\nCache-Control: no-store\r\n\r\ntoo many requests\n"
+    b"HTTP/1.1 503 Service Unavailable\r\nContent-Length: 18\r\n\
+      Content-Type: text/plain; charset=utf-8\r\nConnection: close\r\n\
+      X-Content-Type-Options: nosniff\r\nCache-Control: no-store\r\n\r\n\
+      too many requests\n"
 }

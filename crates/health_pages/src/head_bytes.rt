@@ -40,7 +40,8 @@ impl HeadBytes {
     /// # Errors
     /// Memory ran out. Nothing was taken.
     pub fn take(&mut self, piece: &[u8]) -> Result<(), AllocError>
-        ensures taken { OnOk result (head_bytes_come self.new ≡ with_piece (head_bytes_come self.old) piece.now) }
+        ensures taken { OnOk result
+            (head_bytes_come self.new ≡ with_piece (head_bytes_come self.old) piece.now) }
         ensures left { OnErr result (head_bytes_come self.new ≡ head_bytes_come self.old) }
     {
         let room = MOST_HEAD - self.bytes.len();

@@ -14,7 +14,8 @@ pub struct ResponseSending {
 }
 
 impl ResponseSending {
-    ghost use Rattle.health_pages.specs.Sending.{response_due, left_of_body, left_of_response, response_unsent};
+    ghost use Rattle.health_pages.specs.Sending.{left_of_body, left_of_response, response_due};
+    ghost use Rattle.health_pages.specs.Sending.{response_unsent};
 
     /// Nothing of the response is sent yet.
     pub fn new(response: PageResponse) -> ResponseSending
