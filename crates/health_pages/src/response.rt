@@ -172,7 +172,7 @@ fn policy_line<'a>(content: ContentType) -> &'a str
     match content {
         ContentType::Html => {
             "Content-Security-Policy: default-src 'none'; script-src 'self'; style-src 'self'; \
-            connect-src 'self'; base-uri 'none'; form-action 'none'; frame-ancestors 'none'\r\n"
+             connect-src 'self'; base-uri 'none'; form-action 'none'; frame-ancestors 'none'\r\n"
         }
         _ => "",
     }

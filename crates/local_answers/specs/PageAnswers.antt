@@ -1,7 +1,7 @@
 -- What a page of a running replica shows, in the words of the request that it stands for.
 use Rattle.std.specs.Prelude.{◌≡◌, ℕ, List, [], ◌∷◌, ◌++◌, ◌==◌, ◌&&◌, Bool, codes, decimal}
-use Rattle.std.specs.Prelude.{flat_map, if◌then◌else◌, length, MatchBool, nat_lt, Option, Some}
-use Rattle.std.specs.Prelude.{None}
+use Rattle.std.specs.Prelude.{flat_map, if◌then◌else◌, length, MatchBool, nat_lt}
+use Rattle.std.specs.Prelude.{Option, Some, None}
 use Rattle.serde_json.specs.Written.{compact_text}
 use Rattle.fedbundle.specs.CommandRun.{StateRun}
 use Rattle.status_warnings.specs.WarningLines.{lines_of_warnings}
@@ -130,10 +130,18 @@ abbrev pub ShowsPage : PageSource → StateRun → Page × Option (List ℕ) →
 ShowsPage source state asked answer =
     ShowsUnlessFixed (fixed_text asked.0) source state asked.0 asked.1 answer
 
--- The response has it.
-pub record AnswersPage (source : PageSource) (state : StateRun) (asked : Page × Option (List ℕ))
-    (is_head : Bool) (response : PageResponse) : Type 0 where
+-- a request for a page, what is held, and what else is shown
+pub record PageRun : Type 0 where
+  pub source : PageSource
+  pub state : StateRun
+  pub asked : Page × Option (List ℕ)
+
+abbrev pub page_run : PageSource → StateRun → Page × Option (List ℕ) → PageRun
+page_run source state asked = record { source = source; state = state; asked = asked }
+
+-- The response has what the page shows.
+pub record AnswersPage (run : PageRun) (is_head : Bool) (response : PageResponse) : Type 0 where
   pub answer : PageAnswer
-  pub shows : ShowsPage source state asked answer
+  pub shows : ShowsPage run.source run.state run.asked answer
   pub is : response.head.items ++ response.body.items
       ≡ response_text answer.status answer.content answer.body.items is_head

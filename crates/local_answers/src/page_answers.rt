@@ -7,8 +7,8 @@ ghost use Rattle.health_pages.specs.Responses.{page_type};
 ghost use Rattle.health_pages.specs.declared.response.ResponseStatus.TheVariants.{Done};
 ghost use Rattle.local_answers.specs.PageAnswers.{AnswersPage, AnswersReply, IsAnswer};
 ghost use Rattle.local_answers.specs.PageAnswers.{RepliesWith, ShowsPage, ShowsReply};
-ghost use Rattle.local_answers.specs.PageAnswers.{further_text, graph_words, page_words};
-ghost use Rattle.local_answers.specs.PageAnswers.{refusal_status, status_words};
+ghost use Rattle.local_answers.specs.PageAnswers.{further_text, graph_words, page_run};
+ghost use Rattle.local_answers.specs.PageAnswers.{page_words, refusal_status, status_words};
 
 use crate::looking::answer_look;
 use crate::page_source::{PageAnswer, PageSource};
@@ -39,8 +39,8 @@ pub fn answer_page<C: Closure>(
     asked: &AskedPage<'_>,
     is_head: bool,
 ) -> Result<PageResponse, AllocError>
-    ensures { IfOk result (AnswersPage source.now
-        (state_run (C.state closure.now) (C.state closure.now)) (asked_view asked.now) is_head) }
+    ensures { IfOk result (AnswersPage (page_run source.now
+        (state_run (C.state closure.now) (C.state closure.now)) (asked_view asked.now)) is_head) }
 {
     match page_answer(alloc, closure, source, asked) {
         Ok(answer) => write_response(alloc, answer.status, answer.content, answer.body, is_head),

@@ -16,8 +16,8 @@ use std::net::SocketAddr;
 use std::time::{Clock, Duration, Instant};
 
 /// The most connections at once: those of this machine, those on which pages are asked for, those
-/// on which other replicas ask, one with each peer, and some that are only told that there are too
-/// many.
+/// on which other replicas ask, one with each peer, and some on which is only replied that there
+/// are too many.
 const MOST_CONNECTIONS: usize = 160;
 
 const MOST_LOCAL: usize = 64;

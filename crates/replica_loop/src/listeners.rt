@@ -35,7 +35,8 @@ const OWNER_AND_GROUP: u32 = 0o660;
 const PAUSE_MILLIS: u64 = 100;
 
 /// A span of time, and how many connections of this machine may come within one, and how many of
-/// other replicas or for pages: so few that they do not fill the table before one has asked.
+/// other replicas or for pages: so few that they do not fill the table before one of them has
+/// asked.
 const SPAN_MILLIS: u64 = 125;
 
 const LOCAL_A_SPAN: u64 = 128;

@@ -24,8 +24,8 @@ const MOST_EVENTS: usize = 256;
 
 /// Runs a replica until a request stops it or the state cannot be kept. It has the lock of the
 /// state for all that time. Once it accepts requests it prints `ready`, the configuration's digest,
-/// and how many receipts and records of distrust it holds; before that, on standard error, where it
-/// listens for requests of pages, if the system chose the port or [`Settings::is_verbose`] is set.
+/// and how many receipts and records of distrust it holds. Before that it prints on standard error
+/// where pages are asked for, if the system has chosen the port or [`Settings::is_verbose`] is set.
 ///
 /// A change is on the disk before it is acknowledged. So the process may be killed at any moment.
 ///

@@ -1,5 +1,5 @@
-//! What is said on a connection: a local request, a request for a page, an answer to a replica,
-//! or a question to one.
+//! What is said on a connection: a local request, a request for a page, an answer to another
+//! replica, or a question to one.
 use crate::ending::Ending;
 use crate::held_state::HeldState;
 use crate::local_talk::{LocalTalk, Surroundings};
