@@ -107,7 +107,8 @@ pub listed_more : (id : DocId) (number : ℕ) (authorities : List Authority) (k 
     → k < length authorities → a ≡ get_or authorities k a → AddsListed id number (take k authorities) old mid → AddsKey id number (key_id_of a) mid new
     → AddsListed id number (take (k + 1) authorities) old new
 listed_more id number authorities k a old mid new low is so more =
-    let taken : take (k + 1) authorities ≡ take k authorities ++ a ∷ [] = ap (λ n. take n authorities) (add-one k) ∙ take-suc authorities k a low ∙ ap (λ z. take k authorities ++ z ∷ []) (sym is) in
+    let taken : take (k + 1) authorities ≡ take k authorities ++ a ∷ [] =
+    ap (λ n. take n authorities) (add-one k) ∙ take-suc authorities k a low ∙ ap (λ z. take k authorities ++ z ∷ []) (sym is) in
     subst (λ xs. AddsListed id number xs old new) (sym taken) (adds_more id number (take k authorities) a old mid new so more)
 
 -- after the last authority

@@ -16,8 +16,8 @@ use status_view::{push_gauge_head, push_label_value};
 use std::alloc::AllocError;
 
 /// Adds the gauge `fedbundle_warning_info`: 1 for each warning, with its kind as the label `kind`,
-/// and the label `domain`, with `key` for `same-key` and `expires`; `peer` for `quiet-peer`; and for
-/// `nearly-full` `what`, which is `receipts` or `records`.
+/// and the label `domain`, with `key` for `same-key` and `expires`; `peer` for `quiet-peer`; and
+/// for `nearly-full` `what`, which is `receipts` or `records`.
 ///
 /// # Errors
 /// Memory ran out. Nothing is said then of what is there.
