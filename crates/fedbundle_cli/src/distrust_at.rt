@@ -21,7 +21,7 @@ struct ListedKey<'a> {
 
 // What the replica listed, or the exit status with which it refused.
 #[derive(Drop)]
-enum Listed {
+enum KeyList {
     Keys(Value),
     Ended(u8),
 }
@@ -63,8 +63,8 @@ fn ask_for_all(
 ) -> Result<u8, Exit> {
     read_key(digest)?;
     let keys = match list(rt, call, path, wait_seconds)? {
-        Listed::Keys(keys) => keys,
-        Listed::Ended(status) => return Ok(status),
+        KeyList::Keys(keys) => keys,
+        KeyList::Ended(status) => return Ok(status),
     };
     let mut is_known = false;
     for known in known_keys(rt.alloc(), &keys)? {
@@ -121,17 +121,17 @@ fn list(
     call: &Call<'_>,
     path: &str,
     wait_seconds: u64,
-) -> Result<Listed, Exit> {
+) -> Result<KeyList, Exit> {
     let domain = format!(in rt.alloc(); "--domain={}", wanted(call, OptionName::Domain)?)?;
     let words = ["list", "--keys", domain.as_str(), "--format=json"];
     let mut text = Vec::new(rt.alloc());
     let request = request_of(words.as_slice(), path, wait_seconds);
     let status = ask_for(rt, &request, &mut text)?;
     if status > 0 {
-        return Ok(Listed::Ended(status));
+        return Ok(KeyList::Ended(status));
     }
     match Value::from_slice(rt.alloc(), text.as_slice()) {
-        Ok(value) => Ok(Listed::Keys(value)),
+        Ok(value) => Ok(KeyList::Keys(value)),
         Err(error) if error.is_memory() => Err(Exit::Refused(CommandError::NoMemory)),
         Err(_) => Err(Exit::NoReplica),
     }
@@ -177,8 +177,8 @@ fn show_same(
     wait_seconds: u64,
 ) -> Result<u8, Exit> {
     let keys = match list(rt, call, path, wait_seconds)? {
-        Listed::Keys(keys) => keys,
-        Listed::Ended(status) => return Ok(status),
+        KeyList::Keys(keys) => keys,
+        KeyList::Ended(status) => return Ok(status),
     };
     let known = known_keys(rt.alloc(), &keys)?;
     let lines = same_lines(rt, call, known.as_slice())?;
