@@ -76,7 +76,11 @@ fn ask_for_all(
             }
         }
     }
-    if is_known { Ok(0) } else { Err(Exit::NoKnownKey) }
+    if is_known {
+        Ok(0)
+    } else {
+        Err(Exit::NoKnownKey)
+    }
 }
 
 // Asks for the record of one key.
@@ -116,12 +120,7 @@ fn request_of<'a>(words: &'a [&'a str], path: &'a str, wait_seconds: u64) -> Loc
 }
 
 // The keys of the domain.
-fn list(
-    rt: &HostRuntime,
-    call: &Call<'_>,
-    path: &str,
-    wait_seconds: u64,
-) -> Result<KeyList, Exit> {
+fn list(rt: &HostRuntime, call: &Call<'_>, path: &str, wait_seconds: u64) -> Result<KeyList, Exit> {
     let domain = format!(in rt.alloc(); "--domain={}", wanted(call, OptionName::Domain)?)?;
     let words = ["list", "--keys", domain.as_str(), "--format=json"];
     let mut text = Vec::new(rt.alloc());
@@ -170,12 +169,7 @@ fn listed_key(value: &Value) -> Option<ListedKey<'_>> {
 
 // Prints a line for each accepted bundle and each key that it lists, where that is not distrusted,
 // though a key with its public key is, or would be.
-fn show_same(
-    rt: &HostRuntime,
-    call: &Call<'_>,
-    path: &str,
-    wait_seconds: u64,
-) -> Result<u8, Exit> {
+fn show_same(rt: &HostRuntime, call: &Call<'_>, path: &str, wait_seconds: u64) -> Result<u8, Exit> {
     let keys = match list(rt, call, path, wait_seconds)? {
         KeyList::Keys(keys) => keys,
         KeyList::Ended(status) => return Ok(status),
@@ -190,11 +184,7 @@ fn show_same(
     Ok(0)
 }
 
-fn same_lines(
-    rt: &HostRuntime,
-    call: &Call<'_>,
-    known: &[ListedKey<'_>],
-) -> Result<String, Exit> {
+fn same_lines(rt: &HostRuntime, call: &Call<'_>, known: &[ListedKey<'_>]) -> Result<String, Exit> {
     let domain = wanted(call, OptionName::Domain)?;
     let public_keys = distrusted_public_keys(rt.alloc(), call, known)?;
     let mut lines = String::new(rt.alloc());
