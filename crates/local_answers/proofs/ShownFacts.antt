@@ -1,5 +1,5 @@
 -- What the commands that show what is held answer over memory, and what is replied to their calls.
-use Rattle.std.proofs.Common.{◌≡◌, ◌⊎◌, inl, inr, ℕ, ℤ, Bool, List, [], ◌++◌, Some, Ok, Err, Result, IfErr, IfOk}
+use Rattle.std.proofs.Common.{◌≡◌, ◌⊎◌, inl, inr, ℕ, ℤ, Bool, List, [], ◌++◌, Option, Some, None, Ok, Err, Result, IfErr, IfOk}
 use Rattle.std.proofs.Common.{true, false, refl, sym, ap, ◌∙◌, subst}
 use Rattle.receipt_core.specs.Acceptance.{Meaning}
 use Rattle.receipt_core.specs.declared.distrust.Distrust.{Distrust}
@@ -10,7 +10,10 @@ use Rattle.fedbundle.specs.Exits.{AppendsExit, exit_status_of}
 use Rattle.fedbundle.specs.Explain.{ExplanationCall, RunsExplain, explanation_call}
 use Rattle.fedbundle.specs.Polls.{RunsPollsIn, polls_call}
 use Rattle.fedbundle.specs.Shown.{IsReportIn, RunsShown, RunsWriter, ShownCall, ShowsBundle, ShowsBy, ShowsEffect, ShowsExplanation}
-use Rattle.fedbundle.specs.Shown.{ShowsPolls, ShowsReport, ShowsStatus, exit_if_done, exit_if_warned, exit_if_written, polls_form, watched_by}
+use Rattle.fedbundle.specs.Shown.{ShowsGraph, ShowsList, ShowsPolls, ShowsReport, ShowsSight, ShowsStanding, ShowsStatus, StatusSight, exit_if_done}
+use Rattle.fedbundle.specs.Shown.{exit_if_warned, exit_if_written, polls_form, shown_said, sight_of_call, watched_by}
+use Rattle.status_warnings.specs.declared.seen.Fetch.{Fetch}
+use Rattle.command_line.specs.declared.command_name.OptionName.TheVariants.{Polls}
 use Rattle.status_warnings.specs.WarnedStatus.{IsWarnedStatusIn}
 use Rattle.command_line.specs.declared.command_name.CommandName.{CommandName}
 use Rattle.command_line.specs.declared.command_name.CommandName.TheVariants as command
@@ -116,10 +119,31 @@ report_unwritten call sink exit (inl refused) sound = refused.unwritten.0
 report_unwritten call sink exit (inr shows) sound =
     writer_unwritten (IsReportIn shows.form call.meaning) sink shows.answer exit shows.runs shows.is sound
 
-status_unwritten : (call : ShownCall) (sink : DeviceRun) (exit : Exit) → ShowsStatus call sink (Err exit) → (exit ≡ Refused Io → ⊥) → WritesNothing sink
-status_unwritten call sink exit (inl refused) sound = refused.unwritten.0
-status_unwritten call sink exit (inr shows) sound =
-    warned_unwritten (IsWarnedStatusIn call.meaning (watched_by call) shows.format) sink shows.answer exit shows.runs shows.is sound
+list_unwritten : (call : ShownCall) (sink : DeviceRun) (exit : Exit) → ShowsList call sink (Err exit) → (exit ≡ Refused Io → ⊥) → WritesNothing sink
+list_unwritten call sink exit (inl refused) sound = refused.unwritten.0
+list_unwritten call sink exit (inr shows) sound = writer_unwritten _ sink shows.answer exit shows.runs shows.is sound
+
+graph_unwritten : (call : ShownCall) (sink : DeviceRun) (exit : Exit) → ShowsGraph call sink (Err exit) → (exit ≡ Refused Io → ⊥) → WritesNothing sink
+graph_unwritten call sink exit (inl refused) sound = refused.unwritten.0
+graph_unwritten call sink exit (inr shows) sound = writer_unwritten _ sink shows.answer exit shows.runs shows.is sound
+
+standing_unwritten : (sight : StatusSight) (fetches : List Fetch) (sink : DeviceRun) (exit : Exit) → ShowsStanding sight fetches sink (Err exit)
+    → (exit ≡ Refused Io → ⊥) → WritesNothing sink
+standing_unwritten sight fetches sink exit shows sound =
+    warned_unwritten (IsWarnedStatusIn sight.meaning (watched_by sight fetches) sight.format) sink shows.answer exit shows.runs shows.is sound
+
+sight_unwritten : (said : Option (List ℕ)) (sight : StatusSight) (run : CommandRun) (exit : Exit) → ShowsSight said sight run (Err exit)
+    → (exit ≡ Refused Io → ⊥) → WritesNothing run.sink
+sight_unwritten None sight run exit shows sound = standing_unwritten sight [] run.sink exit shows.0 sound
+sight_unwritten (Some path) sight run exit (inl ended) sound = ended.refused.unwritten
+sight_unwritten (Some path) sight run exit (inr (inl lacks)) sound = lacks.1
+sight_unwritten (Some path) sight run exit (inr (inr shows)) sound = standing_unwritten sight shows.fetches run.sink exit shows.shows sound
+
+status_unwritten : (call : ShownCall) (run : CommandRun) (exit : Exit) → ShowsStatus call run (Err exit) → (exit ≡ Refused Io → ⊥)
+    → WritesNothing run.sink
+status_unwritten call run exit (inl refused) sound = refused.0.unwritten.0
+status_unwritten call run exit (inr shows) sound =
+    sight_unwritten (shown_said call Polls) (sight_of_call call shows.limits shows.format) run exit shows.shows sound
 
 bundle_call_unwritten : (call : ShownCall) (sink : DeviceRun) (exit : Exit) → ShowsBundle call sink (Err exit) → (exit ≡ Refused Io → ⊥)
     → WritesNothing sink
@@ -150,10 +174,12 @@ polls_unwritten call run exit (inr shows) sound =
 shown_unwritten : (name : CommandName) (call : ShownCall) (run : CommandRun) (exit : Exit) → ShowsBy name call run (Err exit)
     → (exit ≡ Refused Io → ⊥) → WritesNothing run.sink
 shown_unwritten command.Report call run exit shows sound = report_unwritten call run.sink exit shows.0 sound
+shown_unwritten command.List call run exit shows sound = list_unwritten call run.sink exit shows.0 sound
+shown_unwritten command.Graph call run exit shows sound = graph_unwritten call run.sink exit shows.0 sound
 shown_unwritten command.Bundle call run exit shows sound = bundle_call_unwritten call run.sink exit shows.0 sound
 shown_unwritten command.Explain call run exit shows sound = explain_call_unwritten call run exit shows sound
 shown_unwritten command.Polls call run exit shows sound = polls_unwritten call run exit shows sound
-shown_unwritten command.Status call run exit shows sound = status_unwritten call run.sink exit shows.0 sound
+shown_unwritten command.Status call run exit shows sound = status_unwritten call run exit shows sound
 shown_unwritten command.Distrust call run exit shows sound = effect_call_unwritten call run.sink exit shows.0 sound
 shown_unwritten name call run exit shows sound = shows.0.unwritten.0
 
