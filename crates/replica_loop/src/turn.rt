@@ -329,15 +329,17 @@ impl RunningReplica {
         held: &mut HeldState<C>,
         work: Work,
     ) {
+        let running = running_status(rt, &self.files, &self.peers, self.began);
+        let pages = PageSource {
+            running,
+            counts: self.counts.all(&self.table, &self.files),
+            version: self.version,
+            limits: self.page_limits,
+        };
         let around = Surroundings {
             now: self.now,
             room: self.table.room(),
-            pages: PageSource {
-                running: running_status(rt, &self.files, &self.peers, self.began),
-                counts: self.counts.all(&self.table, &self.files),
-                version: self.version,
-                limits: self.page_limits,
-            },
+            pages,
         };
         self.table.carry_out(rt, alloc, held, &around, work);
         if self.ends_at.is_none() && self.table.is_stopped() {
