@@ -23,6 +23,7 @@ use crate::turn_counts::TurnCounts;
 use closure_core::Closure;
 use fair_turns::Work;
 use fedbundle::{Exit, FileFault, Step};
+use health_pages::LoopCounts;
 use local_answers::{PageLimits, PageSource};
 use mio::Events;
 use mio::net::TcpStream;
@@ -330,16 +331,11 @@ impl RunningReplica {
         work: Work,
     ) {
         let running = running_status(rt, &self.files, &self.peers, self.began);
-        let pages = PageSource {
-            running,
-            counts: self.counts.all(&self.table, &self.files),
-            version: self.version,
-            limits: self.page_limits,
-        };
+        let counts = self.counts.all(&self.table, &self.files);
         let around = Surroundings {
             now: self.now,
             room: self.table.room(),
-            pages,
+            pages: page_source(running, counts, self.version, self.page_limits),
         };
         self.table.carry_out(rt, alloc, held, &around, work);
         if self.ends_at.is_none() && self.table.is_stopped() {
@@ -419,6 +415,21 @@ impl RunningReplica {
             Some(moment) => self.now >= moment || !self.table.has_replies(),
             None => false,
         }
+    }
+}
+
+// What pages show beside what is held.
+fn page_source<'a>(
+    running: RunningStatus<'a>,
+    counts: LoopCounts,
+    version: &'a str,
+    limits: PageLimits,
+) -> PageSource<'a> {
+    PageSource {
+        running,
+        counts,
+        version,
+        limits,
     }
 }
 
