@@ -9,6 +9,7 @@ use fedbundle::{
 use replica_loop::LocalRequest;
 use serde_json::Value;
 use std::alloc::{AllocError, Global};
+use std::io::Write;
 
 // A key of the domain, as the replica lists it.
 #[derive(Clone, Copy)]
@@ -91,17 +92,9 @@ fn ask_for_one(
     wait_seconds: u64,
     key: &str,
 ) -> Result<u8, Exit> {
-    let domain = format!(in rt.alloc(); "--domain={}", wanted(call, OptionName::Domain)?)?;
-    let key_word = format!(in rt.alloc(); "--key={key}")?;
-    let flag = if is_dry(call) {
-        "--dry-run"
-    } else {
-        "--verbose"
-    };
-    let words = ["distrust", domain.as_str(), key_word.as_str(), flag];
-    let count = if shows_more(call)? { 4 } else { 3 };
-    let request = request_of(&words[..count], path, wait_seconds);
-    let status = ask_for(rt, &request, &mut rt.stdout())?;
+    let domain = wanted(call, OptionName::Domain)?;
+    let words = record_words(rt.alloc(), domain, key, told_by(call)?)?;
+    let status = ask_with(rt, words.as_slice(), path, wait_seconds, &mut rt.stdout())?;
     if status == 0 && !is_dry(call) {
         let line = format!(in rt.alloc(); "distrusted {key}\n")?;
         print(&mut output(rt), line.as_str())?;
@@ -109,23 +102,63 @@ fn ask_for_one(
     Ok(status)
 }
 
-// A request without an input.
-fn request_of<'a>(words: &'a [&'a str], path: &'a str, wait_seconds: u64) -> LocalRequest<'a> {
-    LocalRequest {
+// Asks without an input.
+fn ask_with<W: Write>(
+    rt: &HostRuntime,
+    words: &[String],
+    path: &str,
+    wait_seconds: u64,
+    output: &mut W,
+) -> Result<u8, Exit> {
+    let texts: Vec<&str> = words.iter().map(|word| word.as_str()).collect(rt.alloc())?;
+    let input: Vec<u8> = Vec::new(rt.alloc());
+    let request = LocalRequest {
         path,
-        words,
-        input: &[],
+        words: texts.as_slice(),
+        input: input.as_slice(),
         wait_seconds,
+    };
+    ask_for(rt, &request, output)
+}
+
+// The flag by which more is printed, if it is to be.
+fn told_by<'a>(call: &Call<'_>) -> Result<Option<&'a str>, Exit> {
+    if is_dry(call) {
+        return Ok(Some("--dry-run"));
     }
+    Ok(shows_more(call)?.then_some("--verbose"))
+}
+
+fn record_words(
+    alloc: Global,
+    domain: &str,
+    key: &str,
+    flag: Option<&str>,
+) -> Result<Vec<String>, AllocError> {
+    let mut words = Vec::new(alloc);
+    words.push(String::from_str(alloc, "distrust")?)?;
+    words.push(format!(in alloc; "--domain={domain}")?)?;
+    words.push(format!(in alloc; "--key={key}")?)?;
+    if let Some(flag) = flag {
+        words.push(String::from_str(alloc, flag)?)?;
+    }
+    Ok(words)
+}
+
+fn list_words(alloc: Global, domain: &str) -> Result<Vec<String>, AllocError> {
+    let mut words = Vec::new(alloc);
+    words.push(String::from_str(alloc, "list")?)?;
+    words.push(String::from_str(alloc, "--keys")?)?;
+    words.push(format!(in alloc; "--domain={domain}")?)?;
+    words.push(String::from_str(alloc, "--format=json")?)?;
+    Ok(words)
 }
 
 // The keys of the domain.
 fn list(rt: &HostRuntime, call: &Call<'_>, path: &str, wait_seconds: u64) -> Result<KeyList, Exit> {
-    let domain = format!(in rt.alloc(); "--domain={}", wanted(call, OptionName::Domain)?)?;
-    let words = ["list", "--keys", domain.as_str(), "--format=json"];
+    let words = list_words(rt.alloc(), wanted(call, OptionName::Domain)?)?;
     let mut text = Vec::new(rt.alloc());
-    let request = request_of(words.as_slice(), path, wait_seconds);
-    let status = ask_for(rt, &request, &mut text)?;
+    let status = ask_with(rt, words.as_slice(), path, wait_seconds, &mut text)?;
     if status > 0 {
         return Ok(KeyList::Ended(status));
     }

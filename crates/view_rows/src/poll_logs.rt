@@ -1,4 +1,7 @@
 //! Logs of polls, and how domains are fetched by one.
+ghost use Rattle.std.specs.Prelude.{◌≡◌, IfOk};
+ghost use Rattle.poll_log.specs.Polling.{polled, polled_domains};
+
 use crate::states::replica_of;
 use byte_lines::MemSource;
 use closure_core::Closure;
@@ -14,7 +17,9 @@ pub(crate) fn log_of(
     script: &Script,
     config: &Config,
     name: &str,
-) -> Result<PollLog, PollError> {
+) -> Result<PollLog, PollError>
+    ensures { IfOk result (λ log. polled_domains log ≡ polled config.now) }
+{
     let bytes = Vec::from_slice(alloc, script.text(name).unwrap_or(b""))?;
     let mut source = MemSource::new(bytes, Vec::new(alloc));
     read_polls(alloc, config, &mut source)
