@@ -4,8 +4,8 @@ use crate::command_name::{CommandName, OptionName};
 /// The version; then the kit with which it is proved and built, and the formats: the numbers are
 /// those in the first lines that are written.
 pub(crate) const VERSION: &str = "\
-0.6.0
-kit rattle-kit-13b logic dac8208d650f15bf
+0.7.0
+kit rattle-kit-13f logic dac8208d650f15bf
 state format 2, and 1 is read
 journal format 2
 have format 2 of 256

@@ -1,4 +1,4 @@
-//! The canonical text of a configuration, of which only the digest is kept.
+//! The canonical text of a configuration. A configuration keeps only the text's digest.
 ghost use Rattle.std.specs.Prelude.{◌≡◌, ◌++◌, false, IfOk, OnOk, map};
 ghost use Rattle.json.specs.Print.{quoted};
 ghost use Rattle.serde_json.specs.View.{items_of, view};
@@ -24,7 +24,7 @@ pub(crate) fn id_of(
     ensures { IfOk result (λ id. id.0
         ≡ config_id_of (record { relationships = relationships.now; seeds = seeds.now })) }
 {
-    let text = text_of(alloc, relationships, seeds)?;
+    let text = canonical_config(alloc, relationships, seeds)?;
     Ok(ConfigId(digest_of(text.as_slice())))
 }
 
@@ -36,8 +36,14 @@ fn digest_of(text: &[u8]) -> [u8; 32]
     hasher.finalize()
 }
 
-/// The canonical text of these relationships and seeds.
-fn text_of(
+/// The canonical text of a configuration with these relationships and seeds, in the order in which
+/// they are given. Both have to be as [`Config`](crate::Config) lends them, each list sorted and
+/// without a repeat; then [`Config::read`](crate::Config::read) reads the text as that
+/// configuration, if its numbers of relationships, seeds and domains are within the limits.
+///
+/// # Errors
+/// Memory ran out.
+pub fn canonical_config(
     alloc: Global,
     relationships: &[Relationship],
     seeds: &[Seed],

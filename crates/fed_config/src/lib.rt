@@ -14,6 +14,7 @@ mod seed;
 mod sets;
 mod written;
 
+pub use canonical::canonical_config;
 pub use config::Config;
 pub use config_id::ConfigId;
 pub use error::ConfigError;

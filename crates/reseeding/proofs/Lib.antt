@@ -1,3 +1,2 @@
-mod ConfigTextFacts
 mod DomainsFacts
 mod DoubtFacts

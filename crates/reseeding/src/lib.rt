@@ -2,7 +2,6 @@
 //! one of them as a seed. It knows closures by their trait alone.
 #![tactic(auto)]
 
-mod config_writer;
 mod doubt;
 mod refusals;
 mod seed_choice;

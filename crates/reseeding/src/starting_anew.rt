@@ -2,10 +2,10 @@
 ghost use Rattle.std.specs.Prelude.{◌≡◌, IfOk, option_copied};
 ghost use Rattle.reseeding.specs.Reseeding.{IsNewConfig, Reseeds};
 
-use crate::config_writer::write_config;
 use crate::refusals::refusal_text;
 use crate::seed_choice::current_seeds;
 use closure_core::Closure;
+use fed_config::canonical_config;
 use spiffe_name::TrustDomain;
 use std::alloc::{AllocError, Global};
 
@@ -56,5 +56,5 @@ fn new_config<C: Closure>(alloc: Global, closure: &C) -> Result<Vec<u8>, AllocEr
     ensures { IfOk result (λ text. IsNewConfig (C.state closure.now).meaning text.items) }
 {
     let seeds = current_seeds(alloc, closure)?;
-    write_config(alloc, closure.config().relationships(), seeds.as_slice())
+    canonical_config(alloc, closure.config().relationships(), seeds.as_slice())
 }

@@ -35,7 +35,7 @@ pub enum DomainFault {
     NoSequence,
 }
 
-/// What a replica holds only so many of.
+/// What a replica holds a limited number of.
 #[derive(Clone, Copy, Debug, PartialEq, Eq)]
 pub enum Stock {
     /// Receipts, of 65,536 at most.

@@ -30,7 +30,7 @@ const PEER_QUIET: u64 = 600;
 const MAX_PEER_QUIET: u64 = 31_536_000;
 
 /// The version of the program, as `--version` prints it.
-const VERSION: &str = "0.6.0";
+const VERSION: &str = "0.7.0";
 
 /// From how many replicas one pulls at most.
 const MOST_PEERS: usize = 16;

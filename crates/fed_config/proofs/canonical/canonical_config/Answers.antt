@@ -2,8 +2,8 @@ use Rattle.std.proofs.Common.{[], codes, false, map, sym, ◌∙◌}
 use Rattle.serde_json.specs.View.{items_of}
 use Rattle.serde_json.specs.Written.{items_text}
 use Rattle.fed_config.specs.Configuration.{relationship_tree, seed_tree}
-use Rattle.reseeding.proofs.ConfigTextFacts.{config_of, config_parts, five}
-use Rattle.reseeding.proofs.config_writer.write_config.Goals as goal
+use Rattle.fed_config.proofs.TextFacts.{config_of, config_parts, five}
+use Rattle.fed_config.proofs.canonical.canonical_config.Goals as goal
 
 pub returns : goal.returns
 returns c =
