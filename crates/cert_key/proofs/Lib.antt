@@ -5,3 +5,4 @@ pub mod CertificateFacts
 pub mod ContentFacts
 pub mod NameFacts
 pub mod DigitFacts
+pub mod MomentFacts

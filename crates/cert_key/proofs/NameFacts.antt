@@ -1,6 +1,6 @@
 -- What is spelled as a name is read as that name, and what is read is spelled so.
 use Rattle.std.proofs.Common.{◌≡◌, ℕ, ◌^◌, ◌<◌, cond, List, [], ◌∷◌, ◌++◌, map, reverse, length, flat_map, Option, Some, None, refl, sym, ap, ◌∙◌, subst}
-use Rattle.std.specs.Prelude.{All, IfSome}
+use Rattle.std.specs.Prelude.{All, option_map}
 use Rattle.std.proofs.lemmas.Bool.{eqb-true}
 use Rattle.std.proofs.lemmas.List.{append-nil, nil_from_length, map-append, reverse-append, reverse-reverse}
 use Rattle.std.proofs.lemmas.List.Elements.{All-nil, All-cons, All-head, All-tail}
@@ -8,7 +8,7 @@ use Rattle.std.proofs.lemmas.List.Folds.{flat_map-map}
 use Rattle.std.proofs.lemmas.List.Sorted.{All-permutation, IsPermutation-reverse}
 use Rattle.cert_key.specs.Der.{element}
 use Rattle.cert_key.specs.Name.{Attribute, type_and_value, attributes, rdns, IsName}
-use Rattle.cert_key.specs.Name.{is_empty, type_value_text, attribute_text, with_next, joined, rdn_text, name_text}
+use Rattle.cert_key.specs.Name.{is_empty, type_value_text, attribute_text, with_next, joined, rdn_text, name_text, IsNameText}
 use Rattle.cert_key.specs.Inside.Names.{contents_at, attribute_at, attributes_text, rdn_at, rdns_text, rdns_at, name_at}
 use Rattle.cert_key.specs.Inside.Reading.{◌>>=◌, IsReadAs, Found, element_at, field_at}
 use Rattle.cert_key.proofs.StepFacts.{bind_some, if_some, IsBytes}
@@ -180,12 +180,7 @@ name_takes bytes u fits e =
 
 -- ---- what the program returns
 
-pub is_found : {A : Type 0} (bytes : List ℕ) (o : Option A) (view : A → List ℕ) → IsBytes bytes → IsReadAs view o (name_at bytes)
-    → IfSome o (λ t. (n : List (List Attribute)) × IsName n bytes × (name_text n ≡ Some (view t)))
-is_found bytes (Some t) view fits given = name_takes bytes (view t) fits given
-is_found bytes None view fits given = tt
-
-pub is_only : {A : Type 0} (bytes : List ℕ) (o : Option A) (view : A → List ℕ) (n : List (List Attribute)) → IsName n bytes
-    → IsReadAs view o (name_at bytes) → IsReadAs view o (name_text n)
-is_only bytes (Some t) view n is given = sym (name_again n bytes is) ∙ given
-is_only bytes None view n is given = sym (name_again n bytes is) ∙ given
+pub is_text : {A : Type 0} (bytes : List ℕ) (o : Option A) (view : A → List ℕ) → IsBytes bytes → IsReadAs view o (name_at bytes)
+    → IsNameText bytes (option_map view o)
+is_text bytes (Some t) view fits given = name_takes bytes (view t) fits given
+is_text bytes None view fits given = λ n is. sym (name_again n bytes is) ∙ given

@@ -164,3 +164,9 @@ rdn_text (a ∷ others) = joined 43 attribute_text [] (a ∷ others)
 -- from the last to the first, a comma between two (section 2.1)
 unfoldable pub name_text : List (List Attribute) → Option (List ℕ)
 name_text n = joined 44 rdn_text [] (reverse n)
+
+-- the text of the name that the bytes are; none if they are not a name, or it has no text
+abbrev pub IsNameText : List ℕ → Option (List ℕ) → Type 0
+IsNameText bytes None = (n : List (List Attribute)) → IsName n bytes → name_text n ≡ None
+IsNameText bytes (Some text) =
+    (n : List (List Attribute)) × IsName n bytes × (name_text n ≡ Some text)

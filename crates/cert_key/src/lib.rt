@@ -4,10 +4,12 @@
 
 mod attribute_text;
 mod certificate;
+mod dates;
 mod der;
 mod moment;
 mod name;
 mod object_identifier;
 
 pub use certificate::{CertParts, read_certificate};
+pub use dates::moment_text;
 pub use name::name_text;

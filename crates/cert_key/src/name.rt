@@ -1,9 +1,9 @@
 //! Names (RFC 5280, section 4.1.2.4), and their texts (RFC 4514).
-ghost use Rattle.std.specs.Prelude.{◌≡◌, ◌<◌, List, [], IfOk, IfSome, OnOk, Some, string_bytes};
+ghost use Rattle.std.specs.Prelude.{◌≡◌, ◌<◌, [], IfOk, OnOk, option_map, string_bytes};
 ghost use Rattle.cert_key.specs.Inside.Names.{attribute_at, attributes_text, contents_at, name_at};
 ghost use Rattle.cert_key.specs.Inside.Names.{rdn_at, rdns_at, rdns_text};
 ghost use Rattle.cert_key.specs.Inside.Reading.{IsReadAs, view};
-ghost use Rattle.cert_key.specs.Name.{Attribute, IsName, joined, name_text, with_next};
+ghost use Rattle.cert_key.specs.Name.{IsNameText, joined, with_next};
 
 use crate::attribute_text::type_value_text;
 use crate::der::{Element, field_at, first_element};
@@ -54,10 +54,7 @@ impl<'a> Model for Content<'a> {
 /// # Errors
 /// Memory ran out.
 pub fn name_text(alloc: Global, name: &[u8]) -> Result<Option<String>, AllocError>
-    ensures found { IfOk result (λ text. IfSome text (λ t. (n : List (List Attribute))
-        × IsName n name.now × (name_text n ≡ Some (string_bytes t)))) }
-    ensures only { (n : List (List Attribute)) → IsName n name.now
-        → IfOk result (λ text. IsReadAs string_bytes text (name_text n)) }
+    ensures { IfOk result (λ text. IsNameText name.now (option_map string_bytes text)) }
 {
     name_at(alloc, name)
 }
@@ -147,7 +144,8 @@ fn joined_attributes(alloc: Global, contents: &[Content<'_>]) -> Result<Option<S
 // Adds what is next, after a sign if something is there.
 fn push_next(text: &mut String, sign: char, next: &str) -> Result<(), AllocError>
     requires { sign < 128 }
-    ensures { OnOk result (string_bytes text.new ≡ with_next sign (string_bytes text.old) next.now) }
+    ensures { OnOk result (string_bytes text.new
+        ≡ with_next sign (string_bytes text.old) next.now) }
 {
     if !text.is_empty() {
         text.push(sign)?;

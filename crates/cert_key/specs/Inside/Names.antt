@@ -1,6 +1,6 @@
 -- Reading names, from left to right
-use Rattle.std.specs.Prelude.{ℕ, zero, suc, ◌++◌, List, [], ◌∷◌, length, reverse, Option, Some, None}
-use Rattle.std.specs.Prelude.{if◌then◌else◌}
+use Rattle.std.specs.Prelude.{ℕ, zero, suc, ◌++◌, List, [], ◌∷◌, length, reverse, Option, Some}
+use Rattle.std.specs.Prelude.{None, if◌then◌else◌}
 use Rattle.cert_key.specs.Name.{is_empty, joined, type_value_text}
 use Rattle.cert_key.specs.Inside.Reading.{◌>>=◌, Found, element_at, field_at}
 
