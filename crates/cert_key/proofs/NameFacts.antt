@@ -8,14 +8,14 @@ use Rattle.std.proofs.lemmas.List.Folds.{flat_map-map}
 use Rattle.std.proofs.lemmas.List.Sorted.{All-permutation, IsPermutation-reverse}
 use Rattle.cert_key.specs.Der.{element}
 use Rattle.cert_key.specs.Name.{Attribute, type_and_value, attributes, rdns, IsName}
-use Rattle.cert_key.specs.Name.{is_empty, type_value_text, attribute_text, with_next, joined, rdn_text, name_text, IsNameText}
+use Rattle.cert_key.specs.Name.{is_empty, type_value_text, attribute_text, with_next, joined_texts, rdn_text, text_of_name, IsNameText}
 use Rattle.cert_key.specs.Inside.Names.{contents_at, attribute_at, attributes_text, rdn_at, rdns_text, rdns_at, name_at}
 use Rattle.cert_key.specs.Inside.Reading.{◌>>=◌, IsReadAs, Found, element_at, field_at}
 use Rattle.cert_key.proofs.StepFacts.{bind_some, if_some, IsBytes}
 use Rattle.cert_key.proofs.ElementFacts.{element_again, element_takes, field_again, field_takes, short_content, short_rest}
 use Rattle.cert_key.proofs.ContentFacts.{contents_again, contents_take}
 
--- ---- texts that are joined
+-- ---- texts that are joined_texts
 
 same_after : {A B : Type 0} (o : Option A) (f g : A → Option B) → ((x : A) → f x ≡ g x) → (o >>= f) ≡ (o >>= g)
 same_after (Some x) f g same = same x
@@ -23,26 +23,26 @@ same_after None f g same = refl
 
 -- the texts of what was spelled
 joined_again : {X : Type 0} (sign : ℕ) (f : List ℕ → Option (List ℕ)) (h : X → Option (List ℕ)) (g : X → List ℕ) (before : List ℕ) (xs : List X)
-    → All (λ x. f (g x) ≡ h x) xs → joined sign f before (map g xs) ≡ joined sign h before xs
+    → All (λ x. f (g x) ≡ h x) xs → joined_texts sign f before (map g xs) ≡ joined_texts sign h before xs
 joined_again sign f h g before [] each = refl
 joined_again sign f h g before (x ∷ xs) each =
-    ap (λ o. o >>= λ own. joined sign f (with_next sign before own) (map g xs)) (All-head (λ x. f (g x) ≡ h x) x xs each)
-    ∙ same_after (h x) (λ own. joined sign f (with_next sign before own) (map g xs)) (λ own. joined sign h (with_next sign before own) xs)
+    ap (λ o. o >>= λ own. joined_texts sign f (with_next sign before own) (map g xs)) (All-head (λ x. f (g x) ≡ h x) x xs each)
+    ∙ same_after (h x) (λ own. joined_texts sign f (with_next sign before own) (map g xs)) (λ own. joined_texts sign h (with_next sign before own) xs)
     (λ own. joined_again sign f h g (with_next sign before own) xs (All-tail (λ x. f (g x) ≡ h x) x xs each))
 
 -- what has these texts was spelled
 joined_takes : {X : Type 0} (sign : ℕ) (f : List ℕ → Option (List ℕ)) (h : X → Option (List ℕ)) (g : X → List ℕ) (before : List ℕ)
     (cs : List (List ℕ)) (t : List ℕ) → ((c u : List ℕ) → IsBytes c → f c ≡ Some u → (x : X) × (c ≡ g x) × (h x ≡ Some u))
-    → All IsBytes cs → joined sign f before cs ≡ Some t → (xs : List X) × (cs ≡ map g xs) × (joined sign h before xs ≡ Some t)
+    → All IsBytes cs → joined_texts sign f before cs ≡ Some t → (xs : List X) × (cs ≡ map g xs) × (joined_texts sign h before xs ≡ Some t)
 joined_takes sign f h g before [] t one fits e = ([], refl, e)
 joined_takes sign f h g before (c ∷ cs) t one fits e =
-    let s = bind_some (f c) (λ own. joined sign f (with_next sign before own) cs) t e in
+    let s = bind_some (f c) (λ own. joined_texts sign f (with_next sign before own) cs) t e in
     let x = one c s.0 (All-head IsBytes c cs fits) s.1 in
     let m = joined_takes sign f h g (with_next sign before s.0) cs t one (All-tail IsBytes c cs fits) s.2 in
     let first : c ∷ cs ≡ g x.0 ∷ cs = ap (λ (y : List ℕ). y ∷ cs) x.1 in (
       x.0 ∷ m.0,
       first ∙ ap (λ (ys : List (List ℕ)). g x.0 ∷ ys) m.1,
-      ap (λ o. o >>= λ own. joined sign h (with_next sign before own) m.0) x.2 ∙ m.2,
+      ap (λ o. o >>= λ own. joined_texts sign h (with_next sign before own) m.0) x.2 ∙ m.2,
     )
 
 -- each of what was spelled is short
@@ -110,13 +110,13 @@ texts_take : (cs : List (List ℕ)) (u : List ℕ) → All IsBytes cs → attrib
 unfolding rdn_text
 texts_take [] u fits e = absurd cc
 texts_take (c ∷ cs) u fits e =
-    let s = bind_some (attribute_at c) (λ own. joined 43 attribute_at (with_next 43 [] own) cs) u e in
+    let s = bind_some (attribute_at c) (λ own. joined_texts 43 attribute_at (with_next 43 [] own) cs) u e in
     let x = attribute_takes c s.0 (All-head IsBytes c cs fits) s.1 in
     let m = joined_takes 43 attribute_at attribute_text type_and_value (with_next 43 [] s.0) cs u attribute_takes (All-tail IsBytes c cs fits) s.2 in
     let first : c ∷ cs ≡ type_and_value x.0 ∷ cs = ap (λ (y : List ℕ). y ∷ cs) x.1 in (
       x.0 ∷ m.0,
       first ∙ ap (λ (ys : List (List ℕ)). type_and_value x.0 ∷ ys) m.1,
-      ap (λ o. o >>= λ own. joined 43 attribute_text (with_next 43 [] own) m.0) x.2 ∙ m.2,
+      ap (λ o. o >>= λ own. joined_texts 43 attribute_text (with_next 43 [] own) m.0) x.2 ∙ m.2,
     )
 
 rdn_takes : (c u : List ℕ) → IsBytes c → rdn_at c ≡ Some u → (r : List Attribute) × (c ≡ attributes r) × (rdn_text r ≡ Some u)
@@ -138,8 +138,8 @@ map-reverse f (x ∷ xs) =
 rdns_are : (n : List (List Attribute)) → rdns n ≡ flat_map (element 49) (map attributes n)
 rdns_are n = sym (flat_map-map (element 49) attributes n)
 
-pub name_again : (n : List (List Attribute)) (bytes : List ℕ) → IsName n bytes → name_at bytes ≡ name_text n
-unfolding name_at name_text
+pub name_again : (n : List (List Attribute)) (bytes : List ℕ) → IsName n bytes → name_at bytes ≡ text_of_name n
+unfolding name_at text_of_name
 name_again n bytes is =
     let whole : bytes ≡ element 48 (rdns n) ++ [] = is.all ∙ sym (append-nil (element 48 (rdns n))) in
     let are = rdns_are n in
@@ -150,12 +150,12 @@ name_again n bytes is =
     ∙ ap (λ o. o >>= rdns_at) (field_again 48 (rdns n) [] is.short)
     ∙ ap (λ x. contents_at 49 x >>= rdns_text) are
     ∙ ap (λ o. o >>= rdns_text) (contents_again 49 (map attributes n) small)
-    ∙ ap (joined 44 rdn_at []) (sym (map-reverse attributes n))
+    ∙ ap (joined_texts 44 rdn_at []) (sym (map-reverse attributes n))
     ∙ joined_again 44 rdn_at rdn_text attributes [] (reverse n) turned
 
 pub name_takes : (bytes u : List ℕ) → IsBytes bytes → name_at bytes ≡ Some u
-    → (n : List (List Attribute)) × IsName n bytes × (name_text n ≡ Some u)
-unfolding name_at name_text
+    → (n : List (List Attribute)) × IsName n bytes × (text_of_name n ≡ Some u)
+unfolding name_at text_of_name
 name_takes bytes u fits e =
     let s = bind_some (field_at 48 bytes) rdns_at u e in
     let g = if_some (is_empty s.0.after) (contents_at 49 s.0.content >>= rdns_text) u s.2 in
@@ -175,7 +175,7 @@ name_takes bytes u fits e =
             ∙ ap (element 48) inside;
         short = subst (λ (x : List ℕ). length x < 2 ^ 24) inside ts.short;
       },
-      ap (joined 44 rdn_text []) (reverse-reverse m.0) ∙ m.2,
+      ap (joined_texts 44 rdn_text []) (reverse-reverse m.0) ∙ m.2,
     )
 
 -- ---- what the program returns

@@ -128,10 +128,10 @@ abbrev pub long_text : List ℕ → Option (List ℕ) → Option (List ℕ)
 long_text whole None = None
 long_text whole (Some numbers) = Some (numbers ++ (codes "=" ++ hexadecimal whole))
 
-abbrev pub named_text : Option (List ℕ) → (type : List ℕ) → (tag : ℕ)
+abbrev pub text_with_type : Option (List ℕ) → (type : List ℕ) → (tag : ℕ)
     → (content whole : List ℕ) → Option (List ℕ)
-named_text None type tag content whole = long_text whole (dotted type)
-named_text (Some name) type tag content whole =
+text_with_type None type tag content whole = long_text whole (dotted type)
+text_with_type (Some name) type tag content whole =
     Some (name ++ (codes "=" ++ value_text tag content whole))
 
 -- a tag of one byte (X.690, 8.1.2.2); others are not read
@@ -139,7 +139,7 @@ abbrev pub type_value_text : (type : List ℕ) → (tag : ℕ) → (content whol
     → Option (List ℕ)
 type_value_text type tag content whole =
     if nat_eq (tag % 32) 31 then None
-    else named_text (short_name type) type tag content whole
+    else text_with_type (short_name type) type tag content whole
 
 unfoldable pub attribute_text : Attribute → Option (List ℕ)
 attribute_text a = type_value_text a.type a.tag a.value (element a.tag a.value)
@@ -150,23 +150,23 @@ with_next sign [] next = next
 with_next sign (b ∷ before) next = (b ∷ before) ++ sign ∷ next
 
 -- the texts of all, after what is there; none if one has none
-abbrev pub joined : {X : Type 0} → ℕ → (X → Option (List ℕ)) → List ℕ → List X
+abbrev pub joined_texts : {X : Type 0} → ℕ → (X → Option (List ℕ)) → List ℕ → List X
     → Option (List ℕ)
-joined sign text before [] = Some before
-joined sign text before (x ∷ others) =
-    text x >>= λ own. joined sign text (with_next sign before own) others
+joined_texts sign text before [] = Some before
+joined_texts sign text before (x ∷ others) =
+    text x >>= λ own. joined_texts sign text (with_next sign before own) others
 
 -- attributes in their order, a + between two (section 2.2); a SET has at least one
 unfoldable pub rdn_text : List Attribute → Option (List ℕ)
 rdn_text [] = None
-rdn_text (a ∷ others) = joined 43 attribute_text [] (a ∷ others)
+rdn_text (a ∷ others) = joined_texts 43 attribute_text [] (a ∷ others)
 
 -- from the last to the first, a comma between two (section 2.1)
-unfoldable pub name_text : List (List Attribute) → Option (List ℕ)
-name_text n = joined 44 rdn_text [] (reverse n)
+unfoldable pub text_of_name : List (List Attribute) → Option (List ℕ)
+text_of_name n = joined_texts 44 rdn_text [] (reverse n)
 
 -- the text of the name that the bytes are; none if they are not a name, or it has no text
 abbrev pub IsNameText : List ℕ → Option (List ℕ) → Type 0
-IsNameText bytes None = (n : List (List Attribute)) → IsName n bytes → name_text n ≡ None
+IsNameText bytes None = (n : List (List Attribute)) → IsName n bytes → text_of_name n ≡ None
 IsNameText bytes (Some text) =
-    (n : List (List Attribute)) × IsName n bytes × (name_text n ≡ Some text)
+    (n : List (List Attribute)) × IsName n bytes × (text_of_name n ≡ Some text)

@@ -3,7 +3,7 @@ ghost use Rattle.std.specs.Prelude.{◌≡◌, ◌<◌, [], IfOk, OnOk, option_m
 ghost use Rattle.cert_key.specs.Inside.Names.{attribute_at, attributes_text, contents_at, name_at};
 ghost use Rattle.cert_key.specs.Inside.Names.{rdn_at, rdns_at, rdns_text};
 ghost use Rattle.cert_key.specs.Inside.Reading.{IsReadAs, view};
-ghost use Rattle.cert_key.specs.Name.{IsNameText, joined, with_next};
+ghost use Rattle.cert_key.specs.Name.{IsNameText, joined_texts, with_next};
 
 use crate::attribute_text::type_value_text;
 use crate::der::{Element, field_at, first_element};
@@ -92,7 +92,7 @@ fn rdns_text(alloc: Global, contents: Vec<Content<'_>>) -> Result<Option<String>
 
 fn joined_rdns(alloc: Global, contents: &[Content<'_>]) -> Result<Option<String>, AllocError>
     ensures { IfOk result (λ text. IsReadAs string_bytes text
-        (joined 44 rdn_at [] contents.now)) }
+        (joined_texts 44 rdn_at [] contents.now)) }
 {
     let mut text = String::new(alloc);
     let mut rest = contents;
@@ -127,7 +127,7 @@ fn attributes_text(alloc: Global, contents: &[Content<'_>]) -> Result<Option<Str
 
 fn joined_attributes(alloc: Global, contents: &[Content<'_>]) -> Result<Option<String>, AllocError>
     ensures { IfOk result (λ text. IsReadAs string_bytes text
-        (joined 43 attribute_at [] contents.now)) }
+        (joined_texts 43 attribute_at [] contents.now)) }
 {
     let mut text = String::new(alloc);
     let mut rest = contents;

@@ -1,7 +1,7 @@
 -- Reading names, from left to right
 use Rattle.std.specs.Prelude.{ℕ, zero, suc, ◌++◌, List, [], ◌∷◌, length, reverse, Option, Some}
 use Rattle.std.specs.Prelude.{None, if◌then◌else◌}
-use Rattle.cert_key.specs.Name.{is_empty, joined, type_value_text}
+use Rattle.cert_key.specs.Name.{is_empty, joined_texts, type_value_text}
 use Rattle.cert_key.specs.Inside.Reading.{◌>>=◌, Found, element_at, field_at}
 
 -- the contents of elements with this tag, one after another, after those that were read; `fuel`
@@ -25,13 +25,13 @@ attribute_at bytes = do
 
 abbrev pub attributes_text : List (List ℕ) → Option (List ℕ)
 attributes_text [] = None
-attributes_text (c ∷ others) = joined 43 attribute_at [] (c ∷ others)
+attributes_text (c ∷ others) = joined_texts 43 attribute_at [] (c ∷ others)
 
 unfoldable pub rdn_at : List ℕ → Option (List ℕ)
 rdn_at bytes = contents_at 48 bytes >>= attributes_text
 
 abbrev pub rdns_text : List (List ℕ) → Option (List ℕ)
-rdns_text contents = joined 44 rdn_at [] (reverse contents)
+rdns_text contents = joined_texts 44 rdn_at [] (reverse contents)
 
 abbrev pub rdns_at : Found → Option (List ℕ)
 rdns_at name =
