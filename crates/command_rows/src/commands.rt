@@ -15,8 +15,8 @@ use fed_config::Config;
 use fedbundle::{
     Call, CommandError, CommandName, OutputForm, RunError, WordsError, is_flag_given,
     read_output_form, read_sessions, read_status_format, read_words, run_bundle, run_bundle_pem,
-    run_distrust, run_merge, run_migrate, run_observe, run_pull, run_report, run_report_with,
-    run_serve, show_distrust, status, write_fault, write_served,
+    run_distrust, run_merge, run_migrate, run_observe, run_pull, run_report, run_report_into,
+    run_report_with, run_serve, show_distrust, status, write_fault, write_served,
 };
 use jwk_set::KeyId;
 use migration::Choice;
@@ -142,7 +142,7 @@ fn do_under_config<C: Closure>(
         (CommandName::Config, [Some(with), form, ..]) => {
             compare_configs(case, config, with, *form, devices)
         }
-        (CommandName::Report, [None, ..]) => report::<C>(case, config, devices),
+        (CommandName::Report, [None, form, ..]) => report::<C>(case, config, *form, devices),
         (name, [Some(state), given @ ..]) => {
             let file = case.script.text(state);
             do_over_file::<C>(case, Asked { name, given }, config, file, devices)
@@ -175,12 +175,16 @@ fn compare_configs(
 fn report<C: Closure>(
     case: &Case<'_>,
     config: &Config,
+    form: Option<&str>,
     devices: &mut Devices,
 ) -> Result<(), CommandError> {
-    let count = if case.is_report_own {
-        report_over_its_own(case.alloc, config, devices)?
-    } else {
-        report_over::<C>(case.alloc, config, devices)?
+    let count = match read_output_form(form) {
+        Ok(OutputForm::Text) if case.is_report_own => {
+            report_over_its_own(case.alloc, config, devices)?
+        }
+        Ok(OutputForm::Text) => report_over::<C>(case.alloc, config, devices)?,
+        Ok(OutputForm::Json) => report_json_over::<C>(case.alloc, config, devices)?,
+        Err(_) => return usage(devices),
     };
     devices.status = if count == 0 { 0 } else { 1 };
     Ok(())
@@ -208,6 +212,22 @@ fn report_over<C: Closure>(
     run_report_with::<C, _, _, _>(
         alloc,
         config,
+        &mut devices.input,
+        &mut devices.output,
+        &mut devices.errors,
+    )
+}
+
+fn report_json_over<C: Closure>(
+    alloc: Global,
+    config: &Config,
+    devices: &mut Devices,
+) -> Result<u64, RunError> {
+    let mut closure = C::new(alloc, config)?;
+    run_report_into(
+        alloc,
+        &mut closure,
+        OutputForm::Json,
         &mut devices.input,
         &mut devices.output,
         &mut devices.errors,
