@@ -230,9 +230,12 @@ Reads the configuration, the state file, and the other configuration of --to, an
 from standard input. A missing state is refused. With --at a running replica has the
 first two.
 
-Writes to standard output the state file under the other configuration, or under the same
-one without --to, which is a snapshot as `merge` reads it: the receipts that fit it, and the records of distrust whose domain it has; with --records-only only the
-records. Writes to standard error a line for each record and each receipt that is left out,
+Writes to standard output the state file under the other configuration: the receipts that
+fit it, and the records of distrust whose domain it has; with --records-only only the
+records. Without --to it stays under the same configuration, and the output is a snapshot
+of what is held, as `merge` reads one.
+
+Writes to standard error a line for each record and each receipt that is left out,
 `left out record <key id> of <domain>: <cause>` or `left out receipt <receipt id> of
 <domain>: <cause>`. It writes no file. Replicas that held the same print the same.
 
@@ -444,7 +447,7 @@ impl OptionName {
             OptionName::OptionalState => "The state file, in place of standard input",
             OptionName::OptionalDomain => "The one trust domain whose lines are printed",
             OptionName::With =>
-                "What to compare with: a file of the same kind, or a socket as --at",
+                "What to compare with: a file of the same kind; `diff --at` takes a socket, too",
             OptionName::At => "The socket of a running replica, in place of the two files",
             OptionName::Wait =>
                 "How long to wait for the state's lock, or for a running replica's reply, from 0 \

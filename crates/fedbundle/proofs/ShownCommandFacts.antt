@@ -5,7 +5,7 @@ use Rattle.command_line.specs.declared.command_name.CommandName.{CommandName}
 use Rattle.command_line.specs.declared.command_name.CommandName.TheVariants as command
 use Rattle.fedbundle.specs.CommandRun.{CommandRun, DeviceRun}
 use Rattle.fedbundle.specs.Shown.{IsUntouched, ShownCall, ShowsBy}
-use Rattle.fedbundle.specs.ShownCommands.{ShowsConfig, ShowsNamed}
+use Rattle.fedbundle.specs.ShownCommands.{ShowsConfig, ShowsNamed, config_call}
 use Rattle.fedbundle.specs.declared.exits.Exit.{Exit}
 
 -- what the command of this name does is what the call does
@@ -25,5 +25,5 @@ other_named name call run complaints result config diff migrate reseed shows sil
 
 -- the configuration that was lent is the one that is held
 pub config_shown : (name : CommandName) (texts : List (Option (List ℕ))) (lent held : Configuration) (run : CommandRun) (result : Result ℕ Exit)
-    → lent ≡ held → ShowsConfig name texts lent run result → ShowsConfig name texts held run result
-config_shown name texts lent held run result is shows = subst (λ c. ShowsConfig name texts c run result) is shows
+    → lent ≡ held → ShowsConfig (config_call name texts lent) run result → ShowsConfig (config_call name texts held) run result
+config_shown name texts lent held run result is shows = subst (λ c. ShowsConfig (config_call name texts c) run result) is shows

@@ -99,9 +99,17 @@ AnswersReport form run complaints c (Err e) = StopsReport form run complaints c 
     × IfSome run.source.before
     (λ bytes. BeginsTelling c (lines_of bytes) complaints.before complaints.after)
 
+-- the form of the report, and by which configuration
+pub record AskedReport : Type 0 where
+  pub form : OutputForm
+  pub config : Configuration
+
+abbrev pub report_asked : OutputForm → Configuration → AskedReport
+report_asked form config = record { form = form; config = config }
+
 -- That, and no fault of a device is passed over, or reported as another error.
-pub record RunsReport (form : OutputForm) (run : CommandRun) (complaints : DeviceRun)
-    (c : Configuration) (result : Result ℕ RunError) : Type 0 where
-  pub answer : AnswersReport form run complaints c result
+pub record RunsReport (run : CommandRun) (complaints : DeviceRun) (asked : AskedReport)
+    (result : Result ℕ RunError) : Type 0 where
+  pub answer : AnswersReport asked.form run complaints asked.config result
   pub sound : (IsErrOf result Io → ⊥)
       → IsAsSound run.source × IsAsSound run.sink × IsAsSound complaints

@@ -22,6 +22,7 @@ use Rattle.spiffe_name.specs.TrustDomain.{RefusesDomain}
 use Rattle.command_line.specs.OptionTexts.{SaysFlag, SaysNoOutputForm, SaysOutputForm, option_said}
 use Rattle.command_line.specs.declared.command_name.CommandName.{CommandName}
 use Rattle.command_line.specs.declared.command_name.CommandName.TheVariants as command
+use Rattle.command_line.specs.declared.command_name.OptionName.{OptionName}
 use Rattle.command_line.specs.declared.command_name.OptionName.TheVariants.{Allow, Format, To, With}
 use Rattle.command_line.specs.declared.command_name.OptionName.TheVariants.{RecordsOnly}
 use Rattle.command_line.specs.declared.option_texts.OutputForm.{OutputForm}
@@ -109,21 +110,32 @@ ShowsConfigIn (Some path) output.Text c run result = ComparesConfigs c run resul
 ShowsConfigIn (Some path) output.Json c run result =
     RefusesUnread (λ exit. exit ≡ Usage) run result
 
+-- the words of a call, and the configuration
+pub record ConfigCall : Type 0 where
+  pub name : CommandName
+  pub texts : List (Option (List ℕ))
+  pub config : Configuration
+
+abbrev pub config_call : CommandName → List (Option (List ℕ)) → Configuration → ConfigCall
+config_call name texts config = record { name = name; texts = texts; config = config }
+
+abbrev pub config_said : ConfigCall → OptionName → Option (List ℕ)
+config_said call option = option_said call.name call.texts option
+
 -- in the form that the words say
-pub record ShowsConfigSaid (name : CommandName) (texts : List (Option (List ℕ)))
-    (c : Configuration) (run : CommandRun) (result : Result ℕ Exit) : Type 0 where
+pub record ShowsConfigSaid (call : ConfigCall) (run : CommandRun)
+    (result : Result ℕ Exit) : Type 0 where
   pub form : OutputForm
-  pub is_form : SaysOutputForm (option_said name texts Format) form
-  pub shows : ShowsConfigIn (option_said name texts With) form c run result
+  pub is_form : SaysOutputForm (config_said call Format) form
+  pub shows : ShowsConfigIn (config_said call With) form call.config run result
 
 -- They say no form.
-abbrev pub EndsAtForm : CommandName → List (Option (List ℕ)) → Exit → Type 0
-EndsAtForm name texts exit = (exit ≡ Usage) × SaysNoOutputForm (option_said name texts Format)
+abbrev pub EndsAtForm : ConfigCall → Exit → Type 0
+EndsAtForm call exit = (exit ≡ Usage) × SaysNoOutputForm (config_said call Format)
 
-abbrev pub ShowsConfig : CommandName → List (Option (List ℕ)) → Configuration → CommandRun
-    → Result ℕ Exit → Type 0
-ShowsConfig name texts c run result = RefusesUnread (EndsAtForm name texts) run result
-    ⊎ ShowsConfigSaid name texts c run result
+abbrev pub ShowsConfig : ConfigCall → CommandRun → Result ℕ Exit → Type 0
+ShowsConfig call run result = RefusesUnread (EndsAtForm call) run result
+    ⊎ ShowsConfigSaid call run result
 
 -- ---- `diff`
 
@@ -177,7 +189,7 @@ pub record ShowsMove (move : Move) (sink complaints : DeviceRun)
   pub is : EndsMove answer result
 
 -- to the configuration that was read
-pub record MovesOn (choice : Choice) (m : Meaning) (run : CommandRun) (complaints : DeviceRun)
+pub record MovesToOther (choice : Choice) (m : Meaning) (run : CommandRun) (complaints : DeviceRun)
     (result : Result ℕ Exit) : Type 0 where
   pub to : Configuration
   pub reads : ReadsConfig run.source (Ok to)
@@ -185,7 +197,7 @@ pub record MovesOn (choice : Choice) (m : Meaning) (run : CommandRun) (complaint
 
 abbrev pub MovesToRead : Choice → Meaning → CommandRun → DeviceRun → Result ℕ Exit → Type 0
 MovesToRead choice m run complaints result =
-    (EndsAtConfig run result × IsUntouched complaints) ⊎ MovesOn choice m run complaints result
+    (EndsAtConfig run result × IsUntouched complaints) ⊎ MovesToOther choice m run complaints result
 
 -- Without `--to` it stays under its configuration.
 abbrev pub MovesTo : Option (List ℕ) → Choice → Meaning → CommandRun → DeviceRun
@@ -259,7 +271,8 @@ ShowsReseed call sink complaints result =
 -- Only `migrate` and `reseed` complain of anything beside how they end.
 abbrev pub ShowsNamed : CommandName → ShownCall → CommandRun → DeviceRun → Result ℕ Exit → Type 0
 ShowsNamed command.Config call run complaints result =
-    ShowsConfig call.name call.texts call.meaning.config run result × IsUntouched complaints
+    ShowsConfig (config_call call.name call.texts call.meaning.config) run result
+    × IsUntouched complaints
 ShowsNamed command.Diff call run complaints result =
     ShowsDifference call run result × IsUntouched complaints
 ShowsNamed command.Migrate call run complaints result =

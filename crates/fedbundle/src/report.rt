@@ -4,7 +4,7 @@ ghost use Rattle.bundle_view.specs.Report.{is_report_fault};
 ghost use Rattle.bundle_view.specs.declared.error.ReportError.TheVariants.{Io, NoMemory};
 ghost use Rattle.command_line.specs.declared.option_texts.OutputForm.TheVariants.{Text};
 ghost use Rattle.fedbundle.specs.CommandRun.{device_run, run_of};
-ghost use Rattle.fedbundle.specs.Report.{BeginsReportIn, RunsReport, WritesReportIn};
+ghost use Rattle.fedbundle.specs.Report.{BeginsReportIn, RunsReport, WritesReportIn, report_asked};
 ghost use Rattle.json_reports.specs.ReportJson.{IsReportJson};
 ghost use Rattle.text_lines.specs.TextLines.{BeginsSome, WritesSome};
 
@@ -52,10 +52,11 @@ pub fn run_report<R: Source, W: Sink, E: Sink>(
     sink: &mut W,
     complaints: &mut E,
 ) -> Result<u64, RunError>
-    ensures { RunsReport Text
+    ensures { RunsReport
         (run_of (device_run R.remaining R.has_failed source.old source.new)
         (device_run W.contents W.has_failed sink.old sink.new))
-        (device_run E.contents E.has_failed complaints.old complaints.new) config.now result }
+        (device_run E.contents E.has_failed complaints.old complaints.new)
+        (report_asked Text config.now) result }
 {
     run_report_with::<IndexedClosure, R, W, E>(alloc, config, source, sink, complaints)
 }
@@ -71,10 +72,11 @@ pub fn run_report_with<C: Closure, R: Source, W: Sink, E: Sink>(
     sink: &mut W,
     complaints: &mut E,
 ) -> Result<u64, RunError>
-    ensures { RunsReport Text
+    ensures { RunsReport
         (run_of (device_run R.remaining R.has_failed source.old source.new)
         (device_run W.contents W.has_failed sink.old sink.new))
-        (device_run E.contents E.has_failed complaints.old complaints.new) config.now result }
+        (device_run E.contents E.has_failed complaints.old complaints.new)
+        (report_asked Text config.now) result }
 {
     let mut closure = C::new(alloc, config)?;
     run_report_into(
@@ -104,11 +106,11 @@ pub fn run_report_into<C: Closure, R: Source, W: Sink, E: Sink>(
 ) -> Result<u64, RunError>
     requires receipts { (C.state closure.old).meaning.held ≡ [] }
     requires records { (C.state closure.old).meaning.records ≡ [] }
-    ensures { RunsReport form
+    ensures { RunsReport
         (run_of (device_run R.remaining R.has_failed source.old source.new)
         (device_run W.contents W.has_failed sink.old sink.new))
         (device_run E.contents E.has_failed complaints.old complaints.new)
-        (C.state closure.old).meaning.config result }
+        (report_asked form (C.state closure.old).meaning.config) result }
 {
     // The prover learns here that each domain has one relationship.
     let _domains = closure.config().domains();
@@ -137,11 +139,7 @@ fn report_to<C: Closure, W: Sink>(
     }
 }
 
-fn json_to<C: Closure, W: Sink>(
-    alloc: Global,
-    closure: &C,
-    sink: &mut W,
-) -> Result<(), ReportError>
+fn json_to<C: Closure, W: Sink>(alloc: Global, closure: &C, sink: &mut W) -> Result<(), ReportError>
     ensures ok { OnOk result (WritesSome (IsReportJson (C.state closure.now).meaning)
         (W.contents sink.old) (W.contents sink.new)) }
     ensures io { result ≡ Err Io → (W.has_failed sink.new ≡ true)

@@ -56,10 +56,10 @@ pub struct Shown<'call, 'words, 'a> {
 /// `reseed` that reports something on `complaints`; and otherwise 0. Only those two write there.
 ///
 /// `explain` and `polls`, and `status` with `--polls`, read the source, to its end or as far as
-/// [`run_explain`] and [`run_polls_in`] say. For `config` with `--with` and `migrate` with `--to` it
-/// has the other configuration, and for `diff` a snapshot of the other side: these read it to its
-/// end. The others leave it. `distrust` only shows what the record would change, whether or not the
-/// words have `--dry-run`.
+/// [`run_explain`] and [`run_polls_in`] say. It has the other configuration for `config` with
+/// `--with` and `migrate` with `--to`, and a snapshot of the other side for `diff`, which all read
+/// it to its end. The others leave it. `distrust` only shows what the record would change, whether
+/// or not the words have `--dry-run`.
 ///
 /// # Errors
 /// Where the words are refused, no device was touched.

@@ -7,7 +7,7 @@ ghost use Rattle.fedbundle.specs.CommandRun.{device_run, run_of};
 ghost use Rattle.fedbundle.specs.SaidValues.{texts_of_call};
 ghost use Rattle.fedbundle.specs.Shown.{RunsWriter};
 ghost use Rattle.fedbundle.specs.ShownCommands.{ComparesConfigs, IsConfigIn, ShowsConfig};
-ghost use Rattle.fedbundle.specs.ShownCommands.{ShowsOneConfig, exit_if_same};
+ghost use Rattle.fedbundle.specs.ShownCommands.{ShowsOneConfig, config_call, exit_if_same};
 
 use crate::config_source::read_config;
 use crate::error::CommandError;
@@ -33,7 +33,7 @@ pub fn run_config<R: Source, W: Sink>(
     source: &mut R,
     sink: &mut W,
 ) -> Result<u8, Exit>
-    ensures { ShowsConfig call.now.name (texts_of_call call.now) config.now
+    ensures { ShowsConfig (config_call call.now.name (texts_of_call call.now) config.now)
         (run_of (device_run R.remaining R.has_failed source.old source.new)
         (device_run W.contents W.has_failed sink.old sink.new)) result }
 {

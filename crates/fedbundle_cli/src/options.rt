@@ -1,7 +1,7 @@
 // The texts of options that name a file, a socket or a number, read.
-use byte_lines::{FromRead, read_up_to};
+use byte_lines::FromRead;
 use fed_config::Config;
-use fedbundle::{CommandError, Exit, OptionName, read_sessions};
+use fedbundle::{CommandError, Exit, OptionName, read_config, read_sessions};
 use std::alloc::Global;
 use std::fs::Files;
 use std::net::SocketAddr;
@@ -22,8 +22,7 @@ pub(crate) fn config<R: Files>(
     alloc: Global,
     path: &str,
 ) -> Result<Config, CommandError> {
-    let bytes = read_up_to(alloc, &mut file(files, path)?, usize::MAX)?;
-    Ok(Config::read(alloc, bytes.as_slice())?)
+    read_config(alloc, &mut file(files, path)?)
 }
 
 /// The address of an IP address and a port. At port 0 the system chooses the port.

@@ -13,13 +13,12 @@ use Rattle.fedbundle.specs.Shown.{IsReportIn, RunsWriter, ShownCall, ShowsBundle
 use Rattle.fedbundle.specs.Shown.{ShowsGraph, ShowsList, ShowsPolls, ShowsReport, ShowsSight, ShowsStanding, ShowsStatus, StatusSight, exit_if_done}
 use Rattle.fedbundle.specs.Shown.{exit_if_warned, exit_if_written, polls_form, shown_said, sight_of_call, watched_by}
 use Rattle.fedbundle.specs.Migrate.{Move, RunsMigrate}
-use Rattle.fedbundle.specs.ShownCommands.{Compares, EndsMove, IsConfigIn, MovesTo, PrintsReseeded, PrintsWhole, RunsShown, ShowsConfig, ShowsConfigIn}
-use Rattle.fedbundle.specs.ShownCommands.{ShowsDifference, ShowsMove, ShowsNamed, ShowsReseed, exit_if_same}
+use Rattle.fedbundle.specs.ShownCommands.{Compares, ConfigCall, EndsMove, IsConfigIn, MovesTo, PrintsReseeded, PrintsWhole, RunsShown}
+use Rattle.fedbundle.specs.ShownCommands.{ShowsConfig, ShowsConfigIn, ShowsDifference, ShowsMove, ShowsNamed, ShowsReseed, config_call, config_said, exit_if_same}
 use Rattle.fed_config.specs.Configuration.{Configuration}
 use Rattle.migration.specs.declared.carrying.Choice.{Choice}
 use Rattle.reseeding.specs.declared.starting_anew.Reseeded.{Reseeded}
 use Rattle.reseeding.specs.declared.starting_anew.Reseeded.TheVariants.{NewConfig, Refusals}
-use Rattle.command_line.specs.OptionTexts.{option_said}
 use Rattle.status_warnings.specs.declared.seen.Fetch.{Fetch}
 use Rattle.command_line.specs.declared.command_name.OptionName.TheVariants.{Polls, To, With}
 use Rattle.status_warnings.specs.WarnedStatus.{IsWarnedStatusIn}
@@ -213,11 +212,11 @@ config_in_unwritten (Some path) output.Text c run exit (inl ended) sound = ended
 config_in_unwritten (Some path) output.Text c run exit (inr compares) sound = compared_unwritten _ _ run.sink exit compares.compares sound
 config_in_unwritten (Some path) output.Json c run exit refused sound = refused.0.unwritten.0
 
-config_unwritten : (name : CommandName) (texts : List (Option (List ℕ))) (c : Configuration) (run : CommandRun) (exit : Exit)
-    → ShowsConfig name texts c run (Err exit) → (exit ≡ Refused Io → ⊥) → WritesNothing run.sink
-config_unwritten name texts c run exit (inl refused) sound = refused.0.unwritten.0
-config_unwritten name texts c run exit (inr shows) sound =
-    config_in_unwritten (option_said name texts With) shows.form c run exit shows.shows sound
+config_unwritten : (call : ConfigCall) (run : CommandRun) (exit : Exit) → ShowsConfig call run (Err exit) → (exit ≡ Refused Io → ⊥)
+    → WritesNothing run.sink
+config_unwritten call run exit (inl refused) sound = refused.0.unwritten.0
+config_unwritten call run exit (inr shows) sound =
+    config_in_unwritten (config_said call With) shows.form call.config run exit shows.shows sound
 
 -- of `diff`
 difference_unwritten : (call : ShownCall) (run : CommandRun) (exit : Exit) → ShowsDifference call run (Err exit) → (exit ≡ Refused Io → ⊥)
@@ -269,7 +268,7 @@ named_unwritten : (name : CommandName) (call : ShownCall) (run : CommandRun) (co
     → ShowsNamed name call run complaints (Err exit) → (exit ≡ Refused Io → ⊥) → (exit ≡ Refused NoMemory → ⊥)
     → WritesNothing run.sink × WritesNothing complaints
 named_unwritten command.Config call run complaints exit shows sound memory =
-    (config_unwritten call.name call.texts call.meaning.config run exit shows.0 sound, shows.1.0)
+    (config_unwritten (config_call call.name call.texts call.meaning.config) run exit shows.0 sound, shows.1.0)
 named_unwritten command.Diff call run complaints exit shows sound memory = (difference_unwritten call run exit shows.0 sound, shows.1.0)
 named_unwritten command.Migrate call run complaints exit shows sound memory =
     moves_unwritten (shown_said call To) shows.choice call.meaning run complaints exit shows.moves sound memory
