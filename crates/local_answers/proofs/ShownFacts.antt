@@ -14,7 +14,8 @@ use Rattle.fedbundle.specs.Shown.{ShowsGraph, ShowsList, ShowsPolls, ShowsReport
 use Rattle.fedbundle.specs.Shown.{exit_if_warned, exit_if_written, polls_form, shown_said, sight_of_call, watched_by}
 use Rattle.fedbundle.specs.Migrate.{Move, RunsMigrate}
 use Rattle.fedbundle.specs.ShownCommands.{Compares, ConfigCall, EndsMove, IsConfigIn, MovesTo, PrintsReseeded, PrintsWhole, RunsShown}
-use Rattle.fedbundle.specs.ShownCommands.{ShowsConfig, ShowsConfigIn, ShowsDifference, ShowsMove, ShowsNamed, ShowsReseed, config_call, config_said, exit_if_same}
+use Rattle.fedbundle.specs.ShownCommands.{ShowsConfig, ShowsConfigIn, ShowsDifference, ShowsMove}
+use Rattle.fedbundle.specs.ShownCommands.{ShowsNamed, ShowsReseed, config_call, config_said, exit_if_same}
 use Rattle.fed_config.specs.Configuration.{Configuration}
 use Rattle.migration.specs.declared.carrying.Choice.{Choice}
 use Rattle.reseeding.specs.declared.starting_anew.Reseeded.{Reseeded}
