@@ -1,0 +1,15 @@
+//! `config`: what a configuration says, or where two differ.
+use command_streams::{input, options, output};
+use fed_config::Config;
+use fedbundle::{Call, Exit, OptionName, given, run_config};
+
+/// Prints what the configuration says, or where it differs from another one, which is text alone.
+pub(crate) fn run(rt: &HostRuntime, config: &Config, call: &Call<'_>) -> Result<u8, Exit> {
+    match given(call, OptionName::With) {
+        Some(path) => {
+            let mut other = options::file(rt, path)?;
+            run_config(rt.alloc(), config, call, &mut other, &mut output(rt))
+        }
+        None => run_config(rt.alloc(), config, call, &mut input(rt), &mut output(rt)),
+    }
+}

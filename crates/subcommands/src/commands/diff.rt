@@ -1,0 +1,27 @@
+//! `diff`: what only one of two state files holds, printed.
+use crate::state_access::{StateAccess, leave, load, state_access_of};
+use command_streams::output;
+use fed_config::Config;
+use fedbundle::{Call, Exit, OptionName, run_diff, wanted};
+use trust_closure::IndexedClosure;
+
+/// Prints what only one of two state files holds. Where they hold different things the exit status
+/// is 1.
+pub(crate) fn run(
+    rt: &HostRuntime,
+    config: &Config,
+    closure: &IndexedClosure,
+    call: &Call<'_>,
+) -> Result<u8, Exit> {
+    let other = load(
+        rt,
+        config,
+        StateAccess {
+            path: wanted(call, OptionName::With)?,
+            ..state_access_of(call)?
+        },
+    )?;
+    let compared = run_diff(rt.alloc(), closure, &other, &mut output(rt));
+    leave(other);
+    compared
+}

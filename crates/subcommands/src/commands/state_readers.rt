@@ -1,0 +1,73 @@
+//! The subcommands that show what a state file holds, and write no file: they take no lock. The
+//! replica is made and given back in one place, and each command only borrows it.
+use crate::commands::{diff, distrust};
+use crate::state_access::{leave, load, state_access_of};
+use byte_lines::Source;
+use command_streams::{complaints, input, options, output};
+use fed_config::Config;
+use fedbundle::{Call, CommandName, Exit, OptionName, Shown, given, run_shown};
+use std::rt::Clock;
+use trust_closure::IndexedClosure;
+
+/// Shows what the command asks for, of what the state file holds.
+pub(crate) fn show(rt: &HostRuntime, config: &Config, call: &Call<'_>) -> Result<u8, Exit> {
+    let closure = load(rt, config, state_access_of(call)?)?;
+    let shown = show_of(rt, config, &closure, call);
+    leave(closure);
+    shown
+}
+
+fn show_of(
+    rt: &HostRuntime,
+    config: &Config,
+    closure: &IndexedClosure,
+    call: &Call<'_>,
+) -> Result<u8, Exit> {
+    match call.name {
+        CommandName::Diff => diff::run(rt, config, closure, call),
+        CommandName::Distrust => distrust::show(rt, closure, call),
+        _ => show_as_replica(rt, closure, call),
+    }
+}
+
+// The commands that a running replica has, too. A file that the words name is read in place of
+// standard input.
+fn show_as_replica(
+    rt: &HostRuntime,
+    closure: &IndexedClosure,
+    call: &Call<'_>,
+) -> Result<u8, Exit> {
+    match given(call, OptionName::Polls).or(given(call, OptionName::To)) {
+        Some(path) => show_from(rt, closure, call, &mut options::file(rt, path)?),
+        None => show_from(rt, closure, call, &mut input(rt)),
+    }
+}
+
+fn show_from<R: Source>(
+    rt: &HostRuntime,
+    closure: &IndexedClosure,
+    call: &Call<'_>,
+    source: &mut R,
+) -> Result<u8, Exit> {
+    let shown = Shown {
+        call,
+        running: None,
+        moment: unix_second(rt),
+    };
+    run_shown(
+        rt.alloc(),
+        closure,
+        shown,
+        source,
+        &mut output(rt),
+        &mut complaints(rt),
+    )
+}
+
+// The time of day; 0 if the clock has none.
+fn unix_second(rt: &HostRuntime) -> i64 {
+    match rt.since_1970() {
+        Ok(time) => i64::try_from(time.as_secs()).unwrap_or(0),
+        Err(_) => 0,
+    }
+}
