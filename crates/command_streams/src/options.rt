@@ -1,7 +1,9 @@
 //! The texts of options that name a file, a socket or a number, read.
 use byte_lines::FromRead;
 use fed_config::Config;
-use fedbundle::{Call, CommandError, Exit, OptionName, given, read_config, read_sessions, wanted};
+use fedbundle::{
+    Call, CommandError, Exit, OptionName, given, is_flag_given, read_config, read_sessions, wanted,
+};
 use std::alloc::Global;
 use std::fs::Files;
 use std::net::SocketAddr;
@@ -46,5 +48,5 @@ pub fn config_of(rt: &HostRuntime, call: &Call<'_>) -> Result<Config, Exit> {
 
 /// Whether the words allow a replica to listen there.
 pub fn may_listen(call: &Call<'_>, address: SocketAddr) -> bool {
-    address.ip().is_loopback() || given(call, OptionName::ListenAnywhere) == Some("true")
+    address.ip().is_loopback() || is_flag_given(given(call, OptionName::ListenAnywhere))
 }
