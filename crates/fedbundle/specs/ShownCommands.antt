@@ -1,7 +1,7 @@
 -- What each command does that shows what is held, or the configuration, with a sink for what it
 -- complains of: `config`, `diff`, `migrate` and `reseed` here, and the others by `Shown`.
 use Rattle.std.specs.Prelude.{◌≡◌, ◌≢◌, ◌↔◌, ◌⊎◌, ℕ, List, Bool, true, false, Option, Some, None}
-use Rattle.std.specs.Prelude.{Result, Ok, Err, IfOk, IsSome, IsTrue, if◌then◌else◌}
+use Rattle.std.specs.Prelude.{Result, Ok, Err, IfOk, IsTrue, if◌then◌else◌}
 use Rattle.byte_lines.specs.Device.{TakesUpTo}
 use Rattle.config_view.specs.ConfigJson.{IsConfigJson}
 use Rattle.config_view.specs.ConfigText.{IsConfigDifference, IsConfigText}
@@ -28,7 +28,7 @@ use Rattle.command_line.specs.declared.command_name.OptionName.TheVariants.{Reco
 use Rattle.command_line.specs.declared.option_texts.OutputForm.{OutputForm}
 use Rattle.command_line.specs.declared.option_texts.OutputForm.TheVariants as output
 use Rattle.fedbundle.specs.CommandRun.{CommandRun, CutsOff, DeviceRun, HasFailed, IsReadOut}
-use Rattle.fedbundle.specs.CommandRun.{PrintsText, WritesNothing}
+use Rattle.fedbundle.specs.CommandRun.{PrintsText}
 use Rattle.fedbundle.specs.Migrate.{Move, RunsMigrate, move_to}
 use Rattle.fedbundle.specs.SaidValues.{EndsAtName, EndsWithout}
 use Rattle.fedbundle.specs.Shown.{IsUntouched, RefusesUnread, RefusesUnwritten, RunsWriter}
@@ -74,7 +74,7 @@ pub record Compares (Is : List ℕ → Type 0) (Same : Type 0) (sink : DeviceRun
     (result : Result ℕ Exit) : Type 0 where
   pub answer : Result Bool CommandError
   pub runs : RunsWriter Is sink answer
-  pub same : IfOk answer (λ same. IsTrue same ↔ Same)
+  pub same : IfOk answer (λ is_same. IsTrue is_same ↔ Same)
   pub is : result ≡ exit_if_same answer
 
 -- ---- `config`
@@ -101,14 +101,17 @@ pub record ComparesRead (c : Configuration) (run : CommandRun)
 abbrev pub ComparesConfigs : Configuration → CommandRun → Result ℕ Exit → Type 0
 ComparesConfigs c run result = EndsAtConfig run result ⊎ ComparesRead c run result
 
--- By the option `--with`, beside which there is no JSON.
+-- There is no JSON of two configurations.
+abbrev pub ComparesConfigsIn : OutputForm → Configuration → CommandRun → Result ℕ Exit → Type 0
+ComparesConfigsIn output.Text c run result = ComparesConfigs c run result
+ComparesConfigsIn output.Json c run result = RefusesUnread (λ exit. exit ≡ Usage) run result
+
+-- by the option `--with`
 abbrev pub ShowsConfigIn : (with : Option (List ℕ)) → OutputForm → Configuration → CommandRun
     → Result ℕ Exit → Type 0
 ShowsConfigIn None form c run result = ShowsOneConfig form c run.sink result
     × IsUntouched run.source
-ShowsConfigIn (Some path) output.Text c run result = ComparesConfigs c run result
-ShowsConfigIn (Some path) output.Json c run result =
-    RefusesUnread (λ exit. exit ≡ Usage) run result
+ShowsConfigIn (Some path) form c run result = ComparesConfigsIn form c run result
 
 -- the words of a call, and the configuration
 pub record ConfigCall : Type 0 where

@@ -6,8 +6,9 @@ ghost use Rattle.fed_config.specs.Configuration.{config_id_of};
 ghost use Rattle.fedbundle.specs.CommandRun.{device_run, run_of};
 ghost use Rattle.fedbundle.specs.SaidValues.{texts_of_call};
 ghost use Rattle.fedbundle.specs.Shown.{RunsWriter};
-ghost use Rattle.fedbundle.specs.ShownCommands.{ComparesConfigs, IsConfigIn, ShowsConfig};
-ghost use Rattle.fedbundle.specs.ShownCommands.{ShowsOneConfig, config_call, exit_if_same};
+ghost use Rattle.fedbundle.specs.ShownCommands.{ComparesConfigs, ComparesConfigsIn, IsConfigIn};
+ghost use Rattle.fedbundle.specs.ShownCommands.{ShowsConfig, ShowsOneConfig, config_call};
+ghost use Rattle.fedbundle.specs.ShownCommands.{exit_if_same};
 
 use crate::config_source::read_config;
 use crate::error::CommandError;
@@ -39,8 +40,7 @@ pub fn run_config<R: Source, W: Sink>(
 {
     let form = read_output_form(given(call, OptionName::Format))?;
     match given(call, OptionName::With) {
-        Some(_) if form == OutputForm::Json => Err(Exit::Usage),
-        Some(_) => compare(alloc, config, source, sink),
+        Some(_) => compare_in(alloc, config, form, source, sink),
         None => show(alloc, config, form, sink),
     }
 }
@@ -82,6 +82,24 @@ fn config_json<W: Sink>(alloc: Global, config: &Config, sink: &mut W) -> Result<
 {
     write_config_json(alloc, config, sink)?;
     Ok(())
+}
+
+// There is no JSON of two configurations.
+fn compare_in<R: Source, W: Sink>(
+    alloc: Global,
+    config: &Config,
+    form: OutputForm,
+    source: &mut R,
+    sink: &mut W,
+) -> Result<u8, Exit>
+    ensures { ComparesConfigsIn form config.now
+        (run_of (device_run R.remaining R.has_failed source.old source.new)
+        (device_run W.contents W.has_failed sink.old sink.new)) result }
+{
+    match form {
+        OutputForm::Text => compare(alloc, config, source, sink),
+        OutputForm::Json => Err(Exit::Usage),
+    }
 }
 
 // The source has the other configuration.

@@ -1,11 +1,12 @@
 //! What goes along to another configuration, and a configuration for a start anew, by what the
 //! words of `migrate` and of `reseed` say. Both write on two sinks.
-ghost use Rattle.std.specs.Prelude.{IfErr, IfOk, option_copied, option_map};
+ghost use Rattle.std.specs.Prelude.{IfErr, IfOk, Ok, option_copied, option_map};
 ghost use Rattle.fedbundle.specs.CommandRun.{device_run, run_of};
 ghost use Rattle.fedbundle.specs.Migrate.{move_to};
 ghost use Rattle.fedbundle.specs.SaidValues.{texts_of_call};
 ghost use Rattle.fedbundle.specs.Shown.{SaysChosen, shown_call};
-ghost use Rattle.fedbundle.specs.ShownCommands.{EndsAtAllowed, MovesToRead, PrintsWhole};
+ghost use Rattle.fedbundle.specs.ShownCommands.{EndsAtAllowed, EndsMove, MovesToRead};
+ghost use Rattle.fedbundle.specs.ShownCommands.{PrintsWhole};
 ghost use Rattle.fedbundle.specs.ShownCommands.{ReseedsInto, SaysChoice, ShowsMigration, ShowsMove};
 ghost use Rattle.fedbundle.specs.ShownCommands.{ShowsReseed, allowed_said};
 
@@ -87,10 +88,15 @@ fn migrate_to<C: Closure, W: Sink, E: Sink>(
         (device_run W.contents W.has_failed sink.old sink.new)
         (device_run E.contents E.has_failed complaints.old complaints.new) result }
 {
-    match run_migrate(alloc, closure, to, choice, sink, complaints)? {
-        0 => Ok(0),
-        _ => Ok(1),
-    }
+    let count = run_migrate(alloc, closure, to, choice, sink, complaints)?;
+    Ok(status_of_left(count))
+}
+
+// The exit status, by how many were left out.
+fn status_of_left(count: u64) -> u8
+    ensures { EndsMove (Ok count) (Ok result) }
+{
+    if count == 0 { 0 } else { 1 }
 }
 
 /// Writes the configuration for a start anew; or, on `complaints`, the lines of the domains that

@@ -13,7 +13,7 @@ use Rattle.fedbundle.specs.Shown.{IsReportIn, RunsWriter, ShownCall, ShowsBundle
 use Rattle.fedbundle.specs.Shown.{ShowsGraph, ShowsList, ShowsPolls, ShowsReport, ShowsSight, ShowsStanding, ShowsStatus, StatusSight, exit_if_done}
 use Rattle.fedbundle.specs.Shown.{exit_if_warned, exit_if_written, polls_form, shown_said, sight_of_call, watched_by}
 use Rattle.fedbundle.specs.Migrate.{Move, RunsMigrate}
-use Rattle.fedbundle.specs.ShownCommands.{Compares, ConfigCall, EndsMove, IsConfigIn, MovesTo, PrintsReseeded, PrintsWhole, RunsShown}
+use Rattle.fedbundle.specs.ShownCommands.{Compares, ComparesConfigsIn, ConfigCall, EndsMove, IsConfigIn, MovesTo, PrintsReseeded, PrintsWhole, RunsShown}
 use Rattle.fedbundle.specs.ShownCommands.{ShowsConfig, ShowsConfigIn, ShowsDifference, ShowsMove}
 use Rattle.fedbundle.specs.ShownCommands.{ShowsNamed, ShowsReseed, config_call, config_said, exit_if_same}
 use Rattle.fed_config.specs.Configuration.{Configuration}
@@ -205,13 +205,17 @@ compared_unwritten : (Is : List ℕ → Type 0) (Same : Type 0) (sink : DeviceRu
 compared_unwritten Is Same sink exit compares sound = same_unwritten Is sink compares.answer exit compares.runs compares.is sound
 
 -- of `config`
+configs_unwritten : (form : OutputForm) (c : Configuration) (run : CommandRun) (exit : Exit) → ComparesConfigsIn form c run (Err exit)
+    → (exit ≡ Refused Io → ⊥) → WritesNothing run.sink
+configs_unwritten output.Text c run exit (inl ended) sound = ended.unwritten.0
+configs_unwritten output.Text c run exit (inr compares) sound = compared_unwritten _ _ run.sink exit compares.compares sound
+configs_unwritten output.Json c run exit refused sound = refused.0.unwritten.0
+
 config_in_unwritten : (with : Option (List ℕ)) (form : OutputForm) (c : Configuration) (run : CommandRun) (exit : Exit)
     → ShowsConfigIn with form c run (Err exit) → (exit ≡ Refused Io → ⊥) → WritesNothing run.sink
 config_in_unwritten None form c run exit shows sound =
     writer_unwritten (IsConfigIn form c) run.sink shows.0.answer exit shows.0.runs shows.0.is sound
-config_in_unwritten (Some path) output.Text c run exit (inl ended) sound = ended.unwritten.0
-config_in_unwritten (Some path) output.Text c run exit (inr compares) sound = compared_unwritten _ _ run.sink exit compares.compares sound
-config_in_unwritten (Some path) output.Json c run exit refused sound = refused.0.unwritten.0
+config_in_unwritten (Some path) form c run exit compares sound = configs_unwritten form c run exit compares sound
 
 config_unwritten : (call : ConfigCall) (run : CommandRun) (exit : Exit) → ShowsConfig call run (Err exit) → (exit ≡ Refused Io → ⊥)
     → WritesNothing run.sink
@@ -229,8 +233,8 @@ difference_unwritten call run exit (inr (inr compares)) sound = compared_unwritt
 -- of `migrate`, on both sinks
 answer_unwritten : (move : Move) (sink complaints : DeviceRun) (answer : Result ℕ CommandError) (exit : Exit) → RunsMigrate move sink complaints answer
     → EndsMove answer (Err exit) → (exit ≡ Refused Io → ⊥) → (exit ≡ Refused NoMemory → ⊥) → WritesNothing sink × WritesNothing complaints
-answer_unwritten move sink complaints (Ok n) exit runs (inl none) sound memory = let no : ⊥ = cc in absurd no
-answer_unwritten move sink complaints (Ok n) exit runs (inr some) sound memory = let no : ⊥ = cc in absurd no
+answer_unwritten move sink complaints (Ok n) exit runs (inl (none, same)) sound memory = let no : ⊥ = cc in absurd no
+answer_unwritten move sink complaints (Ok n) exit runs (inr (some, same)) sound memory = let no : ⊥ = cc in absurd no
 answer_unwritten move sink complaints (Err Io) exit runs is sound memory = let same : exit ≡ Refused Io = cc in absurd (sound same)
 answer_unwritten move sink complaints (Err NoMemory) exit runs is sound memory = let same : exit ≡ Refused NoMemory = cc in absurd (memory same)
 answer_unwritten move sink complaints (Err e) exit runs is sound memory = absurd runs.answer
