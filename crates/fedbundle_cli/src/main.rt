@@ -3,25 +3,12 @@
 // are safety and, where the system's calls return, that it returns.
 #![tactic(auto)]
 
-mod at_replica;
-mod commands;
-mod connection;
-mod distrust_at;
-mod exit;
-mod fault_places;
-mod limited_reader;
-mod missing_words;
-mod options;
-mod process_words;
-mod reasons;
-mod state_access;
-mod streams;
-mod verbose_lines;
+mod dispatch;
+mod replica_settings;
 
-use exit::print_exit;
+use command_streams::{ClosedStreams, print_exit};
 use fedbundle::{CommandError, Exit};
 use std::process::ExitCode;
-use streams::ClosedStreams;
 
 fn main(rt: HostRuntime) -> ExitCode {
     let ended = match run(&rt) {
@@ -33,7 +20,7 @@ fn main(rt: HostRuntime) -> ExitCode {
 
 fn run(rt: &HostRuntime) -> Result<u8, Exit> {
     match ClosedStreams::hold(rt) {
-        Ok(_held) => commands::run(rt),
+        Ok(_held) => dispatch::run(rt),
         Err(_) => Err(Exit::Refused(CommandError::Io)),
     }
 }

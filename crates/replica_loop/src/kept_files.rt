@@ -1,9 +1,9 @@
 //! The files in which a running replica keeps what it holds: the lock, the state and its journal.
-use crate::connection_table::ConnectionTable;
-use crate::event_log::{LogEvent, log_event};
-use crate::held_state::HeldState;
 use closure_core::Closure;
 use fedbundle::FileFault;
+use peer_talks::HeldState;
+use replica_connections::ConnectionTable;
+use replica_events::{LogEvent, log_event};
 use state_files::{
     AppendFault, FoldFault, Journal, LostFile, StateLock, begin_anew, fold_state, save_snapshot,
 };

@@ -1,13 +1,13 @@
 //! The beginning and the end of a replica that stays.
-use crate::event_log::{LogEvent, log_event};
-use crate::held_state::HeldState;
 use crate::settings::Settings;
-use crate::step_fault::file_at_step;
 use crate::turn::{RunningReplica, turn};
 use closure_core::Closure;
 use fed_config::Config;
 use fedbundle::{CommandError, Exit, Step};
 use mio::Events;
+use peer_talks::HeldState;
+use replica_events::{LogEvent, log_event};
+use replica_sockets::file_at_step;
 use state_files::{
     FoundFiles, StateBeginning, StateLock, has_journal, is_marked, state_bytes, try_lock_state,
 };

@@ -1,5 +1,6 @@
 //! What the words say of a replica.
 use local_answers::PageLimits;
+use replica_sockets::ListenPlaces;
 use std::net::SocketAddr;
 use std::time::Duration;
 
@@ -32,4 +33,16 @@ pub struct Settings<'a, 'p> {
     pub is_new: bool,
     /// Whether each connection is reported that has ended, and not only those at fault.
     pub is_verbose: bool,
+}
+
+impl<'a> Settings<'a, '_> {
+    /// Where the replica listens.
+    pub(crate) fn places(&self) -> ListenPlaces<'a> {
+        ListenPlaces {
+            socket: self.socket,
+            read_socket: self.read_socket,
+            listen: self.listen,
+            health: self.health,
+        }
+    }
 }

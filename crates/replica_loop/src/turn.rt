@@ -2,23 +2,8 @@
 //! milliseconds of long requests or of changes are carried out, what came is put on the disk, and
 //! only then it is shown. So nobody is shown a change that a kill could take back, and nobody waits
 //! for more than one of the others at a time. `kept_files` has what is on the disk.
-use crate::connection_table::ConnectionTable;
-use crate::ending::Ending;
-use crate::event_counts::EventCounts;
-use crate::event_log::{LogEvent, log_event};
-use crate::held_state::HeldState;
 use crate::kept_files::KeptFiles;
-use crate::listeners::{Arrival, Listeners};
-use crate::live_connection::LiveConnection;
-use crate::local_talk::{LocalTalk, Rights, Surroundings};
-use crate::page_talk::PageTalk;
-use crate::peers::Peers;
-use crate::pull_talk::PullTalk;
-use crate::served_talk::ServedTalk;
 use crate::settings::Settings;
-use crate::socket::Socket;
-use crate::step_fault::{at_step, file_at_step};
-use crate::talk::Talk;
 use crate::turn_counts::TurnCounts;
 use closure_core::Closure;
 use fair_turns::Work;
@@ -27,6 +12,12 @@ use health_pages::LoopCounts;
 use local_answers::{PageLimits, PageSource};
 use mio::Events;
 use mio::net::TcpStream;
+use peer_talks::{Ending, HeldState, Peers, PullTalk, ServedTalk};
+use replica_connections::{
+    ConnectionTable, LiveConnection, LocalTalk, PageTalk, Surroundings, Talk,
+};
+use replica_events::{EventCounts, LogEvent, log_event};
+use replica_sockets::{Arrival, Listeners, Rights, Socket, at_step, file_at_step};
 use replica_sync::SyncError;
 use state_files::{StateBeginning, StateLock};
 use status_view::RunningStatus;
@@ -84,7 +75,7 @@ impl RunningReplica {
         settings: &Settings<'_, '_>,
     ) -> Result<RunningReplica, Exit> {
         let now = at_step(Step::Socket, Instant::now(rt))?;
-        let listeners = Listeners::open(rt, settings, now)?;
+        let listeners = Listeners::open(rt, &settings.places(), now)?;
         let journal = beginning.begin_journal(rt, alloc, closure, settings.state);
         let began = unix_seconds(rt).unwrap_or(0);
         Ok(RunningReplica {
@@ -406,7 +397,7 @@ impl RunningReplica {
 
     /// Removes the sockets' files, if they are still those of this replica.
     pub(crate) fn remove_sockets<R: Files>(&self, rt: &R, settings: &Settings<'_, '_>) {
-        self.listeners.remove_sockets(rt, settings);
+        self.listeners.remove_sockets(rt, &settings.places());
     }
 
     /// Whether it was asked to end, and the replies are sent or had their time.

@@ -1,10 +1,8 @@
 //! What a loop counts since it began.
-use crate::connection_table::ConnectionTable;
-use crate::ending::Ending;
 use crate::kept_files::KeptFiles;
-use crate::live_connection::LiveConnection;
-use crate::talk::Talk;
 use health_pages::LoopCounts;
+use peer_talks::Ending;
+use replica_connections::{ConnectionTable, LiveConnection, Talk};
 use std::time::Duration;
 
 /// What a loop counts, beside what its files and the connections that there are count.

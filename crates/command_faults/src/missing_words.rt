@@ -1,0 +1,62 @@
+//! Words that clap takes and that are no call: what is missing.
+use command_streams::{is_verbose_unasked, print_exit, say};
+use fedbundle::{Exit, OptionName, command_of};
+use std::alloc::AllocError;
+
+/// Reports that the words are no call, and what is missing, and returns the exit status.
+pub fn end_without_call(rt: &HostRuntime, words: &[&str]) -> u8 {
+    let status = print_exit(rt, &Exit::Usage);
+    if is_asked_for(words) || is_verbose_unasked(rt) {
+        // That memory ran out for it changes nothing.
+        let _ = say_lack(rt, words);
+    }
+    status
+}
+
+fn is_asked_for(words: &[&str]) -> bool {
+    words.iter().any(|word| *word == "--verbose")
+}
+
+fn say_lack(rt: &HostRuntime, words: &[&str]) -> Result<(), AllocError> {
+    let Some(name) = words.first().and_then(|word| command_of(word)) else {
+        say(rt, "a subcommand is missing: see fedbundle --help");
+        return Ok(());
+    };
+    let has_at = has_option(words, OptionName::At);
+    'options: for &option in name.options() {
+        if let Some(line) = lack_of(words, option, has_at) {
+            let (command, option) = (name.text(), option.text());
+            say(
+                rt,
+                format!(in rt.alloc(); "{command}: --{option} {line}")?.as_str(),
+            );
+        }
+    }
+    Ok(())
+}
+
+// What is wrong with how an option stands among the words.
+fn lack_of<'a>(words: &[&str], option: OptionName, has_at: bool) -> Option<&'a str> {
+    let stands = has_option(words, option);
+    if has_at && option.is_place() {
+        return stands.then_some("may not stand beside --at");
+    }
+    let may_lack = option.may_be_left_out() || option.is_flag();
+    (!stands && !may_lack).then_some("is missing")
+}
+
+fn has_option(words: &[&str], option: OptionName) -> bool {
+    words.iter().any(|word| is_option(word, option.text()))
+}
+
+// Whether the word is the option, or begins with it and has its text after an equals sign.
+fn is_option(word: &str, name: &str) -> bool {
+    let Some(rest) = word.strip_prefix("--") else {
+        return false;
+    };
+    let found = match rest.split_once('=') {
+        Some((found, _)) => found,
+        None => rest,
+    };
+    found == name
+}

@@ -1,0 +1,22 @@
+//! What each command does with the process that it is: its words, its standard streams, the files
+//! and addresses that its options name, and how it ends.
+//!
+//! `process_words` are the words, and `options` reads the texts of some of them. `streams` has the
+//! standard streams, and `verbose_lines` the lines on standard error beside those that report
+//! faults. `exit` reports why the program ends. Of the system's files and streams no clause says
+//! anything: proved here is safety.
+#![tactic(auto)]
+
+mod exit;
+pub mod options;
+mod process_words;
+mod streams;
+mod verbose_lines;
+
+pub use exit::{print_clap, print_exit};
+pub use process_words::{texts_of, words_of_process};
+pub use streams::{
+    ClosedStreams, WholeLines, complaints, error_lines, input, output, output_line,
+    warn_of_anywhere,
+};
+pub use verbose_lines::{is_verbose_for, is_verbose_unasked, quoted, say, shown, words_of};

@@ -1,0 +1,51 @@
+//! The texts of options that name a file, a socket or a number, read.
+use byte_lines::{FromRead, read_up_to};
+use fed_config::Config;
+use fedbundle::{Call, CommandError, Exit, OptionName, given, read_sessions, wanted};
+use std::alloc::Global;
+use std::fs::Files;
+use std::net::SocketAddr;
+use std::{fs, io};
+
+/// The file, to be read from its beginning.
+pub fn file<R: Files>(files: &R, path: &str) -> Result<FromRead<R::File>, CommandError> {
+    match fs::open(files, path) {
+        Ok(file) => Ok(FromRead::new(file)),
+        Err(error) if error.kind() == io::ErrorKind::OutOfMemory => Err(CommandError::NoMemory),
+        Err(_) => Err(CommandError::Io),
+    }
+}
+
+/// The configuration in the file.
+pub fn config<R: Files>(files: &R, alloc: Global, path: &str) -> Result<Config, CommandError> {
+    let bytes = read_up_to(alloc, &mut file(files, path)?, usize::MAX)?;
+    Ok(Config::read(alloc, bytes.as_slice())?)
+}
+
+/// The address of an IP address and a port. At port 0 the system chooses the port.
+pub fn address(text: &str) -> Result<SocketAddr, Exit> {
+    text.parse::<SocketAddr>().map_err(|_| Exit::BadAddress)
+}
+
+/// The same where another program has to know the port, so it is not 0.
+pub fn known_address(text: &str) -> Result<SocketAddr, Exit> {
+    match address(text)? {
+        known if known.port() != 0 => Ok(known),
+        _ => Err(Exit::BadAddress),
+    }
+}
+
+/// How many sessions are served.
+pub fn session_count(text: &str) -> Result<u32, Exit> {
+    read_sessions(text).ok_or(Exit::BadNumber(OptionName::Sessions))
+}
+
+/// The configuration in the file that the words name.
+pub fn config_of(rt: &HostRuntime, call: &Call<'_>) -> Result<Config, Exit> {
+    Ok(config(rt, rt.alloc(), wanted(call, OptionName::Config)?)?)
+}
+
+/// Whether the words allow a replica to listen there.
+pub fn may_listen(call: &Call<'_>, address: SocketAddr) -> bool {
+    address.ip().is_loopback() || given(call, OptionName::ListenAnywhere) == Some("true")
+}

@@ -1,0 +1,140 @@
+// `replica`: what the words say of it, read, and the replica run.
+use command_line::number_given;
+use command_streams::options::may_listen;
+use command_streams::{options, warn_of_anywhere};
+use fed_config::Config;
+use fedbundle::{Call, CommandError, Exit, OptionName, given, manner_of, wanted};
+use local_answers::PageLimits;
+use replica_loop::{Settings, run_replica};
+use std::alloc::Global;
+use std::net::SocketAddr;
+use std::time::Duration;
+
+/// How many seconds after a pull began the next one from that peer begins where nothing else is
+/// said, and at most.
+const EVERY_SECONDS: u64 = 60;
+
+const MAX_EVERY_SECONDS: u64 = 86_400;
+
+/// How many bytes requests and their replies may have together where nothing else is said.
+const MOST_REQUEST_BYTES: u64 = 536_870_912;
+
+/// How many days before its end the pages warn of a certificate, and how many seconds a peer may be
+/// quiet, where nothing else is said; and at most.
+const EXPIRES_WITHIN: u64 = 7;
+
+const MAX_EXPIRES_WITHIN: u64 = 36_525;
+
+const PEER_QUIET: u64 = 600;
+
+const MAX_PEER_QUIET: u64 = 31_536_000;
+
+/// The version of the program, as `--version` prints it.
+const VERSION: &str = "0.7.0";
+
+/// From how many replicas one pulls at most.
+const MOST_PEERS: usize = 16;
+
+/// Runs the replica until it is asked to end.
+pub(crate) fn run(rt: &HostRuntime, config: &Config, call: &Call<'_>) -> Result<u8, Exit> {
+    let peers = peers_of(rt.alloc(), given(call, OptionName::Peers))?;
+    let settings = settings_of(call, peers.as_slice())?;
+    for address in [settings.listen, settings.health].into_iter().flatten() {
+        warn_of_anywhere(rt, address);
+    }
+    run_replica(rt, config, &settings)?;
+    Ok(0)
+}
+
+fn settings_of<'a, 'p>(call: &Call<'a>, peers: &'p [SocketAddr]) -> Result<Settings<'a, 'p>, Exit> {
+    let manner = manner_of(call)?;
+    Ok(Settings {
+        state: wanted(call, OptionName::State)?,
+        socket: wanted(call, OptionName::Socket)?,
+        read_socket: given(call, OptionName::ReadSocket),
+        listen: listen_of(call)?,
+        health: health_of(call)?,
+        page_limits: page_limits_of(call)?,
+        version: VERSION,
+        peers,
+        every: Duration::from_secs(every_of(given(call, OptionName::Every))?),
+        most_bytes: manner.most_bytes,
+        most_request_bytes: request_bytes_of(given(call, OptionName::MostRequestBytes))?,
+        is_new: given(call, OptionName::New) == Some("true"),
+        is_verbose: manner.is_verbose,
+    })
+}
+
+// Whoever reaches the address is given all that is held, so that is to be wanted.
+fn listen_of(call: &Call<'_>) -> Result<Option<SocketAddr>, Exit> {
+    let Some(text) = given(call, OptionName::OptionalListen) else {
+        return Ok(None);
+    };
+    let address = options::known_address(text)?;
+    if may_listen(call, address) {
+        Ok(Some(address))
+    } else {
+        Err(Exit::BadAddress)
+    }
+}
+
+// Whoever reaches the address sees what is held. The system chooses the port if that is 0.
+fn health_of(call: &Call<'_>) -> Result<Option<SocketAddr>, Exit> {
+    let Some(text) = given(call, OptionName::Health) else {
+        return Ok(None);
+    };
+    let address = options::address(text)?;
+    if may_listen(call, address) {
+        Ok(Some(address))
+    } else {
+        Err(Exit::BadAddress)
+    }
+}
+
+fn page_limits_of(call: &Call<'_>) -> Result<PageLimits, Exit> {
+    let days = OptionName::ExpiresWithin;
+    let seconds = OptionName::PeerQuiet;
+    Ok(PageLimits {
+        expires_within: number_given(call, days, EXPIRES_WITHIN, MAX_EXPIRES_WITHIN)?,
+        peer_quiet: number_given(call, seconds, PEER_QUIET, MAX_PEER_QUIET)?,
+    })
+}
+
+fn every_of(text: Option<&str>) -> Result<u64, Exit> {
+    let Some(text) = text else {
+        return Ok(EVERY_SECONDS);
+    };
+    let has_digits = text.bytes().all(|byte| byte.is_ascii_digit());
+    match text.parse::<u64>() {
+        Ok(seconds) if has_digits && (1..=MAX_EVERY_SECONDS).contains(&seconds) => Ok(seconds),
+        _ => Err(Exit::BadNumber(OptionName::Every)),
+    }
+}
+
+fn request_bytes_of(text: Option<&str>) -> Result<u64, Exit> {
+    let Some(text) = text else {
+        return Ok(MOST_REQUEST_BYTES);
+    };
+    let has_digits = text.bytes().all(|byte| byte.is_ascii_digit());
+    match text.parse::<u64>() {
+        Ok(bytes) if has_digits => Ok(bytes),
+        _ => Err(Exit::BadNumber(OptionName::MostRequestBytes)),
+    }
+}
+
+fn peers_of(alloc: Global, text: Option<&str>) -> Result<Vec<SocketAddr>, Exit> {
+    let mut peers = Vec::new(alloc);
+    let Some(text) = text else {
+        return Ok(peers);
+    };
+    for address in text.split(',') {
+        if peers.len() == MOST_PEERS {
+            return Err(Exit::BadNumber(OptionName::Peers));
+        }
+        let address = options::known_address(address)?;
+        if peers.push(address).is_err() {
+            return Err(Exit::Refused(CommandError::NoMemory));
+        }
+    }
+    Ok(peers)
+}

@@ -1,0 +1,41 @@
+//! How a connection ended.
+use replica_sync::SyncError;
+use status_view::PeerFault;
+use std::alloc::AllocError;
+
+/// How a connection ended. It owns nothing.
+#[derive(Clone, Copy, Debug, PartialEq, Eq)]
+pub enum Ending {
+    /// All was said.
+    Well,
+    /// It was at fault.
+    Fault(SyncError),
+    /// The other side sent more than the limit says.
+    TooManyBytes,
+    /// It gave way to a later one.
+    GaveWay,
+}
+
+impl Ending {
+    /// Why it failed, where it did.
+    pub fn fault(self) -> Option<PeerFault> {
+        match self {
+            Ending::Well => None,
+            Ending::Fault(why) => Some(PeerFault::Session(why)),
+            Ending::TooManyBytes => Some(PeerFault::TooManyBytes),
+            Ending::GaveWay => Some(PeerFault::Session(SyncError::Io)),
+        }
+    }
+}
+
+impl From<SyncError> for Ending {
+    fn from(why: SyncError) -> Ending {
+        Ending::Fault(why)
+    }
+}
+
+impl From<AllocError> for Ending {
+    fn from(_error: AllocError) -> Ending {
+        Ending::Fault(SyncError::NoMemory)
+    }
+}

@@ -1,0 +1,120 @@
+//! A connection on which this replica asks another one.
+use crate::ending::Ending;
+use crate::held_state::HeldState;
+use crate::unread_bytes::UnreadBytes;
+use closure_core::Closure;
+use replica_sync::{Pulling, SyncError};
+use std::alloc::{AllocError, Global};
+
+/// A connection on which this replica asks, and takes what is answered.
+#[derive(Drop)]
+pub struct PullTalk {
+    // Which of the peers it is.
+    number: usize,
+    pulling: Pulling,
+    rest: UnreadBytes,
+    // How many more bytes may come.
+    bytes_left: u64,
+    // Whether more came.
+    has_too_many: bool,
+}
+
+impl PullTalk {
+    pub fn new<C: Closure>(
+        alloc: Global,
+        closure: &C,
+        number: usize,
+        most_bytes: u64,
+    ) -> Result<PullTalk, SyncError> {
+        Ok(PullTalk {
+            number,
+            pulling: Pulling::new(alloc, closure)?,
+            rest: UnreadBytes::new(alloc),
+            bytes_left: most_bytes,
+            has_too_many: false,
+        })
+    }
+
+    pub fn wants_bytes(&self) -> bool {
+        self.rest.is_empty() && self.can_take()
+    }
+
+    /// Whether bytes that came can be taken.
+    pub fn has_work(&self) -> bool {
+        (self.has_too_many || !self.rest.is_empty()) && self.can_take()
+    }
+
+    fn can_take(&self) -> bool {
+        !self.pulling.is_over() && self.pulling.output().is_empty()
+    }
+
+    /// Keeps bytes that came, as many as may come.
+    pub fn take(&mut self, piece: &[u8]) -> Result<(), AllocError> {
+        let left = usize::try_from(self.bytes_left).unwrap_or(usize::MAX);
+        let room = left.min(piece.len());
+        self.bytes_left = self.bytes_left.saturating_sub(room as u64);
+        self.has_too_many |= room < piece.len();
+        self.rest.keep(&piece[..room])
+    }
+
+    /// Takes what is left of the bytes that came, up to the end of an answer. Records of distrust
+    /// among them are taken together.
+    pub fn go_on<C: Closure>(
+        &mut self,
+        alloc: Global,
+        held: &mut HeldState<C>,
+    ) -> Result<(), Ending> {
+        if !self.rest.is_empty() && self.can_take() {
+            self.take_lines(alloc, held)?;
+        }
+        if self.has_too_many {
+            return Err(Ending::TooManyBytes);
+        }
+        Ok(())
+    }
+
+    fn take_lines<C: Closure>(
+        &mut self,
+        alloc: Global,
+        held: &mut HeldState<C>,
+    ) -> Result<(), SyncError> {
+        let piece = self.rest.left();
+        let used = self
+            .pulling
+            .read_lines(alloc, &mut held.closure, piece, &mut held.fresh)?;
+        self.rest.took(used);
+        Ok(())
+    }
+
+    pub fn end_input(&self) -> Result<(), Ending> {
+        self.pulling.end()?;
+        Ok(())
+    }
+
+    pub fn output(&self) -> &[u8] {
+        self.pulling.output()
+    }
+
+    pub fn wrote(&mut self, count: usize) {
+        let count = count.min(self.pulling.output().len());
+        self.pulling.wrote(count);
+    }
+
+    pub fn ending(&self) -> Option<Ending> {
+        if self.pulling.is_over() {
+            Some(Ending::Well)
+        } else {
+            None
+        }
+    }
+
+    /// Which of the peers it is.
+    pub fn number(&self) -> usize {
+        self.number
+    }
+
+    /// How many receipts came that were not held.
+    pub fn taken(&self) -> u64 {
+        self.pulling.taken()
+    }
+}

@@ -1,0 +1,13 @@
+//! The commands with `--at`: a running replica carries them out.
+//!
+//! `client` is the other side of a local request: it sends the words and the input, and gets the
+//! reply. `at_replica` makes the request of a command, and `distrust_at` the several requests of
+//! `distrust`. Of the system's sockets no clause says anything: proved here is safety.
+#![tactic(auto)]
+
+mod at_replica;
+mod client;
+mod distrust_at;
+
+pub use at_replica::ask_running;
+pub use distrust_at::ask_distrust;

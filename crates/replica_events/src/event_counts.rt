@@ -1,0 +1,83 @@
+//! Events that may come often: of each kind one line a second is written, which says how many there
+//! were.
+use crate::event_log::{LogEvent, log_event, log_times};
+use std::alloc::Global;
+use std::io::Eprint;
+use std::time::{Duration, Instant};
+
+/// How long events of one kind are counted before a line stands for them.
+const COUNT_SECONDS: u64 = 1;
+
+/// The kinds of which a line was written within the last second, and how many came since.
+#[derive(Drop)]
+pub struct EventCounts {
+    kinds: Vec<CountedKind>,
+}
+
+#[derive(Clone, Copy)]
+struct CountedKind {
+    // The last one that came.
+    event: LogEvent,
+    times: u64,
+    // When the last line of the kind was written.
+    told: Instant,
+}
+
+impl EventCounts {
+    pub fn new(alloc: Global) -> EventCounts {
+        EventCounts {
+            kinds: Vec::new(alloc),
+        }
+    }
+
+    /// An event came. The first of its kind is written at once, and so is one that is not counted.
+    pub fn note<R: Eprint>(&mut self, rt: &R, alloc: Global, event: LogEvent, now: Instant) {
+        for kind in &mut self.kinds {
+            if kind.event.is_counted_with(&event) {
+                kind.event = event;
+                kind.times = kind.times.saturating_add(1);
+                return;
+            }
+        }
+        log_event(rt, alloc, event);
+        if event.is_counted_with(&event) {
+            // Without memory each is written.
+            let _ = self.kinds.push(CountedKind {
+                event,
+                times: 0,
+                told: now,
+            });
+        }
+    }
+
+    /// Writes a line for each kind of which some came since the last one, a second after that.
+    pub fn tell<R: Eprint>(&mut self, rt: &R, alloc: Global, now: Instant) {
+        let second = Duration::from_secs(COUNT_SECONDS);
+        for kind in &mut self.kinds {
+            if kind.times > 0 && now.duration_since(kind.told) >= second {
+                log_times(rt, alloc, kind.event, kind.times);
+                kind.times = 0;
+                kind.told = now;
+            }
+        }
+        self.kinds.retain(|kind| kind.times > 0 || now.duration_since(kind.told) < second);
+    }
+
+    /// Writes a line for each kind of which some came since the last one: the replica ends.
+    pub fn tell_all<R: Eprint>(&mut self, rt: &R, alloc: Global) {
+        for kind in &self.kinds {
+            if kind.times > 0 {
+                log_times(rt, alloc, kind.event, kind.times);
+            }
+        }
+        self.kinds.clear();
+    }
+
+    /// How long until the next line is due: `None` where none is.
+    pub fn time_left(&self, now: Instant) -> Option<Duration> {
+        let second = Duration::from_secs(COUNT_SECONDS);
+        let due = self.kinds.iter().filter(|kind| kind.times > 0);
+        due.map(|kind| second.saturating_sub(now.duration_since(kind.told)))
+            .min()
+    }
+}

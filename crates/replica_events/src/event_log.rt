@@ -1,0 +1,150 @@
+//! Events on standard error: a line for each, pairs of a word and a value in a fixed order. No byte
+//! that another side chose stands in one. `event_counts` says where one line stands for several.
+use peer_talks::Ending;
+use replica_sync::SyncError;
+use state_files::LostFile;
+use status_view::{PeerFault, fault_code};
+use std::alloc::Global;
+use std::fmt;
+use std::fmt::{Display, Formatter};
+use std::io::Eprint;
+use std::net::SocketAddr;
+use std::time::Duration;
+
+/// What is reported.
+#[derive(Clone, Copy, Debug)]
+pub enum LogEvent {
+    /// A session in which this replica asked has ended.
+    Pull(SocketAddr, u64, Duration, Ending),
+    /// A connection on which another replica asked has ended.
+    Serve(Option<SocketAddr>, Duration, Ending),
+    /// A connection of this machine has ended.
+    Local(Duration, Ending),
+    /// A connection on which a page was asked for has ended.
+    Page(Option<SocketAddr>, Duration, Ending),
+    /// There was no room for a connection, or one gave way to it.
+    Refuse,
+    /// A connection that came could not be taken.
+    Accept,
+    /// The system did not say what is ready.
+    Poll,
+    /// The snapshot was written anew.
+    Fold(u64),
+    /// The snapshot could not be written.
+    FoldFault(SyncError),
+    /// The journal could not be written.
+    Journal(SyncError),
+    /// A file of the state was removed or replaced.
+    Lost(LostFile),
+}
+
+/// Writes the event's line at once. That it cannot be written changes nothing.
+pub fn log_event<R: Eprint>(rt: &R, alloc: Global, event: LogEvent) {
+    if let Ok(line) = format!(in alloc; "{event}\n") {
+        let _ = rt.eprint(line);
+    }
+}
+
+/// Writes one line that stands for so many events of a kind, of which this is the last.
+pub(crate) fn log_times<R: Eprint>(rt: &R, alloc: Global, event: LogEvent, times: u64) {
+    if times < 2 {
+        log_event(rt, alloc, event);
+    } else if let Ok(line) = format!(in alloc; "{event} times={times}\n") {
+        let _ = rt.eprint(line);
+    }
+}
+
+impl LogEvent {
+    /// Whether one line may stand for both: they are of one kind, and of those that anyone who
+    /// connects can make as often as he likes.
+    pub(crate) fn is_counted_with(&self, other: &LogEvent) -> bool {
+        match (self, other) {
+            (LogEvent::Serve(_, _, one), LogEvent::Serve(_, _, two)) => have_one_code(*one, *two),
+            (LogEvent::Local(_, one), LogEvent::Local(_, two)) => have_one_code(*one, *two),
+            (LogEvent::Page(_, _, one), LogEvent::Page(_, _, two)) => have_one_code(*one, *two),
+            (LogEvent::Refuse, LogEvent::Refuse) => true,
+            (LogEvent::Accept, LogEvent::Accept) => true,
+            (LogEvent::Poll, LogEvent::Poll) => true,
+            _ => false,
+        }
+    }
+}
+
+// Whether both failed, and their lines have the same fault.
+fn have_one_code(one: Ending, two: Ending) -> bool {
+    match (one.fault(), two.fault()) {
+        (Some(one), Some(two)) => fault_code(one) == fault_code(two),
+        _ => false,
+    }
+}
+
+impl Display for LogEvent {
+    fn fmt<W: fmt::Write>(&self, f: &mut Formatter<W>) -> fmt::Result {
+        match self {
+            LogEvent::Pull(peer, new, time, ending) => {
+                write!(
+                    f,
+                    "event=pull peer={peer} new={new} seconds={}",
+                    Seconds(*time)
+                )?;
+                Outcome(*ending).fmt(f)
+            }
+            LogEvent::Serve(Some(peer), time, ending) => {
+                write!(f, "event=serve peer={peer} seconds={}", Seconds(*time))?;
+                Outcome(*ending).fmt(f)
+            }
+            LogEvent::Serve(None, time, ending) => {
+                write!(f, "event=serve seconds={}", Seconds(*time))?;
+                Outcome(*ending).fmt(f)
+            }
+            LogEvent::Local(time, ending) => {
+                write!(f, "event=local seconds={}", Seconds(*time))?;
+                Outcome(*ending).fmt(f)
+            }
+            LogEvent::Page(Some(peer), time, ending) => {
+                write!(f, "event=health peer={peer} seconds={}", Seconds(*time))?;
+                Outcome(*ending).fmt(f)
+            }
+            LogEvent::Page(None, time, ending) => {
+                write!(f, "event=health seconds={}", Seconds(*time))?;
+                Outcome(*ending).fmt(f)
+            }
+            LogEvent::Refuse => f.write_str("event=refuse"),
+            LogEvent::Accept => f.write_str("event=accept fault=S9"),
+            LogEvent::Poll => f.write_str("event=poll fault=S9"),
+            LogEvent::Fold(bytes) => write!(f, "event=fold bytes={bytes}"),
+            LogEvent::FoldFault(why) => write!(f, "event=fold fault={}", session_code(*why)),
+            LogEvent::Journal(why) => write!(f, "event=journal fault={}", session_code(*why)),
+            LogEvent::Lost(LostFile::Lock) => f.write_str("event=lost file=lock"),
+            LogEvent::Lost(LostFile::Journal) => f.write_str("event=lost file=journal"),
+            LogEvent::Lost(LostFile::State) => f.write_str("event=lost file=state"),
+        }
+    }
+}
+
+/// Seconds with three decimals.
+#[derive(Clone, Copy)]
+struct Seconds(Duration);
+
+impl Display for Seconds {
+    fn fmt<W: fmt::Write>(&self, f: &mut Formatter<W>) -> fmt::Result {
+        write!(f, "{}.{:03}", self.0.as_secs(), self.0.subsec_millis())
+    }
+}
+
+/// A fault as a last pair, or nothing where all went well.
+#[derive(Clone, Copy)]
+struct Outcome(Ending);
+
+impl Display for Outcome {
+    fn fmt<W: fmt::Write>(&self, f: &mut Formatter<W>) -> fmt::Result {
+        match self.0.fault() {
+            Some(fault) => write!(f, " fault={}", fault_code(fault)),
+            None => Ok(()),
+        }
+    }
+}
+
+fn session_code(why: SyncError) -> &'static str {
+    fault_code(PeerFault::Session(why))
+}

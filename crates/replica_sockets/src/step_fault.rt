@@ -1,0 +1,19 @@
+//! Ends by a fault of the system, with the step at which it came up.
+use fedbundle::{Exit, FileFault, Step};
+use std::io;
+
+/// What the system gave, or the end by its fault at the step.
+pub fn at_step<T: Drop>(step: Step, done: io::Result<T>) -> Result<T, Exit> {
+    match done {
+        Ok(value) => Ok(value),
+        Err(error) => Err(Exit::of_file(step, FileFault::from(error))),
+    }
+}
+
+/// The same of a call on the state's files.
+pub fn file_at_step<T: Drop>(step: Step, done: Result<T, FileFault>) -> Result<T, Exit> {
+    match done {
+        Ok(value) => Ok(value),
+        Err(fault) => Err(Exit::of_file(step, fault)),
+    }
+}

@@ -1,0 +1,51 @@
+//! Which file carries out a command: the configuration is read, and then the command is carried out
+//! by what it does with a state: it needs none, it shows what is held (`state_readers`), it changes
+//! that (`state_writers`), or it talks with another replica.
+mod canon;
+mod config;
+mod diff;
+mod distrust;
+mod merge;
+mod migrate;
+mod new;
+mod observe;
+mod pull;
+mod report;
+mod reseed;
+mod serve;
+mod state_readers;
+mod state_writers;
+
+use command_streams::options::config_of;
+use fed_config::Config;
+use fedbundle::{Call, CommandName, Exit, OptionName, given, is_flag_given};
+
+/// Carries out the command, which is any but `replica`, with files and streams of this process.
+/// Returns the exit status: 0, or 1 where an input was refused and the rest is done.
+///
+/// # Errors
+/// Each [`Exit`] with which the command ends before it is done.
+pub fn carry_out_here(rt: &HostRuntime, call: &Call<'_>) -> Result<u8, Exit> {
+    match call.name {
+        CommandName::Canon => canon::run(rt, call),
+        CommandName::Serve => serve::run(rt, call),
+        _ => carry_out_under(rt, &config_of(rt, call)?, call),
+    }
+}
+
+fn carry_out_under(rt: &HostRuntime, config: &Config, call: &Call<'_>) -> Result<u8, Exit> {
+    match call.name {
+        CommandName::Config => config::run(rt, config, call),
+        CommandName::New => new::run(rt, config, call),
+        CommandName::Observe => observe::run(rt, config, call),
+        CommandName::Merge => merge::run(rt, config, call),
+        CommandName::Pull => pull::run(rt, config, call),
+        CommandName::Report if given(call, OptionName::OptionalState).is_none() => {
+            report::report_lines(rt, config, call)
+        }
+        CommandName::Distrust if !is_flag_given(given(call, OptionName::DryRun)) => {
+            distrust::run(rt, config, call)
+        }
+        _ => state_readers::show(rt, config, call),
+    }
+}

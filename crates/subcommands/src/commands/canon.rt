@@ -1,0 +1,28 @@
+//! `canon`: a bundle in its canonical form.
+use crate::commands::observe::read_bundle;
+use command_faults::status_of_bundle;
+use command_streams::output;
+use fedbundle::{
+    Call, Exit, OptionName, OutputForm, given, read_domain, read_output_form, run_canon_bytes,
+    wanted,
+};
+use spiffe_name::TrustDomain;
+
+/// Prints the bundle that standard input has in its canonical form.
+pub(crate) fn run(rt: &HostRuntime, call: &Call<'_>) -> Result<u8, Exit> {
+    let form = read_output_form(given(call, OptionName::FileFormat))?;
+    let domain = read_domain(rt.alloc(), wanted(call, OptionName::Domain)?)?;
+    let bytes = read_bundle(rt)?;
+    let done = canon_of(rt, &domain, form, bytes.as_slice());
+    Ok(status_of_bundle(rt, call, done, bytes.as_slice()))
+}
+
+fn canon_of(
+    rt: &HostRuntime,
+    domain: &TrustDomain,
+    form: OutputForm,
+    bytes: &[u8],
+) -> Result<u8, Exit> {
+    run_canon_bytes(rt.alloc(), domain, form, bytes, &mut output(rt))?;
+    Ok(0)
+}

@@ -1,0 +1,35 @@
+//! `merge`: what another replica holds, taken.
+use crate::commands::state_writers::{Coming, change};
+use crate::limited_reader::LimitedReader;
+use crate::state_access::{leave, room_left, state_access_of};
+use byte_lines::FromRead;
+use fed_config::Config;
+use fedbundle::{Call, CommandError, Exit};
+use replica_sync::read_snapshot;
+use std::io::Read;
+use trust_closure::IndexedClosure;
+
+/// Takes what the replica holds whose state file standard input has.
+pub(crate) fn run(rt: &HostRuntime, config: &Config, call: &Call<'_>) -> Result<u8, Exit> {
+    let other = read_other(rt, config, room_left(rt, state_access_of(call)?));
+    let changed = change(rt, config, call, Coming::Replica(&other));
+    leave(other);
+    changed
+}
+
+fn read_other(rt: &HostRuntime, config: &Config, most_bytes: u64) -> Result<IndexedClosure, Exit> {
+    let mut limited = LimitedReader::new(rt.stdin(), most_bytes);
+    match read_from(rt, config, &mut limited) {
+        Ok(other) => Ok(other),
+        Err(_) if limited.has_passed() => Err(Exit::TooManyBytes),
+        Err(error) => Err(Exit::Refused(error)),
+    }
+}
+
+fn read_from<R: Read>(
+    rt: &HostRuntime,
+    config: &Config,
+    reader: &mut R,
+) -> Result<IndexedClosure, CommandError> {
+    Ok(read_snapshot(rt.alloc(), config, &mut FromRead::new(reader))?)
+}

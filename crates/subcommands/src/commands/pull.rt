@@ -1,0 +1,134 @@
+//! `pull`: the end of a session that asks, over a socket. It loads the state, reads the address,
+//! and connects before a session begins; it saves the state at the end.
+use crate::connection::{Connection, connect};
+use crate::limited_reader::LimitedReader;
+use crate::state_access::{StateAccess, leave, load, lock, room_left, save, state_access_of};
+use byte_lines::{FromRead, FromWrite};
+use command_faults::status_of;
+use command_streams::{options, output_line};
+use fed_config::Config;
+use fedbundle::{Call, CommandError, Exit, OptionName, Step, run_pull, wanted};
+use state_files::{SeenState, has_journal, see_state};
+use std::io::Read;
+use trust_closure::{Closure, ExchangeClosure};
+
+/// What is held when a session begins, and the file that it is of.
+#[derive(Drop)]
+struct Begun {
+    closure: ExchangeClosure,
+    file: SeenState,
+}
+
+/// Takes what the replica at the address has, and writes the state, also where the session ends
+/// with a fault. Where there is no connection the state file stays as it is. The state is locked
+/// while it is loaded and while it is written, and not while the other replica answers.
+pub(crate) fn run(rt: &HostRuntime, config: &Config, call: &Call<'_>) -> Result<u8, Exit> {
+    let state = state_access_of(call)?;
+    let mut begun = begin(rt, config, state)?;
+    let peer = wanted(call, OptionName::Peer)?;
+    let pulled = pull_from(rt, &mut begun.closure, peer, room_left(rt, state))?;
+    let saved = end_saving(rt, config, state, &begun);
+    leave(begun);
+    Ok(end_pull(rt, call, pulled, saved))
+}
+
+// How the session ended. Where there is no connection there was none.
+fn pull_from(
+    rt: &HostRuntime,
+    closure: &mut ExchangeClosure,
+    peer: &str,
+    most_bytes: u64,
+) -> Result<Result<(), Exit>, Exit> {
+    let connection = connect(rt, options::known_address(peer)?)?;
+    Ok(end_session(rt, closure, connection, most_bytes))
+}
+
+fn begin(rt: &HostRuntime, config: &Config, state: StateAccess<'_>) -> Result<Begun, Exit> {
+    let _lock = lock(rt, state)?;
+    let closure = load(rt, config, state)?;
+    match see_state(rt, state.path) {
+        Ok(file) => Ok(Begun { closure, file }),
+        Err(fault) => Err(Exit::of_file(Step::See, fault)),
+    }
+}
+
+fn end_session(
+    rt: &HostRuntime,
+    closure: &mut ExchangeClosure,
+    connection: Connection,
+    most_bytes: u64,
+) -> Result<(), Exit> {
+    let mut answers = LimitedReader::new(connection.direction(rt), most_bytes);
+    match pull_on(rt, closure, &mut answers, &connection) {
+        Ok(()) => Ok(()),
+        Err(_) if answers.has_passed() => Err(Exit::TooManyBytes),
+        Err(error) => Err(Exit::Refused(error)),
+    }
+}
+
+fn pull_on<R: Read>(
+    rt: &HostRuntime,
+    closure: &mut ExchangeClosure,
+    answers: &mut R,
+    connection: &Connection,
+) -> Result<(), CommandError> {
+    let mut source = FromRead::new(answers);
+    let mut peer = FromWrite::new(connection.direction(rt));
+    run_pull(
+        rt.alloc(),
+        closure,
+        &mut source,
+        &mut peer,
+        &mut output_line(rt),
+    )
+}
+
+// The state is written before a fault of the session is reported.
+fn end_pull(
+    rt: &HostRuntime,
+    call: &Call<'_>,
+    pulled: Result<(), Exit>,
+    saved: Result<(), Exit>,
+) -> u8 {
+    let ended = status_of(rt, call, pulled.map(|()| 0));
+    status_of(rt, call, saved.map(|()| 0)).max(ended)
+}
+
+// Where another command has written the state meanwhile, or there is a journal, what was pulled is
+// joined to that.
+fn end_saving(
+    rt: &HostRuntime,
+    config: &Config,
+    state: StateAccess<'_>,
+    begun: &Begun,
+) -> Result<(), Exit> {
+    let _lock = lock(rt, state)?;
+    if is_as_begun(rt, &begun.file, state.path)? {
+        save(rt, &begun.closure, state.path)
+    } else {
+        join(rt, config, state, &begun.closure)
+    }
+}
+
+fn is_as_begun(rt: &HostRuntime, file: &SeenState, path: &str) -> Result<bool, Exit> {
+    if has_journal(rt, rt.alloc(), path)? {
+        return Ok(false);
+    }
+    match file.is_last(rt, path) {
+        Ok(is_last) => Ok(is_last),
+        Err(fault) => Err(Exit::of_file(Step::See, fault)),
+    }
+}
+
+fn join(
+    rt: &HostRuntime,
+    config: &Config,
+    state: StateAccess<'_>,
+    pulled: &ExchangeClosure,
+) -> Result<(), Exit> {
+    let mut held: ExchangeClosure = load(rt, config, state)?;
+    match held.merge(pulled) {
+        Ok(_) => save(rt, &held, state.path),
+        Err(why) => Err(Exit::Refused(CommandError::Take(why))),
+    }
+}

@@ -1,0 +1,32 @@
+//! `report` of lines: what a replica that took the receipts accepts.
+use crate::state_access::leave;
+use command_streams::{complaints, input, output};
+use fed_config::Config;
+use fedbundle::{
+    Call, CommandError, Exit, OptionName, OutputForm, given, read_output_form, run_report_into,
+};
+use trust_closure::{Closure, IndexedClosure};
+
+/// Prints the report of the receipts that standard input has. That is text alone.
+pub(crate) fn report_lines(rt: &HostRuntime, config: &Config, call: &Call<'_>) -> Result<u8, Exit> {
+    if read_output_form(given(call, OptionName::Format))? == OutputForm::Json {
+        return Err(Exit::Usage);
+    }
+    let mut errors = complaints(rt);
+    let Ok(mut closure) = IndexedClosure::new(rt.alloc(), config) else {
+        return Err(Exit::Refused(CommandError::NoMemory));
+    };
+    let reported = run_report_into(
+        rt.alloc(),
+        &mut closure,
+        &mut input(rt),
+        &mut output(rt),
+        &mut errors,
+    );
+    leave(closure);
+    match reported {
+        Ok(0) => Ok(0),
+        Ok(_) => Ok(1),
+        Err(error) => Err(Exit::Refused(CommandError::from(error))),
+    }
+}

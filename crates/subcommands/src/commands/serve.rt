@@ -1,0 +1,120 @@
+//! `serve`: the end of a session that answers, over a socket. It loads the state, reads the
+//! address, and opens the socket before a session begins.
+use crate::connection::{Connection, accept, listen};
+use crate::state_access::{load, state_access_of};
+use byte_lines::{FromRead, FromWrite};
+use command_streams::options::config_of;
+use command_streams::{error_lines, options, output_line, print_exit, warn_of_anywhere};
+use fed_config::Config;
+use fedbundle::{Call, CommandError, Exit, OptionName, run_serve, wanted, write_served};
+use std::io::Write;
+use std::net::{SocketAddr, TcpListener};
+use trust_closure::ExchangeClosure;
+
+/// How many sessions are served, and whether each is spoken of.
+#[derive(Clone, Copy)]
+struct Service {
+    sessions: u32,
+    is_verbose: bool,
+}
+
+/// Serves as many sessions as the words say. The fault of a session is reported at its end, and the
+/// greatest exit status of all is returned.
+pub(crate) fn run(rt: &HostRuntime, call: &Call<'_>) -> Result<u8, Exit> {
+    let sessions = options::session_count(wanted(call, OptionName::Sessions)?)?;
+    let config = config_of(rt, call)?;
+    serve(rt, &config, call, sessions)
+}
+
+// Serves this many sessions, one after another, with what the state file holds at the start.
+fn serve(rt: &HostRuntime, config: &Config, call: &Call<'_>, sessions: u32) -> Result<u8, Exit> {
+    let state = state_access_of(call)?;
+    let closure = load(rt, config, state)?;
+    let service = Service {
+        sessions,
+        is_verbose: state.manner.is_verbose,
+    };
+    serve_at(rt, &closure, wanted(call, OptionName::Listen)?, service)
+}
+
+fn serve_at(
+    rt: &HostRuntime,
+    closure: &ExchangeClosure,
+    address: &str,
+    service: Service,
+) -> Result<u8, Exit> {
+    let wanted = options::address(address)?;
+    let listener = listen(rt, wanted)?;
+    if service.is_verbose || wanted.port() == 0 {
+        // Where the system does not say which port it chose, nothing else is known of it.
+        say_listening(rt, listener.local_addr().unwrap_or(wanted));
+    }
+    Ok(serve_all(rt, closure, &listener, service))
+}
+
+fn serve_all(
+    rt: &HostRuntime,
+    closure: &ExchangeClosure,
+    listener: &TcpListener,
+    service: Service,
+) -> u8 {
+    let mut worst = 0;
+    for _ in 0..service.sessions {
+        let served = serve_next(rt, closure, listener, service.is_verbose);
+        worst = status_of(rt, served).max(worst);
+    }
+    let written = write_served(u64::from(service.sessions), &mut output_line(rt));
+    status_of(rt, written.map_err(Exit::Refused)).max(worst)
+}
+
+fn serve_next(
+    rt: &HostRuntime,
+    closure: &ExchangeClosure,
+    listener: &TcpListener,
+    is_verbose: bool,
+) -> Result<(), Exit> {
+    let connection = accept(rt, listener)?;
+    if is_verbose {
+        say_coming(rt, connection.peer());
+    }
+    let count = serve_on(rt, closure, &connection)?;
+    if is_verbose {
+        say_given(rt, connection.peer(), count);
+    }
+    Ok(())
+}
+
+fn serve_on(
+    rt: &HostRuntime,
+    closure: &ExchangeClosure,
+    connection: &Connection,
+) -> Result<u64, CommandError> {
+    let mut source = FromRead::new(connection.direction(rt));
+    let mut sink = FromWrite::new(connection.direction(rt));
+    run_serve(rt.alloc(), closure, &mut source, &mut sink)
+}
+
+// In these three, that it cannot be said changes nothing.
+fn say_listening(rt: &HostRuntime, address: SocketAddr) {
+    let _ = writeln!(error_lines(rt), "fedbundle: listens at {address}");
+    warn_of_anywhere(rt, address);
+}
+
+fn say_coming(rt: &HostRuntime, peer: SocketAddr) {
+    let _ = writeln!(error_lines(rt), "fedbundle: {peer} came");
+}
+
+fn say_given(rt: &HostRuntime, peer: SocketAddr, answers: u64) {
+    let _ = writeln!(
+        error_lines(rt),
+        "fedbundle: {peer} was given {answers} answers"
+    );
+}
+
+// The exit status of what was done, where a fault is reported.
+fn status_of(rt: &HostRuntime, done: Result<(), Exit>) -> u8 {
+    match done {
+        Ok(()) => 0,
+        Err(exit) => print_exit(rt, &exit),
+    }
+}

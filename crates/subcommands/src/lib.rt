@@ -1,0 +1,15 @@
+//! The subcommands that work with files and streams of their own process, each in a file of its
+//! own.
+//!
+//! `commands` says which file carries out a command. `state_access` is the state file as they use
+//! it, `connection` a connection with another replica, and `limited_reader` a reader with a limit.
+//! What the commands print and change is said by the contracts of `fedbundle`: proved here is
+//! safety.
+#![tactic(auto)]
+
+mod commands;
+mod connection;
+mod limited_reader;
+mod state_access;
+
+pub use commands::carry_out_here;
