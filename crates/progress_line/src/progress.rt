@@ -4,6 +4,12 @@ use std::alloc::Global;
 use std::io::Eprint;
 use std::time::{Clock, Instant};
 
+/// After how many seconds the first line comes.
+const FIRST_SECONDS: u64 = 1;
+
+/// How many seconds later the next one comes.
+const EVERY_SECONDS: u64 = 5;
+
 /// The bytes of a megabyte.
 const MEGABYTE: u64 = 1_000_000;
 
@@ -12,42 +18,42 @@ const MEGABYTE: u64 = 1_000_000;
 pub enum ProgressMode {
     /// It says nothing.
     Silent,
-    /// It says so after each second, as on a terminal.
-    EachSecond,
+    /// It says so on standard error, after one second and then every five.
+    Shown,
 }
 
-/// Counts what a piece of work has read or written, and says it on standard error once a second.
-/// That it cannot be said, or that the clock fails, changes nothing.
+/// Counts what a piece of work has read or written, and says it. That it cannot be said, or that
+/// the clock fails, changes nothing.
 #[derive(Drop)]
-pub struct Progress<'a, R> {
+pub struct WorkProgress<'a, R> {
     rt: &'a R,
     alloc: Global,
     work: &'static str,
     // When the work began; none if nothing is to be said.
     begun: Option<Instant>,
-    // How many whole seconds it had taken when this was last said; 0 if it was not.
-    said: u64,
+    // After how many seconds the next line comes.
+    next: u64,
     bytes: u64,
     receipts: ReceiptCount,
 }
 
-impl<'a, R: Clock + Eprint> Progress<'a, R> {
+impl<'a, R: Clock + Eprint> WorkProgress<'a, R> {
     /// Work that begins now. `work` names it, as `reading the state`.
     pub fn begin(
         rt: &'a R,
         alloc: Global,
         work: &'static str,
         mode: ProgressMode,
-    ) -> Progress<'a, R> {
-        Progress {
+    ) -> WorkProgress<'a, R> {
+        WorkProgress {
             rt,
             alloc,
             work,
             begun: match mode {
-                ProgressMode::EachSecond => Instant::now(rt).ok(),
+                ProgressMode::Shown => Instant::now(rt).ok(),
                 ProgressMode::Silent => None,
             },
-            said: 0,
+            next: FIRST_SECONDS,
             bytes: 0,
             receipts: ReceiptCount::new(),
         }
@@ -62,27 +68,19 @@ impl<'a, R: Clock + Eprint> Progress<'a, R> {
         self.receipts.note(bytes);
         if let Ok(now) = Instant::now(self.rt) {
             let seconds = now.duration_since(begun).as_secs();
-            if seconds > self.said {
-                self.said = seconds;
-                self.say("");
+            if seconds >= self.next {
+                self.next = seconds.saturating_add(EVERY_SECONDS);
+                self.say();
             }
         }
     }
 
-    /// The work is over: what was said is said a last time, and other lines may follow it.
-    pub fn end(mut self) {
-        if self.said > 0 {
-            self.say("\n");
-        }
-    }
-
-    // Writes over what was said before, which was no longer.
-    fn say(&mut self, after: &str) {
+    fn say(&self) {
         let work = self.work;
         let receipts = self.receipts.count();
         let megabytes = self.bytes / MEGABYTE;
         let line = format!(in self.alloc;
-            "\rfedbundle: {work}: {receipts} receipts, {megabytes} MB{after}"
+            "fedbundle: {work}: {receipts} receipts, {megabytes} MB so far\n"
         );
         if let Ok(line) = line {
             let _ = self.rt.eprint(line);

@@ -1,5 +1,5 @@
 //! A reader and a writer that have their bytes counted.
-use crate::progress::Progress;
+use crate::progress::WorkProgress;
 use std::io;
 use std::io::{Eprint, Read, Write};
 use std::time::Clock;
@@ -8,12 +8,12 @@ use std::time::Clock;
 #[derive(Drop)]
 pub struct WatchedReader<'p, 'a, T, R> {
     reader: T,
-    progress: &'p mut Progress<'a, R>,
+    progress: &'p mut WorkProgress<'a, R>,
 }
 
 impl<'p, 'a, T: Read, R: Clock + Eprint> WatchedReader<'p, 'a, T, R> {
     /// All that the reader gives from here on.
-    pub fn new(reader: T, progress: &'p mut Progress<'a, R>) -> WatchedReader<'p, 'a, T, R> {
+    pub fn new(reader: T, progress: &'p mut WorkProgress<'a, R>) -> WatchedReader<'p, 'a, T, R> {
         WatchedReader { reader, progress }
     }
 }
@@ -30,12 +30,12 @@ impl<T: Read, R: Clock + Eprint> Read for WatchedReader<'_, '_, T, R> {
 #[derive(Drop)]
 pub struct WatchedWriter<'p, 'a, T, R> {
     writer: T,
-    progress: &'p mut Progress<'a, R>,
+    progress: &'p mut WorkProgress<'a, R>,
 }
 
 impl<'p, 'a, T: Write, R: Clock + Eprint> WatchedWriter<'p, 'a, T, R> {
     /// All that the writer takes from here on.
-    pub fn new(writer: T, progress: &'p mut Progress<'a, R>) -> WatchedWriter<'p, 'a, T, R> {
+    pub fn new(writer: T, progress: &'p mut WorkProgress<'a, R>) -> WatchedWriter<'p, 'a, T, R> {
         WatchedWriter { writer, progress }
     }
 }

@@ -36,7 +36,7 @@ pub struct StateBeginning {
 
 impl StateBeginning {
     /// The beginning with the files that were found beside the path, or none where there is neither
-    /// a state nor a journal, and `may_be_new` does not allow that. The mode says whether it is said
+    /// a state nor a journal, and `may_be_new` does not allow that. The mode says whether lines say
     /// how far the reading and the writing are.
     ///
     /// # Errors

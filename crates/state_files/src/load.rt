@@ -5,7 +5,7 @@ use byte_lines::FromRead;
 use closure_core::Closure;
 use fed_config::Config;
 use fedbundle::{CommandError, FileFault};
-use progress_line::{Progress, ProgressMode, WatchedReader};
+use progress_line::{ProgressMode, WatchedReader, WorkProgress};
 use replica_journal::read_journal;
 use std::alloc::Global;
 use std::fs::Files;
@@ -36,10 +36,8 @@ pub fn load_state<C: Closure, R: Files + Clock + Eprint>(
     path: &str,
     mode: ProgressMode,
 ) -> Result<C, CommandError> {
-    let mut progress = Progress::begin(rt, alloc, "reading the state", mode);
-    let loaded = load_files(rt, alloc, config, path, &mut progress);
-    progress.end();
-    loaded
+    let mut progress = WorkProgress::begin(rt, alloc, "reading the state", mode);
+    load_files(rt, alloc, config, path, &mut progress)
 }
 
 fn load_files<C: Closure, R: Files + Clock + Eprint>(
@@ -47,7 +45,7 @@ fn load_files<C: Closure, R: Files + Clock + Eprint>(
     alloc: Global,
     config: &Config,
     path: &str,
-    progress: &mut Progress<'_, R>,
+    progress: &mut WorkProgress<'_, R>,
 ) -> Result<C, CommandError> {
     let name = journal_path(alloc, path)?;
     match fs::open(rt, name.as_str()) {

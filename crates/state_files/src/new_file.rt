@@ -4,7 +4,7 @@ use crate::named_files::{found, remove_own};
 use byte_lines::FromWrite;
 use closure_core::Closure;
 use fedbundle::FileFault;
-use progress_line::{Progress, ProgressMode, WatchedWriter};
+use progress_line::{ProgressMode, WatchedWriter, WorkProgress};
 use replica_core::SyncError;
 use replica_sync::write_snapshot;
 use std::alloc::Global;
@@ -56,11 +56,9 @@ pub(crate) fn write_closure<C: Closure, R: Clock + Eprint>(
     mode: ProgressMode,
 ) -> Result<(), FileFault> {
     let mut noting = NotingFile { file, code: None };
-    let mut progress = Progress::begin(rt, alloc, "writing the state", mode);
+    let mut progress = WorkProgress::begin(rt, alloc, "writing the state", mode);
     let watched = WatchedWriter::new(&mut noting, &mut progress);
-    let written = write_into(alloc, closure, watched);
-    progress.end();
-    match written {
+    match write_into(alloc, closure, watched) {
         Ok(()) => Ok(()),
         Err(why) => Err(FileFault {
             why,

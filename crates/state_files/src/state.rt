@@ -4,7 +4,7 @@ use byte_lines::FromRead;
 use closure_core::Closure;
 use fed_config::Config;
 use fedbundle::FileFault;
-use progress_line::{Progress, WatchedReader};
+use progress_line::{WatchedReader, WorkProgress};
 use replica_core::SyncError;
 use replica_sync::read_snapshot;
 use std::alloc::Global;
@@ -75,7 +75,7 @@ pub(crate) fn load_snapshot<C: Closure, R: Files + Clock + Eprint>(
     alloc: Global,
     config: &Config,
     path: &str,
-    progress: &mut Progress<'_, R>,
+    progress: &mut WorkProgress<'_, R>,
 ) -> Result<C, SyncError> {
     match fs::open(rt, path) {
         Ok(file) => {

@@ -1,8 +1,10 @@
 //! `migrate`: what goes along to another configuration, printed.
-use command_streams::{complaints, options, output};
+use byte_lines::FromWrite;
+use command_streams::{complaints, options, output_progress_mode};
 use fed_config::Config;
 use fedbundle::{Call, Exit, OptionName, given, is_flag_given, run_migrate, wanted};
 use migration::Choice;
+use progress_line::{WatchedWriter, WorkProgress};
 use trust_closure::IndexedClosure;
 
 /// Prints the snapshot of what goes along. The other configuration is read after the state, as each
@@ -23,13 +25,16 @@ fn migrate_to(
     to: &Config,
     choice: Choice,
 ) -> Result<u8, Exit> {
+    let mode = output_progress_mode(rt);
+    let mut progress = WorkProgress::begin(rt, rt.alloc(), "writing the migrated state", mode);
+    let snapshot = WatchedWriter::new(rt.stdout(), &mut progress);
     let mut errors = complaints(rt);
     match run_migrate(
         rt.alloc(),
         closure,
         to,
         choice,
-        &mut output(rt),
+        &mut FromWrite::new(snapshot),
         &mut errors,
     )? {
         0 => Ok(0),
