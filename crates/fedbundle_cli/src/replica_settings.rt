@@ -3,7 +3,7 @@ use command_line::number_given;
 use command_streams::options::may_listen;
 use command_streams::{options, progress_mode, warn_of_anywhere};
 use fed_config::Config;
-use fedbundle::{Call, CommandError, Exit, OptionName, given, manner_of, wanted};
+use fedbundle::{Call, CommandError, Exit, OptionName, given, is_flag_given, manner_of, wanted};
 use local_answers::PageLimits;
 use progress_line::ProgressMode;
 use replica_loop::{Settings, run_replica};
@@ -65,7 +65,7 @@ fn settings_of<'a, 'p>(
         every: Duration::from_secs(every_of(given(call, OptionName::Every))?),
         most_bytes: manner.most_bytes,
         most_request_bytes: request_bytes_of(given(call, OptionName::MostRequestBytes))?,
-        is_new: given(call, OptionName::New) == Some("true"),
+        is_new: is_flag_given(given(call, OptionName::New)),
         is_verbose: manner.is_verbose,
         progress,
     })
