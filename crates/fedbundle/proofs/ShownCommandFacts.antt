@@ -1,8 +1,10 @@
 -- What each command does that shows what is held, by what its functions answer
-use Rattle.std.proofs.Common.{◌≡◌, ℕ, Bool, true, false, if◌then◌else◌, List, Option, Some, None, Result, Ok, Err, refl, subst, sym}
+use Rattle.std.proofs.Common.{◌≡◌, ℕ, Bool, true, false, if◌then◌else◌, List, Option, Some, None, Result, Ok, Err, inr, refl, subst, sym}
 use Rattle.fed_config.specs.Configuration.{Configuration}
 use Rattle.migration.specs.declared.carrying.Choice.{Choice}
 use Rattle.receipt_core.specs.Acceptance.{Meaning}
+use Rattle.reseeding.specs.Reseeding.{Reseeds}
+use Rattle.reseeding.specs.declared.starting_anew.Reseeded.{Reseeded}
 use Rattle.command_line.specs.declared.option_texts.OutputForm.{OutputForm}
 use Rattle.command_line.specs.declared.command_name.CommandName.{CommandName}
 use Rattle.command_line.specs.declared.command_name.CommandName.TheVariants as command
@@ -13,7 +15,7 @@ use Rattle.fedbundle.specs.CommandRun.{CommandRun, DeviceRun, HasFailed}
 use Rattle.fedbundle.specs.Errors.{of_read}
 use Rattle.fedbundle.specs.Migrate.{move_to}
 use Rattle.fedbundle.specs.Shown.{IsUntouched, ShownCall, ShowsBy}
-use Rattle.fedbundle.specs.ShownCommands.{ComparesConfigsIn, MovesTo, MovesToRead, ReadsConfig, ShowsConfig, ShowsConfigIn, ShowsMove, ShowsNamed, config_call}
+use Rattle.fedbundle.specs.ShownCommands.{ComparesConfigsIn, MovesTo, MovesToRead, PrintsReseeded, ReadsConfig, ReseedsInto, ShowsConfig, ShowsConfigIn, ShowsMove, ShowsNamed, config_call}
 use Rattle.fedbundle.specs.declared.exits.Exit.{Exit}
 
 -- what the command of this name does is what the call does
@@ -56,3 +58,9 @@ pub moves_here : (said : Option (List ℕ)) (choice : Choice) (lent : Configurat
     → IsUntouched run.source → MovesTo said choice m run complaints result
 moves_here said choice lent m run complaints result is same moves unread =
     subst (λ text. MovesTo text choice m run complaints result) is (subst (λ c. ShowsMove (move_to choice c m) run.sink complaints result) same moves, unread)
+
+-- what comes of a start anew was printed
+pub reseeded_as : (m : Meaning) (allowed : Option (List ℕ)) (sink complaints : DeviceRun) (found outcome : Reseeded) (result : Result ℕ Exit)
+    → found ≡ outcome → Reseeds m allowed found → PrintsReseeded outcome sink complaints result → ReseedsInto m allowed sink complaints result
+reseeded_as m allowed sink complaints found outcome result is reseeds prints =
+    inr (record { outcome = outcome; reseeds = subst (Reseeds m allowed) is reseeds; prints = prints })
