@@ -233,7 +233,10 @@ class Held:
 class KnownKey:
     """What is known of an X.509 key: the SHA-256 of its public key, and the Unix seconds between which its certificate is
     valid, which are None if the certificate is not read; whether it is distrusted in the domain; whether a distrusted key
-    of the domain has the same public key; and the document ids of the accepted bundles that list it."""
+    of the domain has the same public key; and the document ids of the accepted bundles that list it. `valid_from` and
+    `valid_until` are the same times in UTC, such as "2027-01-31T23:59:59Z", and `subject` is the certificate's subject as
+    RFC 4514 writes it, printable ASCII; empty if the subject is. These three are None if they are not read, and of a
+    program before 0.7.0."""
 
     key: str
     domain: str
@@ -243,6 +246,9 @@ class KnownKey:
     distrusted: bool
     same_public_key: bool
     bundles: Tuple[str, ...]
+    valid_from: Optional[str] = None
+    valid_until: Optional[str] = None
+    subject: Optional[str] = None
 
 
 @dataclass(frozen=True)
@@ -879,6 +885,9 @@ def _parse_known(said: _Members) -> KnownKey:
         distrusted=said.flag("distrusted"),
         same_public_key=said.flag("same_public_key"),
         bundles=tuple(said.texts("bundles")),
+        valid_from=said.text_if_any("valid_from"),
+        valid_until=said.text_if_any("valid_until"),
+        subject=said.text_if_any("subject"),
     )
 
 

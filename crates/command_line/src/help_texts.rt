@@ -99,12 +99,15 @@ file.
 
 --keys prints what is known of each key instead: a line for each X.509 authority that an
 accepted document lists, and then for those that only other documents of receipts list:
-  key <key id> domain <domain> public-key <digest> from <seconds> to <seconds>
+  key <key id> domain <domain> public-key <digest> from <time> to <time>
     distrusted <yes or no> same-public-key <yes or no> bundles <document id>..
-The digest is the SHA-256 of the public key in the certificate, and it is valid from and to
-these Unix seconds; they are `none` if the certificate cannot be read. `same-public-key` is
-`yes` for a key that accepted documents list and that is not distrusted, if a distrusted
-key of the domain has its public key. The bundles are the accepted documents that list it.
+    subject <subject>
+The digest is the SHA-256 of the public key in the certificate, which is valid from and to
+these times, in UTC as 2027-01-31T23:59:59Z. The subject is written as RFC 4514 says, or
+is `empty`. They are `none` if the certificate cannot be read, and the subject also if
+only it cannot. `same-public-key` is `yes` for a key that accepted documents list and that is
+not distrusted, if a distrusted key of the domain has its public key. The bundles are the
+accepted documents that list it.
 
 --format json prints one object of `receipts` and `records`, whose members are named as
 above; with --keys one object of `keys`.

@@ -2,6 +2,7 @@
 use closure_core::Closure;
 use fedbundle::FileFault;
 use peer_talks::HeldState;
+use progress_line::ProgressMode;
 use replica_connections::ConnectionTable;
 use replica_events::{LogEvent, log_event};
 use state_files::{
@@ -10,6 +11,7 @@ use state_files::{
 use std::alloc::Global;
 use std::fs::{File, Files};
 use std::io::Eprint;
+use std::time::Clock;
 
 /// The files of a running replica.
 #[derive(Drop)]
@@ -21,15 +23,17 @@ pub(crate) struct KeptFiles {
     is_unsettled: bool,
     // How often the snapshot was written anew.
     folds: u64,
+    progress: ProgressMode,
 }
 
 impl KeptFiles {
-    pub(crate) fn new(lock: StateLock, journal: Journal) -> KeptFiles {
+    pub(crate) fn new(lock: StateLock, journal: Journal, progress: ProgressMode) -> KeptFiles {
         KeptFiles {
             lock,
             journal,
             is_unsettled: false,
             folds: 0,
+            progress,
         }
     }
 
@@ -50,7 +54,7 @@ impl KeptFiles {
 
     /// Puts on the disk what came, and looks whether it is in the files that have the names. Only
     /// then it may be acknowledged.
-    pub(crate) fn keep<C: Closure, R: Files<File = File> + Eprint>(
+    pub(crate) fn keep<C: Closure, R: Files<File = File> + Clock + Eprint>(
         &mut self,
         rt: &R,
         alloc: Global,
@@ -86,7 +90,7 @@ impl KeptFiles {
     // A name leads to another file. Where that is the state's, all that is held is written anew;
     // where it is the journal's, it is written, and the replica ends; and where it is the lock's,
     // another command may have the state, so nothing is written.
-    fn mend<C: Closure, R: Files<File = File> + Eprint>(
+    fn mend<C: Closure, R: Files<File = File> + Clock + Eprint>(
         &mut self,
         rt: &R,
         alloc: Global,
@@ -98,7 +102,7 @@ impl KeptFiles {
         match lost {
             LostFile::Lock => Err(lost.fault()),
             LostFile::Journal => {
-                if let Err(fault) = save_snapshot(rt, alloc, closure, path) {
+                if let Err(fault) = save_snapshot(rt, alloc, closure, path, self.progress) {
                     log_event(rt, alloc, LogEvent::FoldFault(fault.why));
                 }
                 Err(lost.fault())
@@ -107,14 +111,14 @@ impl KeptFiles {
         }
     }
 
-    fn begin_anew<C: Closure, R: Files<File = File> + Eprint>(
+    fn begin_anew<C: Closure, R: Files<File = File> + Clock + Eprint>(
         &mut self,
         rt: &R,
         alloc: Global,
         closure: &C,
         path: &str,
     ) -> Result<(), FileFault> {
-        self.journal = begin_anew(rt, alloc, closure, path)?;
+        self.journal = begin_anew(rt, alloc, closure, path, self.progress)?;
         self.is_unsettled = false;
         self.note_fold(rt, alloc);
         Ok(())
@@ -122,7 +126,7 @@ impl KeptFiles {
 
     /// Writes the state file anew where the journal is long. Where that fails, the journal goes on,
     /// or is begun anew before the next change is acknowledged.
-    pub(crate) fn fold<C: Closure, R: Files<File = File> + Eprint>(
+    pub(crate) fn fold<C: Closure, R: Files<File = File> + Clock + Eprint>(
         &mut self,
         rt: &R,
         alloc: Global,
@@ -140,14 +144,14 @@ impl KeptFiles {
         Ok(())
     }
 
-    fn fold_journal<C: Closure, R: Files<File = File> + Eprint>(
+    fn fold_journal<C: Closure, R: Files<File = File> + Clock + Eprint>(
         &mut self,
         rt: &R,
         alloc: Global,
         closure: &C,
         path: &str,
     ) {
-        match fold_state(rt, alloc, closure, path, &mut self.journal) {
+        match fold_state(rt, alloc, closure, path, &mut self.journal, self.progress) {
             Ok(true) => self.note_fold(rt, alloc),
             Ok(false) => self.journal.put_off(),
             Err(FoldFault::Kept(fault)) => self.put_off(rt, alloc, fault),

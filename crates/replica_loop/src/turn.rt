@@ -66,7 +66,7 @@ pub(crate) struct RunningReplica {
 
 impl RunningReplica {
     /// Begins the journal, and listens.
-    pub(crate) fn begin<C: Closure, R: Files<File = File> + Net + Clock>(
+    pub(crate) fn begin<C: Closure, R: Files<File = File> + Net + Clock + Eprint>(
         rt: &R,
         alloc: Global,
         closure: &C,
@@ -82,7 +82,11 @@ impl RunningReplica {
             listeners,
             table: ConnectionTable::new(alloc, settings.most_request_bytes)?,
             peers: Peers::new(alloc, settings.peers, settings.every, now)?,
-            files: KeptFiles::new(lock, file_at_step(Step::Journal, journal)?),
+            files: KeptFiles::new(
+                lock,
+                file_at_step(Step::Journal, journal)?,
+                settings.progress,
+            ),
             events: EventCounts::new(alloc),
             now,
             began,
@@ -336,7 +340,7 @@ impl RunningReplica {
     }
 
     /// Puts on the disk what came in this turn. Where that fails, the replies say so.
-    pub(crate) fn commit<C: Closure, R: Files<File = File> + Eprint>(
+    pub(crate) fn commit<C: Closure, R: Files<File = File> + Clock + Eprint>(
         &mut self,
         rt: &R,
         alloc: Global,

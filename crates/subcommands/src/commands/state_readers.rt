@@ -2,10 +2,11 @@
 //! replica is made and given back in one place, and each command only borrows it.
 use crate::commands::{diff, distrust};
 use crate::state_access::{leave, load, state_access_of};
-use byte_lines::Source;
-use command_streams::{complaints, input, options, output};
+use byte_lines::{FromWrite, Source};
+use command_streams::{complaints, input, options, output_progress_mode};
 use fed_config::Config;
 use fedbundle::{Call, CommandName, Exit, OptionName, Shown, given, run_shown};
+use progress_line::{ProgressMode, WatchedWriter, WorkProgress};
 use std::rt::Clock;
 use trust_closure::IndexedClosure;
 
@@ -54,14 +55,25 @@ fn show_from<R: Source>(
         running: None,
         moment: unix_second(rt),
     };
+    let mode = progress_mode_of(rt, call);
+    let mut progress = WorkProgress::begin(rt, rt.alloc(), "writing the migrated state", mode);
+    let output = WatchedWriter::new(rt.stdout(), &mut progress);
     run_shown(
         rt.alloc(),
         closure,
         shown,
         source,
-        &mut output(rt),
+        &mut FromWrite::new(output),
         &mut complaints(rt),
     )
+}
+
+// A snapshot is all that may be long.
+fn progress_mode_of(rt: &HostRuntime, call: &Call<'_>) -> ProgressMode {
+    match call.name {
+        CommandName::Migrate => output_progress_mode(rt),
+        _ => ProgressMode::Silent,
+    }
 }
 
 // The time of day; 0 if the clock has none.
