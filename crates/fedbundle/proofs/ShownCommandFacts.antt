@@ -15,7 +15,8 @@ use Rattle.fedbundle.specs.CommandRun.{CommandRun, DeviceRun, HasFailed}
 use Rattle.fedbundle.specs.Errors.{of_read}
 use Rattle.fedbundle.specs.Migrate.{move_to}
 use Rattle.fedbundle.specs.Shown.{IsUntouched, ShownCall, ShowsBy}
-use Rattle.fedbundle.specs.ShownCommands.{ComparesConfigsIn, MovesTo, MovesToRead, PrintsReseeded, ReadsConfig, ReseedsInto, ShowsConfig, ShowsConfigIn, ShowsMove, ShowsNamed, config_call}
+use Rattle.fedbundle.specs.ShownCommands.{ComparesConfigsIn, MovesTo, MovesToRead, PrintsReseeded, ReadsConfig}
+use Rattle.fedbundle.specs.ShownCommands.{ReseedsInto, ShowsConfig, ShowsConfigIn, ShowsMove, ShowsNamed, config_call}
 use Rattle.fedbundle.specs.declared.exits.Exit.{Exit}
 
 -- what the command of this name does is what the call does
