@@ -16,19 +16,19 @@ _fedbundle() {
     esac
     case ${COMP_WORDS[1]} in
         canon) words='--domain --format --verbose --help' ;;
-        config) words='--config --with --format --verbose --help' ;;
+        config) words='--config --with --format --wait --verbose --at --help' ;;
         new) words='--config --state --wait --verbose --help' ;;
         report) words='--config --state --format --new --wait --verbose --at --help' ;;
         list) words='--config --state --domain --keys --format --new --wait --verbose --at --help' ;;
-        diff) words='--config --state --with --new --verbose --help' ;;
+        diff) words='--config --state --with --new --wait --verbose --at --help' ;;
         graph) words='--config --state --domain --new --wait --verbose --at --help' ;;
         status) words='--config --state --format --now --expires-within --peer-quiet --polls --new --wait --verbose --at --help' ;;
         bundle) words='--config --state --domain --format --wait --verbose --at --help' ;;
         explain) words='--config --state --domain --short --format --wait --verbose --at --help' ;;
         observe) words='--config --state --domain --endpoint --key --wait --verbose --at --help' ;;
         merge) words='--config --state --wait --most-bytes --verbose --at --help' ;;
-        migrate) words='--config --state --to --records-only --verbose --help' ;;
-        reseed) words='--config --state --allow --verbose --help' ;;
+        migrate) words='--config --state --to --records-only --wait --verbose --at --help' ;;
+        reseed) words='--config --state --allow --wait --verbose --at --help' ;;
         polls) words='--config --state --now --format --wait --verbose --at --help' ;;
         distrust) words='--config --state --domain --key --public-key --dry-run --new --wait --verbose --at --help' ;;
         serve) words='--config --state --listen --sessions --verbose --help' ;;

@@ -90,6 +90,7 @@ is_flag option = false
 
 -- the words may leave it out
 abbrev pub may_be_left_out : OptionName → Bool
+may_be_left_out To = true
 may_be_left_out OptionalState = true
 may_be_left_out OptionalDomain = true
 may_be_left_out With = true
@@ -147,12 +148,12 @@ name_text command.Stop = codes "stop"
 
 abbrev pub options_of : CommandName → List OptionName
 options_of command.Canon = Domain ∷ FileFormat ∷ Verbose ∷ []
-options_of command.Config = Config ∷ With ∷ FileFormat ∷ Verbose ∷ []
+options_of command.Config = Config ∷ With ∷ Format ∷ Wait ∷ Verbose ∷ At ∷ []
 options_of command.New = Config ∷ State ∷ Wait ∷ Verbose ∷ []
 options_of command.Report = Config ∷ OptionalState ∷ Format ∷ New ∷ Wait ∷ Verbose ∷ At ∷ []
 options_of command.List = Config ∷ State ∷ OptionalDomain ∷ Keys ∷ Format ∷ New ∷ Wait
     ∷ Verbose ∷ At ∷ []
-options_of command.Diff = Config ∷ State ∷ With ∷ New ∷ Verbose ∷ []
+options_of command.Diff = Config ∷ State ∷ With ∷ New ∷ Wait ∷ Verbose ∷ At ∷ []
 options_of command.Graph = Config ∷ State ∷ OptionalDomain ∷ New ∷ Wait ∷ Verbose ∷ At ∷ []
 options_of command.Status = Config ∷ State ∷ Format ∷ OptionalNow ∷ ExpiresWithin ∷ PeerQuiet
     ∷ Polls ∷ New ∷ Wait ∷ Verbose ∷ At ∷ []
@@ -162,8 +163,8 @@ options_of command.Explain = Config ∷ State ∷ Domain ∷ Short ∷ Format �
 options_of command.Observe = Config ∷ State ∷ Domain ∷ Endpoint ∷ Key ∷ Wait ∷ Verbose
     ∷ At ∷ []
 options_of command.Merge = Config ∷ State ∷ Wait ∷ MostBytes ∷ Verbose ∷ At ∷ []
-options_of command.Migrate = Config ∷ State ∷ To ∷ RecordsOnly ∷ Verbose ∷ []
-options_of command.Reseed = Config ∷ State ∷ Allow ∷ Verbose ∷ []
+options_of command.Migrate = Config ∷ State ∷ To ∷ RecordsOnly ∷ Wait ∷ Verbose ∷ At ∷ []
+options_of command.Reseed = Config ∷ State ∷ Allow ∷ Wait ∷ Verbose ∷ At ∷ []
 options_of command.Polls = Config ∷ State ∷ Now ∷ Format ∷ Wait ∷ Verbose ∷ At ∷ []
 options_of command.Distrust = Config ∷ State ∷ Domain ∷ OptionalKey ∷ PublicKey ∷ DryRun ∷ New
     ∷ Wait ∷ Verbose ∷ At ∷ []

@@ -196,7 +196,8 @@ impl OptionName {
     {
         matches!(
             self,
-            OptionName::OptionalState
+            OptionName::To
+                | OptionName::OptionalState
                 | OptionName::OptionalDomain
                 | OptionName::With
                 | OptionName::At
@@ -242,11 +243,13 @@ static CANON: [OptionName; 3] = [
     OptionName::Verbose,
 ];
 
-static CONFIG: [OptionName; 4] = [
+static CONFIG: [OptionName; 6] = [
     OptionName::Config,
     OptionName::With,
-    OptionName::FileFormat,
+    OptionName::Format,
+    OptionName::Wait,
     OptionName::Verbose,
+    OptionName::At,
 ];
 
 static NEW: [OptionName; 4] = [
@@ -288,12 +291,14 @@ static GRAPH: [OptionName; 7] = [
     OptionName::At,
 ];
 
-static DIFF: [OptionName; 5] = [
+static DIFF: [OptionName; 7] = [
     OptionName::Config,
     OptionName::State,
     OptionName::With,
     OptionName::New,
+    OptionName::Wait,
     OptionName::Verbose,
+    OptionName::At,
 ];
 
 static STATUS: [OptionName; 11] = [
@@ -351,19 +356,23 @@ static MERGE: [OptionName; 6] = [
     OptionName::At,
 ];
 
-static MIGRATE: [OptionName; 5] = [
+static MIGRATE: [OptionName; 7] = [
     OptionName::Config,
     OptionName::State,
     OptionName::To,
     OptionName::RecordsOnly,
+    OptionName::Wait,
     OptionName::Verbose,
+    OptionName::At,
 ];
 
-static RESEED: [OptionName; 4] = [
+static RESEED: [OptionName; 6] = [
     OptionName::Config,
     OptionName::State,
     OptionName::Allow,
+    OptionName::Wait,
     OptionName::Verbose,
+    OptionName::At,
 ];
 
 static POLLS: [OptionName; 7] = [

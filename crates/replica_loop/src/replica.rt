@@ -76,7 +76,13 @@ fn find<R: Files<File = File>>(
         has_state,
         has_journal,
     };
-    match StateBeginning::of(alloc, settings.state, found, settings.is_new)? {
+    match StateBeginning::of(
+        alloc,
+        settings.state,
+        found,
+        settings.is_new,
+        settings.progress,
+    )? {
         Some(beginning) => Ok(beginning),
         None => Err(Exit::NoState),
     }
@@ -84,7 +90,7 @@ fn find<R: Files<File = File>>(
 
 // What is held, all of which is in the snapshot then; or, where that could not be written, in the
 // files as they were.
-fn load<C: Closure, R: Files<File = File> + Eprint>(
+fn load<C: Closure, R: Files<File = File> + Clock + Eprint>(
     rt: &R,
     alloc: Global,
     config: &Config,

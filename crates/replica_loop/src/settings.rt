@@ -1,5 +1,6 @@
 //! What the words say of a replica.
 use local_answers::PageLimits;
+use progress_line::ProgressMode;
 use replica_sockets::ListenPlaces;
 use std::net::SocketAddr;
 use std::time::Duration;
@@ -35,6 +36,8 @@ pub struct Settings<'a, 'p> {
     pub is_new: bool,
     /// Whether each connection is reported that has ended, and not only those at fault.
     pub is_verbose: bool,
+    /// Whether it is said how far the state is read or written.
+    pub progress: ProgressMode,
 }
 
 impl<'a> Settings<'a, '_> {

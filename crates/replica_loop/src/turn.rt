@@ -91,7 +91,12 @@ impl RunningReplica {
             listeners,
             table: ConnectionTable::new(alloc, settings.most_request_bytes)?,
             peers: Peers::new(alloc, settings.peers, settings.every, now)?,
-            files: KeptFiles::new(lock, file_at_step(Step::Journal, journal)?, audit),
+            files: KeptFiles::new(
+                lock,
+                file_at_step(Step::Journal, journal)?,
+                audit,
+                settings.progress,
+            ),
             events: EventCounts::new(alloc),
             now,
             began,
@@ -349,7 +354,7 @@ impl RunningReplica {
     }
 
     /// Puts on the disk what came in this turn. Where that fails, the replies say so.
-    pub(crate) fn commit<C: Closure, R: Files<File = File> + Eprint + Clock>(
+    pub(crate) fn commit<C: Closure, R: Files<File = File> + Clock + Eprint>(
         &mut self,
         rt: &R,
         alloc: Global,
