@@ -16,7 +16,7 @@ pub(crate) struct SumLines {
 }
 
 impl SumLines {
-    ghost use Rattle.bucket_sums.specs.Inside.Comparing.{Compares, marks_so_far, own_sums};
+    ghost use Rattle.bucket_sums.specs.Inside.Comparing.{ComparesLine, marks_so_far, own_sums};
 
     /// Before the first line.
     pub(crate) fn new(alloc: Global, own: Sums) -> SumLines
@@ -41,7 +41,7 @@ impl SumLines {
     /// Compares the next line with the sum in its place. Returns whether it is the line of a sum.
     pub(crate) fn compare(&mut self, line: &[u8]) -> Result<bool, AllocError>
         requires { length (marks_so_far self.old) < part_count }
-        ensures ok { IfOk result (Compares self.old line.now self.new) }
+        ensures ok { IfOk result (ComparesLine self.old line.now self.new) }
         ensures refused { OnErr result ((marks_so_far self.new ≡ marks_so_far self.old)
             × (own_sums self.new ≡ own_sums self.old)) }
     {

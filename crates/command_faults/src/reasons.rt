@@ -219,12 +219,14 @@ fn say_system(rt: &HostRuntime, call: &Call<'_>, fault: &SystemFault) -> Result<
     let state = shown(rt.alloc(), state_path(call))?;
     let listen = listen_addresses(rt.alloc(), call)?;
     let peer = shown(rt.alloc(), given(call, OptionName::Peer).unwrap_or(""))?;
+    let audit = shown(rt.alloc(), given(call, OptionName::Audit).unwrap_or(""))?;
     let socket = shown(rt.alloc(), socket_path(call))?;
     let line = match fault.step {
         Step::Lock => format!(in rt.alloc(); "lock {state}.lock: {words}")?,
         Step::See => format!(in rt.alloc(); "state {state}: {words}")?,
         Step::Save => format!(in rt.alloc(); "write {state}.new, and rename it: {words}")?,
         Step::Journal => format!(in rt.alloc(); "write {state}.journal: {words}")?,
+        Step::Audit => format!(in rt.alloc(); "write {audit}: {words}")?,
         Step::Socket => format!(in rt.alloc(); "socket {socket}: {words}")?,
         Step::Listen => format!(in rt.alloc(); "listen {listen}: {words}")?,
         Step::Accept => format!(in rt.alloc(); "accept at {listen}: {words}")?,

@@ -32,7 +32,7 @@ use Rattle.command_line.specs.declared.command_name.OptionName.TheVariants.{List
 use Rattle.command_line.specs.declared.command_name.OptionName.TheVariants.{Keys, OptionalKey}
 use Rattle.command_line.specs.declared.command_name.OptionName.TheVariants.{PublicKey, Polls}
 use Rattle.command_line.specs.declared.command_name.OptionName.TheVariants.{OptionalNow, Health}
-use Rattle.command_line.specs.declared.command_name.OptionName.TheVariants.{ExpiresWithin}
+use Rattle.command_line.specs.declared.command_name.OptionName.TheVariants.{ExpiresWithin, Audit}
 use Rattle.command_line.specs.declared.command_name.OptionName.TheVariants.{PeerQuiet}
 
 abbrev pub option_text : OptionName → List ℕ
@@ -75,6 +75,7 @@ option_text ExpiresWithin = codes "expires-within"
 option_text PeerQuiet = codes "peer-quiet"
 option_text Polls = codes "polls"
 option_text Health = codes "health"
+option_text Audit = codes "audit"
 
 -- it has no text after it
 abbrev pub is_flag : OptionName → Bool
@@ -111,6 +112,7 @@ may_be_left_out ExpiresWithin = true
 may_be_left_out PeerQuiet = true
 may_be_left_out Polls = true
 may_be_left_out Health = true
+may_be_left_out Audit = true
 may_be_left_out option = false
 
 -- it names a file that a running replica has itself, or it is the format of a command that no such
@@ -169,8 +171,8 @@ options_of command.Distrust = Config ∷ State ∷ Domain ∷ OptionalKey ∷ Pu
 options_of command.Serve = Config ∷ State ∷ Listen ∷ Sessions ∷ Verbose ∷ []
 options_of command.Pull = Config ∷ State ∷ Peer ∷ Wait ∷ MostBytes ∷ Verbose ∷ []
 options_of command.Replica = Config ∷ State ∷ Socket ∷ ReadSocket ∷ OptionalListen ∷ Health
-    ∷ ListenAnywhere ∷ Peers ∷ Every ∷ PeerQuiet ∷ ExpiresWithin ∷ MostBytes ∷ MostRequestBytes
-    ∷ New ∷ Verbose ∷ []
+    ∷ Audit ∷ ListenAnywhere ∷ Peers ∷ Every ∷ PeerQuiet ∷ ExpiresWithin ∷ MostBytes
+    ∷ MostRequestBytes ∷ New ∷ Verbose ∷ []
 options_of command.Stop = Wait ∷ Verbose ∷ At ∷ []
 
 abbrev pub all_names : List CommandName

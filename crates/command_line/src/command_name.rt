@@ -53,6 +53,7 @@ pub enum OptionName {
     PeerQuiet,
     Polls,
     Health,
+    Audit,
 }
 
 /// A subcommand.
@@ -169,6 +170,7 @@ impl OptionName {
             OptionName::PeerQuiet => "peer-quiet",
             OptionName::Polls => "polls",
             OptionName::Health => "health",
+            OptionName::Audit => "audit",
         }
     }
 
@@ -216,6 +218,7 @@ impl OptionName {
                 | OptionName::PeerQuiet
                 | OptionName::Polls
                 | OptionName::Health
+                | OptionName::Audit
         )
     }
 
@@ -412,13 +415,14 @@ static PULL: [OptionName; 6] = [
     OptionName::Verbose,
 ];
 
-static REPLICA: [OptionName; 15] = [
+static REPLICA: [OptionName; 16] = [
     OptionName::Config,
     OptionName::State,
     OptionName::Socket,
     OptionName::ReadSocket,
     OptionName::OptionalListen,
     OptionName::Health,
+    OptionName::Audit,
     OptionName::ListenAnywhere,
     OptionName::Peers,
     OptionName::Every,

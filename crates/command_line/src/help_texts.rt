@@ -425,6 +425,7 @@ impl OptionName {
             OptionName::PeerQuiet => "SECONDS",
             OptionName::Polls => "FILE",
             OptionName::Health => "ADDRESS",
+            OptionName::Audit => "PATH",
         }
     }
 
@@ -490,6 +491,8 @@ impl OptionName {
             OptionName::PeerQuiet =>
                 "How long a peer may be quiet, from 0 to 31536000 seconds [600]",
             OptionName::Polls => "The polls so far, as `polls` reads them",
+            OptionName::Audit =>
+                "The path of a file to which a line of JSON is appended for each change",
             OptionName::Health =>
                 "The address of health, metrics and a page: an IP address and a port",
         }
@@ -640,7 +643,7 @@ impl CommandName {
             CommandName::Replica => {
                 "fedbundle replica --config <FILE> --state <FILE> --socket <PATH> \
                 [--read-socket <PATH>] [--listen <ADDRESS>] [--health <ADDRESS>] \
-                [--listen-anywhere] [--peers <ADDRESS,..>] [--every <SECONDS>] \
+                [--audit <PATH>] [--listen-anywhere] [--peers <ADDRESS,..>] [--every <SECONDS>] \
                 [--peer-quiet <SECONDS>] [--expires-within <DAYS>] \
                 [--most-bytes <BYTES>] [--most-request-bytes <BYTES>] [--new] [--verbose]"
             }

@@ -57,6 +57,7 @@ fn settings_of<'a, 'p>(
         state: wanted(call, OptionName::State)?,
         socket: wanted(call, OptionName::Socket)?,
         read_socket: given(call, OptionName::ReadSocket),
+        audit: given(call, OptionName::Audit),
         listen: listen_of(call)?,
         health: health_of(call)?,
         page_limits: page_limits_of(call)?,

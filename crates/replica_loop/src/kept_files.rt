@@ -1,4 +1,5 @@
 //! The files in which a running replica keeps what it holds: the lock, the state and its journal.
+use crate::change_reports::audit_lines;
 use closure_core::Closure;
 use fedbundle::FileFault;
 use peer_talks::HeldState;
@@ -6,18 +7,35 @@ use progress_line::ProgressMode;
 use replica_connections::ConnectionTable;
 use replica_events::{LogEvent, log_event};
 use state_files::{
-    AppendFault, FoldFault, Journal, LostFile, StateLock, begin_anew, fold_state, save_snapshot,
+    AppendFault, AuditFile, FoldFault, Journal, LostFile, StateLock, begin_anew, fold_state,
+    save_snapshot,
 };
 use std::alloc::Global;
 use std::fs::{File, Files};
 use std::io::Eprint;
 use std::time::Clock;
 
+/// Why a change is not on the disk.
+#[derive(Clone, Copy, Debug)]
+pub(crate) enum KeepFault {
+    /// The audit file could not be written: the journal has nothing of the change.
+    Audit(FileFault),
+    /// The journal or the state file could not be written.
+    State(FileFault),
+}
+
+impl From<FileFault> for KeepFault {
+    fn from(fault: FileFault) -> KeepFault {
+        KeepFault::State(fault)
+    }
+}
+
 /// The files of a running replica.
 #[derive(Drop)]
 pub(crate) struct KeptFiles {
     lock: StateLock,
     journal: Journal,
+    audit: Option<AuditFile>,
     // Whether a fault came while the journal was emptied: the state file has all that is held, and
     // no line may be appended before a journal is begun anew.
     is_unsettled: bool,
@@ -27,10 +45,16 @@ pub(crate) struct KeptFiles {
 }
 
 impl KeptFiles {
-    pub(crate) fn new(lock: StateLock, journal: Journal, progress: ProgressMode) -> KeptFiles {
+    pub(crate) fn new(
+        lock: StateLock,
+        journal: Journal,
+        audit: Option<AuditFile>,
+        progress: ProgressMode,
+    ) -> KeptFiles {
         KeptFiles {
             lock,
             journal,
+            audit,
             is_unsettled: false,
             folds: 0,
             progress,
@@ -53,8 +77,30 @@ impl KeptFiles {
     }
 
     /// Puts on the disk what came, and looks whether it is in the files that have the names. Only
-    /// then it may be acknowledged.
+    /// then it may be acknowledged. The lines of the audit file are on the disk first, so a kill
+    /// leaves no change there is no line of. `moment` is the Unix second.
     pub(crate) fn keep<C: Closure, R: Files<File = File> + Clock + Eprint>(
+        &mut self,
+        rt: &R,
+        alloc: Global,
+        held: &HeldState<C>,
+        table: &ConnectionTable,
+        path: &str,
+        moment: u64,
+    ) -> Result<(), KeepFault> {
+        if let Some(audit) = &mut self.audit {
+            let written = match audit_lines(alloc, held, table, moment) {
+                Ok(lines) => audit.append(rt, lines.as_slice()),
+                Err(error) => Err(FileFault::from(error)),
+            };
+            if let Err(fault) = written {
+                return Err(KeepFault::Audit(fault));
+            }
+        }
+        Ok(self.keep_state(rt, alloc, held, table, path)?)
+    }
+
+    fn keep_state<C: Closure, R: Files<File = File> + Clock + Eprint>(
         &mut self,
         rt: &R,
         alloc: Global,

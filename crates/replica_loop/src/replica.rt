@@ -1,4 +1,5 @@
 //! The beginning and the end of a replica that stays.
+use crate::kept_files::KeepFault;
 use crate::settings::Settings;
 use crate::turn::{RunningReplica, turn};
 use closure_core::Closure;
@@ -37,7 +38,7 @@ const MOST_EVENTS: usize = 256;
 /// - [`Exit::SocketTaken`]: another process listens on the socket, or its path names something else
 ///   than a socket,
 /// - [`Exit::System`]: the system refused a step of the beginning, or a change could not be put on
-///   the disk ([`Step::Journal`]),
+///   the disk ([`Step::Journal`], [`Step::Audit`]),
 /// - [`Exit::Refused`]: the state is refused, `ready` could not be printed, or memory ran out.
 pub fn run_replica<R: Runtime<File = File, A = Global> + Net>(
     rt: &R,
@@ -136,9 +137,13 @@ fn run_turns<C: Closure, R: Files<File = File> + Net + Clock + Eprint>(
         match turn(rt, alloc, held, running, events, settings) {
             Ok(true) => break,
             Ok(false) => {}
-            Err(fault) => {
+            Err(KeepFault::State(fault)) => {
                 log_event(rt, alloc, LogEvent::Journal(fault.why));
                 return Err(Exit::of_file(Step::Journal, fault));
+            }
+            Err(KeepFault::Audit(fault)) => {
+                log_event(rt, alloc, LogEvent::AuditFault(fault.why));
+                return Err(Exit::of_file(Step::Audit, fault));
             }
         }
     }

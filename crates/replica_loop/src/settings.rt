@@ -14,6 +14,8 @@ pub struct Settings<'a, 'p> {
     pub socket: &'a str,
     /// The path of a second socket, at which nothing can be changed.
     pub read_socket: Option<&'a str>,
+    /// The path of a file to which a line is appended for each change.
+    pub audit: Option<&'a str>,
     /// Where other replicas pull from this one.
     pub listen: Option<SocketAddr>,
     /// Where pages for health and metrics are asked for.

@@ -19,6 +19,6 @@ pub record IsCompared (old : SumLines) (line : List ℕ) (new : SumLines) : Type
       ++ differs line (slice_index_or (own_sums old) (length (marks_so_far old)) []) ∷ []
 
 -- what is done with the next line
-abbrev pub Compares : SumLines → List ℕ → SumLines → Bool → Type 0
-Compares old line new true = IsCompared old line new
-Compares old line new false = (IsSumLine line → ⊥) × (new ≡ old)
+abbrev pub ComparesLine : SumLines → List ℕ → SumLines → Bool → Type 0
+ComparesLine old line new true = IsCompared old line new
+ComparesLine old line new false = (IsSumLine line → ⊥) × (new ≡ old)
