@@ -7,3 +7,4 @@ mod ChangingFacts
 mod ChangeEventFacts
 mod PieceEventFacts
 mod LookFacts
+mod PageFacts
