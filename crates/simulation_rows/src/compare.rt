@@ -4,6 +4,7 @@ use crate::masks::{has, size};
 use crate::model::{Held, Sight};
 use crate::universe::Universe;
 use closure_core::Closure;
+use spiffe_name::TrustDomain;
 
 /// What differs between what a closure holds and accepts, and what the model says.
 pub(crate) fn compare<C: Closure>(
@@ -55,7 +56,15 @@ fn accepts<C: Closure>(universe: &Universe, closure: &C, accepted: u64) -> bool 
 fn accepted_count<C: Closure>(closure: &C) -> usize {
     let mut count: usize = 0;
     for domain in closure.config().domains() {
-        count = count.saturating_add(closure.accepted(domain).count());
+        count = count.saturating_add(accepted_of(closure, domain));
+    }
+    count
+}
+
+fn accepted_of<C: Closure>(closure: &C, domain: &TrustDomain) -> usize {
+    let mut count: usize = 0;
+    for _ in closure.accepted(domain) {
+        count = count.saturating_add(1);
     }
     count
 }

@@ -29,7 +29,7 @@ pub(crate) fn search<C: Closure>(
     schedules: usize,
 ) -> Result<Option<Failed>, Stop> {
     for after in 1..=schedules {
-        let replicas = 3 + chance.below(3);
+        let replicas = chance.below(3).saturating_add(3);
         let steps = schedule(stage.alloc, chance, stage.universe, replicas)?;
         if let Some(failure) = play::<C>(stage, replicas, steps.as_slice())? {
             let failed = Failed {
