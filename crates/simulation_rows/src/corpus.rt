@@ -54,7 +54,7 @@ fn key_of(domain: usize, place: usize) -> usize {
 fn text_at(alloc: Global, domain: usize, place: usize) -> Result<String, Stop> {
     let next = place.saturating_add(1);
     let keys = (key_of(domain, place), key_of(domain, next));
-    Ok(texts::document_text(alloc, keys, next)?)
+    Ok(texts::document_text(alloc, keys, next, 300)?)
 }
 
 fn push_domain(

@@ -14,8 +14,8 @@ use closure_core::Closure;
 use plain_closure::PlainClosure;
 use std::alloc::Global;
 
-/// More pieces than a whole session has.
-const WHOLE_SESSION: usize = 4_096;
+/// More pieces than it takes to ask about the buckets that have receipts.
+const ENOUGH: usize = 20;
 
 /// Plays the steps, and then lets all replicas pull until all hold the same. Returns what differs
 /// from the model first.
@@ -74,15 +74,16 @@ fn pull_each<C: Closure>(
                 count.saturating_sub(place),
             )
         };
-        if let Some(failure) = pull_whole(stage, world, asker, answerer)? {
+        if let Some(failure) = pull_all(stage, world, asker, answerer)? {
             return Ok(Some(failure));
         }
     }
     Ok(None)
 }
 
-// A whole session. One that had begun is cut, since its haves may name what a restart lost.
-fn pull_whole<C: Closure>(
+// A session about all receipts. One that had begun is cut, since its haves may name what a restart
+// lost.
+fn pull_all<C: Closure>(
     stage: Stage<'_>,
     world: &mut World<C>,
     asker: usize,
@@ -95,7 +96,7 @@ fn pull_whole<C: Closure>(
         Step::Run {
             asker,
             answerer,
-            pieces: WHOLE_SESSION,
+            pieces: ENOUGH,
             size: 65_536,
         },
     )

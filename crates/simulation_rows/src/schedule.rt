@@ -74,12 +74,12 @@ fn between(chance: &mut Chance, asker: usize, replicas: usize) -> Step {
     }
 }
 
-// Mostly whole messages, and sometimes small pieces.
+// Mostly whole messages of the first buckets, and sometimes small pieces or all of a session.
 fn amount(chance: &mut Chance) -> (usize, usize) {
-    if chance.percent(75) {
-        let whole = if chance.percent(50) { 65_536 } else { 65_535 };
-        (chance.below(400), whole)
-    } else {
-        (chance.below(200), chance.below(500).saturating_add(1))
+    let whole = if chance.percent(50) { 65_536 } else { 65_535 };
+    match chance.below(100) {
+        0..75 => (chance.below(40), whole),
+        75..95 => (chance.below(60), chance.below(500).saturating_add(1)),
+        _ => (400, whole),
     }
 }

@@ -25,10 +25,16 @@ pub(crate) fn document_text(
     alloc: Global,
     keys: (usize, usize),
     sequence: usize,
+    hint: usize,
 ) -> Result<String, AllocError> {
     let first = authority_text(alloc, keys.0)?;
     let second = authority_text(alloc, keys.1)?;
-    format!(in alloc; "{{\"keys\":[{first},{second}],\"spiffe_sequence\":{sequence}}}")
+    let mut text = format!(in alloc; "{{\"keys\":[{first},{second}],")?;
+    write!(
+        text,
+        "\"spiffe_refresh_hint\":{hint},\"spiffe_sequence\":{sequence}}}"
+    )?;
+    Ok(text)
 }
 
 fn authority_text(alloc: Global, key: usize) -> Result<String, AllocError> {
@@ -44,7 +50,7 @@ pub(crate) fn document(alloc: Global, text: &str) -> Result<Document, Stop> {
 
 /// The id of the key of this number.
 pub(crate) fn key_id(alloc: Global, key: usize) -> Result<KeyId, Stop> {
-    let text = document_text(alloc, (key, key), 1)?;
+    let text = document_text(alloc, (key, key), 1, 1)?;
     let document = document(alloc, text.as_str())?;
     match document.authorities() {
         [authority, ..] => authority.key_id().ok_or(Stop::Text),

@@ -18,8 +18,14 @@ const DOMAINS: usize = 3;
 const DOCUMENTS: usize = 5;
 /// How many keys a domain has. Each document has two that follow each other.
 const KEYS: usize = 6;
-/// How many receipts are made beside those that a fetcher would make.
-const ODD_RECEIPTS: usize = 14;
+/// How many receipts are drawn beside those that a fetcher would make. One in sixteen is kept.
+const DRAWN: usize = 224;
+/// The most receipts.
+const MOST_RECEIPTS: usize = 40;
+/// All receipts are in the buckets below this one, so a session need not be long to bring some.
+pub(crate) const NEAR: u8 = 16;
+/// The most refresh hints that are tried for a document.
+const HINTS: usize = 300;
 
 /// A document of a domain.
 #[derive(Drop)]
@@ -80,7 +86,7 @@ impl Universe {
 /// The universe of a seed.
 pub(crate) fn make_universe(alloc: Global, seed: u64) -> Result<Universe, Stop> {
     let keys = all_keys(alloc, seed)?;
-    let documents = all_documents(alloc, seed)?;
+    let documents = all_documents(alloc, seed, keys.as_slice())?;
     let mut records = record_lines(alloc, keys.as_slice())?;
     records.sort()?;
     let maker = Maker {
@@ -117,22 +123,77 @@ fn all_keys(alloc: Global, seed: u64) -> Result<Vec<KeyId>, Stop> {
     Ok(keys)
 }
 
-fn all_documents(alloc: Global, seed: u64) -> Result<Vec<Shown>, Stop> {
+fn all_documents(alloc: Global, seed: u64, keys: &[KeyId]) -> Result<Vec<Shown>, Stop> {
     let mut documents = Vec::new(alloc);
     for number in 0..DOMAINS * DOCUMENTS {
-        documents.push(make_shown(alloc, seed, number)?)?;
+        let shown = near_shown(alloc, seed, number, keys, documents.as_slice())?;
+        documents.push(shown)?;
     }
     Ok(documents)
 }
 
-fn make_shown(alloc: Global, seed: u64, number: usize) -> Result<Shown, Stop> {
-    let place = number % DOCUMENTS;
+// The document with the least refresh hint whose usual receipt is in one of the first buckets.
+fn near_shown(
+    alloc: Global,
+    seed: u64,
+    number: usize,
+    keys: &[KeyId],
+    documents: &[Shown],
+) -> Result<Shown, Stop> {
+    let mut shown = make_shown(alloc, seed, number, 1)?;
+    for hint in 2..HINTS {
+        if is_near(alloc, number, &shown, keys, documents)? {
+            return Ok(shown);
+        }
+        shown = make_shown(alloc, seed, number, hint)?;
+    }
+    Ok(shown)
+}
+
+fn is_near(
+    alloc: Global,
+    number: usize,
+    shown: &Shown,
+    keys: &[KeyId],
+    documents: &[Shown],
+) -> Result<bool, Stop> {
+    let domain = number / DOCUMENTS;
+    let Some(voucher) = usual_voucher(number) else {
+        return Ok(true);
+    };
+    let said = Said {
+        document: shown.text.as_str(),
+        domain,
+        endpoint: endpoint_of(domain),
+        key: *keys.get(usual_key(voucher)).ok_or(Stop::Text)?,
+        voucher: documents.get(voucher).ok_or(Stop::Text)?.id,
+    };
+    let line = texts::receipt_text(alloc, said)?;
+    is_near_line(alloc, line.as_str())
+}
+
+fn is_near_line(alloc: Global, line: &str) -> Result<bool, Stop> {
+    Ok(bucket_of(&texts::receipt(alloc, line)?) < NEAR)
+}
+
+// The document under which a fetcher takes this one: the one before it of the endpoint's domain.
+fn usual_voucher(document: usize) -> Option<usize> {
+    let before = (document % DOCUMENTS).checked_sub(1)?;
+    Some(document_number(endpoint_of(document / DOCUMENTS), before))
+}
+
+// The key of that document with which it does.
+fn usual_key(voucher: usize) -> usize {
+    first_key(voucher).saturating_add(1)
+}
+
+fn make_shown(alloc: Global, seed: u64, number: usize, hint: usize) -> Result<Shown, Stop> {
     let key = first_key(number);
     let keys = (
         certificate(seed, key),
         certificate(seed, key.saturating_add(1)),
     );
-    let text = texts::document_text(alloc, keys, sequence_of(place))?;
+    let text = texts::document_text(alloc, keys, sequence_of(number % DOCUMENTS), hint)?;
     let document = texts::document(alloc, text.as_str())?;
     let domain = texts::trust_domain(alloc, number / DOCUMENTS)?;
     let id = document.id(&domain);
@@ -223,10 +284,14 @@ fn read_receipts(alloc: Global, planned: &[Planned]) -> Result<Vec<Receipt>, Sto
 fn buckets(alloc: Global, receipts: &[Receipt]) -> Result<Vec<u8>, AllocError> {
     let mut buckets = Vec::new(alloc);
     for receipt in receipts {
-        let [bucket, ..] = receipt.id().0;
-        buckets.push(bucket)?;
+        buckets.push(bucket_of(receipt))?;
     }
     Ok(buckets)
+}
+
+fn bucket_of(receipt: &Receipt) -> u8 {
+    let [bucket, ..] = receipt.id().0;
+    bucket
 }
 
 fn facts_of(alloc: Global, planned: &[Planned]) -> Result<Vec<Facts>, AllocError> {
@@ -253,27 +318,15 @@ impl Maker<'_> {
         for document in 0..DOMAINS * DOCUMENTS {
             self.push_usual(document, &mut planned)?;
         }
-        for _ in 0..ODD_RECEIPTS {
+        for _ in 0..DRAWN {
             self.push_odd(chance, &mut planned)?;
         }
         Ok(planned)
     }
 
-    // Under the document before, with the key that both have; a domain whose endpoint is of another
-    // one has the documents of that in turn.
     fn push_usual(&self, document: usize, planned: &mut Vec<Planned>) -> Result<(), Stop> {
-        let place = document % DOCUMENTS;
-        let domain = document / DOCUMENTS;
-        match place.checked_sub(1) {
-            Some(before) => {
-                let voucher = document_number(endpoint_of(domain), before);
-                self.push(
-                    document,
-                    Some(voucher),
-                    first_key(voucher).saturating_add(1),
-                    planned,
-                )
-            }
+        match usual_voucher(document) {
+            Some(voucher) => self.push(document, Some(voucher), usual_key(voucher), planned),
             None => Ok(()),
         }
     }
@@ -303,7 +356,10 @@ impl Maker<'_> {
     ) -> Result<(), Stop> {
         let key = key.min(DOMAINS * KEYS - 1);
         let line = self.line(document, voucher, key)?;
-        if has_line(planned.as_slice(), line.as_str()) {
+        if planned.len() >= MOST_RECEIPTS || has_line(planned.as_slice(), line.as_str()) {
+            return Ok(());
+        }
+        if !is_near_line(self.alloc, line.as_str())? {
             return Ok(());
         }
         let facts = self.facts(document, voucher, key)?;
