@@ -34,7 +34,13 @@ def usual(random_):
     ], der
 
 
-MAKERS = {"small": small, "usual": usual}
+def forty(random_):
+    """Forty short authorities, each with its certificate."""
+    ders = [random_.randbytes(12) for _ in range(40)]
+    return [rsa(der, "AQAB") for der in ders], ders[0]
+
+
+MAKERS = {"small": small, "usual": usual, "forty": forty}
 
 
 def document(authorities, sequence):

@@ -7,7 +7,7 @@ _fedbundle() {
         return
     fi
     case $before in
-        --at|--config|--polls|--read-socket|--socket|--state|--to|--with)
+        --at|--audit|--config|--polls|--read-socket|--socket|--state|--to|--with)
             compopt -o filenames 2>/dev/null
             COMPREPLY=($(compgen -f -- "$word"))
             return
@@ -16,24 +16,24 @@ _fedbundle() {
     esac
     case ${COMP_WORDS[1]} in
         canon) words='--domain --format --verbose --help' ;;
-        config) words='--config --with --format --verbose --help' ;;
+        config) words='--config --with --format --wait --verbose --at --help' ;;
         new) words='--config --state --wait --verbose --help' ;;
         report) words='--config --state --format --new --wait --verbose --at --help' ;;
         list) words='--config --state --domain --keys --format --new --wait --verbose --at --help' ;;
-        diff) words='--config --state --with --new --verbose --help' ;;
+        diff) words='--config --state --with --new --wait --verbose --at --help' ;;
         graph) words='--config --state --domain --new --wait --verbose --at --help' ;;
         status) words='--config --state --format --now --expires-within --peer-quiet --polls --new --wait --verbose --at --help' ;;
         bundle) words='--config --state --domain --format --wait --verbose --at --help' ;;
         explain) words='--config --state --domain --short --format --wait --verbose --at --help' ;;
         observe) words='--config --state --domain --endpoint --key --wait --verbose --at --help' ;;
         merge) words='--config --state --wait --most-bytes --verbose --at --help' ;;
-        migrate) words='--config --state --to --records-only --verbose --help' ;;
-        reseed) words='--config --state --allow --verbose --help' ;;
+        migrate) words='--config --state --to --records-only --wait --verbose --at --help' ;;
+        reseed) words='--config --state --allow --wait --verbose --at --help' ;;
         polls) words='--config --state --now --format --wait --verbose --at --help' ;;
         distrust) words='--config --state --domain --key --public-key --dry-run --new --wait --verbose --at --help' ;;
         serve) words='--config --state --listen --sessions --verbose --help' ;;
         pull) words='--config --state --peer --wait --most-bytes --verbose --help' ;;
-        replica) words='--config --state --socket --read-socket --listen --health --listen-anywhere --peers --every --peer-quiet --expires-within --most-bytes --most-request-bytes --new --verbose --help' ;;
+        replica) words='--config --state --socket --read-socket --listen --health --audit --listen-anywhere --peers --every --peer-quiet --expires-within --most-bytes --most-request-bytes --new --verbose --help' ;;
         stop) words='--wait --verbose --at --help' ;;
         help) words='canon config new report list diff graph status bundle explain observe merge migrate reseed polls distrust serve pull replica stop help' ;;
         *) return ;;

@@ -37,7 +37,7 @@ def answer(line):
     if name == "status":
         found = shown(client.status())
         return {**found, "warnings": [without_none(one) for one in found["warnings"]]}
-    if name in ("list", "list_keys", "graph"):
+    if name in ("list", "list_keys", "graph", "reseed"):
         return renamed(shown(getattr(client, name)(texts[0] or None)))
     if name == "parsed":
         return shown(parse_bundle(texts[0], client.bundle(texts[0])))
@@ -48,7 +48,7 @@ def answer(line):
         return client.merge(data, most_bytes=line["Number"])
     if name == "ask":
         return shown(client.ask(texts, data))
-    given = [*texts, data] if name in ("explain", "explain_short", "observe", "merge") else texts
+    given = [*texts, data] if name in ("explain", "explain_short", "observe", "merge", "migrate", "migrate_records", "diff") else texts
     return shown(getattr(client, name)(*given))
 
 

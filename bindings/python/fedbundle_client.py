@@ -97,6 +97,14 @@ class Reply:
 
 
 @dataclass(frozen=True)
+class Migrated:
+    """What goes along to another configuration: a snapshot, and a line for each receipt and each record that is left out."""
+
+    snapshot: bytes
+    left_out: List[str]
+
+
+@dataclass(frozen=True)
 class KeyStatus:
     """How a key of a current bundle stands: its id, and whether it is distrusted in the domain of the bundle."""
 
@@ -225,7 +233,10 @@ class Held:
 class KnownKey:
     """What is known of an X.509 key: the SHA-256 of its public key, and the Unix seconds between which its certificate is
     valid, which are None if the certificate is not read; whether it is distrusted in the domain; whether a distrusted key
-    of the domain has the same public key; and the document ids of the accepted bundles that list it."""
+    of the domain has the same public key; and the document ids of the accepted bundles that list it. `valid_from` and
+    `valid_until` are the same times in UTC, such as "2027-01-31T23:59:59Z", and `subject` is the certificate's subject as
+    RFC 4514 writes it, printable ASCII; empty if the subject is. These three are None if they are not read, and of a
+    program before 0.7.0."""
 
     key: str
     domain: str
@@ -235,6 +246,9 @@ class KnownKey:
     distrusted: bool
     same_public_key: bool
     bundles: Tuple[str, ...]
+    valid_from: Optional[str] = None
+    valid_until: Optional[str] = None
+    subject: Optional[str] = None
 
 
 @dataclass(frozen=True)
@@ -339,6 +353,32 @@ class Client:
         """Which bundle vouches for which, for Graphviz, or only the receipts of one trust domain."""
         return self._output(_optional(domain, "graph"), timeout=timeout)
 
+    def config(self, *, timeout: Optional[float] = None) -> bytes:
+        """What the replica's configuration says, as the command prints it. It needs a replica of fedbundle 0.7.0, as
+        snapshot, migrate, migrate_records, reseed and diff do: an earlier one refuses it with USAGE."""
+        return self._output(["config"], timeout=timeout)
+
+    def snapshot(self, *, timeout: Optional[float] = None) -> bytes:
+        """All that the replica holds, as merge takes it."""
+        return self._output(["migrate"], timeout=timeout)
+
+    def migrate(self, config: bytes, *, timeout: Optional[float] = None) -> Migrated:
+        """What goes along to another configuration."""
+        return self._migrated(["migrate", "--to=-"], config, timeout)
+
+    def migrate_records(self, config: bytes, *, timeout: Optional[float] = None) -> Migrated:
+        """The same with the records of distrust, and no receipt."""
+        return self._migrated(["migrate", "--to=-", "--records-only"], config, timeout)
+
+    def reseed(self, allowed: Optional[str] = None, *, timeout: Optional[float] = None) -> bytes:
+        """A configuration whose seeds are the current bundles, also that of the allowed domain. If a domain is refused, the
+        text of the error has its line."""
+        return self._output(["reseed"] if allowed is None else ["reseed", f"--allow={allowed}"], timeout=timeout)
+
+    def diff(self, snapshot: bytes, *, timeout: Optional[float] = None) -> List[str]:
+        """What only the replica holds, each line after "- ", and what only the snapshot holds, each after "+ "."""
+        return _lines(self._shown(["diff", "--with=-"], snapshot, timeout).output)
+
     def bundle(self, domain: str, *, timeout: Optional[float] = None) -> bytes:
         """The current bundle of a trust domain: its canonical JSON, without a line feed. parse_bundle reads it. The code
         is NO_BUNDLE if the domain has none."""
@@ -408,10 +448,18 @@ class Client:
 
     def _status_in(self, form: str, timeout: Optional[float]) -> bytes:
         """The status in a format. If it has a warning, the exit status is 1, and it is printed all the same."""
-        reply = self.ask(["status", f"--format={form}"], timeout=timeout)
-        if reply.status > 1 or not reply.output:
+        return self._shown(["status", f"--format={form}"], b"", timeout).output
+
+    def _migrated(self, words: Sequence[str], config: bytes, timeout: Optional[float]) -> Migrated:
+        reply = self._shown(words, config, timeout)
+        return Migrated(reply.output, _lines(reply.errors))
+
+    def _shown(self, words: Sequence[str], data: bytes, timeout: Optional[float]) -> Reply:
+        """The reply to a request, if something was shown, also with the exit status 1, or nothing was to be."""
+        reply = self.ask(words, data, timeout=timeout)
+        if reply.status > 1 or (reply.status == 1 and not reply.output):
             raise _refusal(reply)
-        return reply.output
+        return reply
 
     def _output(self, words: Sequence[str], data: bytes = b"", timeout: Optional[float] = None) -> bytes:
         return self._done(words, data, timeout).output
@@ -837,6 +885,9 @@ def _parse_known(said: _Members) -> KnownKey:
         distrusted=said.flag("distrusted"),
         same_public_key=said.flag("same_public_key"),
         bundles=tuple(said.texts("bundles")),
+        valid_from=said.text_if_any("valid_from"),
+        valid_until=said.text_if_any("valid_until"),
+        subject=said.text_if_any("subject"),
     )
 
 

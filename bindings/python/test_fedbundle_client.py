@@ -259,12 +259,15 @@ class Answers(Case):
         self.assertEqual(client.Held((first, second), (client.Record("k", "b"),)), found)
         key = {"key": "k", "domain": "a", "public_key": "p", "not_before": -1, "not_after": 5, "distrusted": True,
                "same_public_key": False, "bundles": ["d"]}
-        unread = {**key, "public_key": None, "not_before": None, "not_after": None}
-        found = self.replying(replied(json.dumps({"keys": [key, unread]}).encode())).list_keys()
+        unread = {**key, "public_key": None, "not_before": None, "not_after": None, "valid_from": None, "subject": None}
+        named = {**key, "valid_from": "f", "valid_until": "u", "subject": ""}
+        found = self.replying(replied(json.dumps({"keys": [key, unread, named]}).encode())).list_keys()
         self.assertEqual([client.KnownKey("k", "a", "p", -1, 5, True, False, ("d",)),
-                          client.KnownKey("k", "a", None, None, None, True, False, ("d",))], found)
+                          client.KnownKey("k", "a", None, None, None, True, False, ("d",)),
+                          client.KnownKey("k", "a", "p", -1, 5, True, False, ("d",), "f", "u", "")], found)
         for wrong in (b"{}", b"[]", b"x", b'{"receipts":[]}', b'{"keys":null}', b'{"keys":1,"receipts":1}',
-                      json.dumps({"keys": [{**key, "bundles": [1]}]}).encode()):
+                      json.dumps({"keys": [{**key, "bundles": [1]}]}).encode(),
+                      json.dumps({"keys": [{**key, "subject": 1}]}).encode()):
             asked = self.replying(replied(wrong))
             self.fails(client.BAD_REPLY, 3, asked.list)
             self.fails(client.BAD_REPLY, 3, asked.list_keys)

@@ -7,9 +7,11 @@ A line has seven words, in the order of crates and edits:
 - the verdict, with `_` between its words
 - a sum of the words before, so that a line that was changed by hand is found
 """
+import fcntl
 import hashlib
 import os
 import re
+from contextlib import contextmanager
 from dataclasses import dataclass
 from functools import lru_cache
 
@@ -64,6 +66,28 @@ def write(path, lines):
     new = path.with_name(path.name + ".new")
     new.write_text(HEAD + "".join(line.text() + "\n" for _, line in sorted(lines.items())))
     os.replace(new, path)
+
+
+@contextmanager
+def locked(path):
+    """No other run has this lock. It is that of the ledger's folder, so no file is left of it."""
+    folder = os.open(path.parent, os.O_RDONLY)
+    try:
+        fcntl.flock(folder, fcntl.LOCK_EX)
+        yield
+    finally:
+        os.close(folder)
+
+
+def change(path, turn):
+    """Writes what `turn` makes of the lines that the ledger has now, since another run or a merge may have written it meanwhile.
+    Returns its lines then, and what is wrong with it: where something is, it is not written."""
+    with locked(path):
+        lines, faults = read(path)
+        if not faults:
+            lines = turn(lines)
+            write(path, lines)
+    return lines, faults
 
 
 def code_of(path):

@@ -171,12 +171,19 @@ type KnownKey struct {
 	Key string `json:"key"`
 	// Domain is the trust domain.
 	Domain string `json:"domain"`
-	// PublicKey is the SHA-256 of the public key. It and both times are nil if the certificate is not read.
+	// PublicKey is the SHA-256 of the public key. It, the times and the subject are nil if the certificate is not read.
 	PublicKey *string `json:"public_key"`
 	// NotBefore is the Unix second from which the certificate is valid.
 	NotBefore *int64 `json:"not_before"`
 	// NotAfter is the Unix second up to which it is valid.
 	NotAfter *int64 `json:"not_after"`
+	// ValidFrom is NotBefore as a date and a time in UTC, such as "2027-01-31T23:59:59Z"; nil from a program before 0.7.0.
+	ValidFrom *string `json:"valid_from"`
+	// ValidUntil is NotAfter in the same form; nil from a program before 0.7.0.
+	ValidUntil *string `json:"valid_until"`
+	// Subject is the certificate's subject as RFC 4514 writes it, printable ASCII. It is empty if the subject is, and nil if
+	// the subject is not read, or from a program before 0.7.0.
+	Subject *string `json:"subject"`
 	// Distrusted says whether the key is distrusted in the domain.
 	Distrusted bool `json:"distrusted"`
 	// SamePublicKey says whether a key that is distrusted in the domain has the same public key.

@@ -81,6 +81,47 @@ func (c *Client) Graph(ctx context.Context, domain string) ([]byte, error) {
 	return c.output(ctx, nil, optional(domain, "graph")...)
 }
 
+// Config returns what the replica's configuration says, as the command prints it. It needs a replica of fedbundle 0.7.0, as
+// Snapshot, Migrate, Reseed and Diff do: an earlier one refuses it with Usage.
+func (c *Client) Config(ctx context.Context) ([]byte, error) {
+	return c.output(ctx, nil, "config")
+}
+
+// Snapshot returns all that the replica holds, as Merge takes it.
+func (c *Client) Snapshot(ctx context.Context) ([]byte, error) {
+	return c.output(ctx, nil, "migrate")
+}
+
+// Migrate returns the snapshot of what goes along to another configuration, and a line for each receipt and each record that
+// is left out.
+func (c *Client) Migrate(ctx context.Context, config []byte) (snapshot []byte, leftOut []string, err error) {
+	return c.migrate(ctx, config, "migrate", "--to=-")
+}
+
+// MigrateRecords does the same with the records of distrust, and takes no receipt.
+func (c *Client) MigrateRecords(ctx context.Context, config []byte) (snapshot []byte, leftOut []string, err error) {
+	return c.migrate(ctx, config, "migrate", "--to=-", "--records-only")
+}
+
+// Reseed returns a configuration whose seeds are the current bundles, also that of the allowed domain, unless that is
+// empty. If a domain is refused, the text of the error has its line.
+func (c *Client) Reseed(ctx context.Context, allowed string) ([]byte, error) {
+	words := []string{"reseed"}
+	if allowed != "" {
+		words = append(words, option("allow", allowed))
+	}
+	return c.output(ctx, nil, words...)
+}
+
+// Diff returns what only the replica holds, each line after "- ", and what only the snapshot holds, each after "+ ".
+func (c *Client) Diff(ctx context.Context, snapshot []byte) ([]string, error) {
+	reply, err := c.shown(ctx, snapshot, "diff", "--with=-")
+	if err != nil {
+		return nil, err
+	}
+	return lines(reply.Output), nil
+}
+
 // Bundle returns the current bundle of a trust domain: its canonical JSON, without a line feed. ParseBundle reads it.
 // The code is NoBundle if the domain has none.
 func (c *Client) Bundle(ctx context.Context, domain string) ([]byte, error) {
@@ -204,14 +245,31 @@ func (c *Client) Version(ctx context.Context) ([]string, error) {
 
 // statusIn returns the status in a format. If it has a warning, the exit status is 1, and it is printed all the same.
 func (c *Client) statusIn(ctx context.Context, format string) ([]byte, error) {
-	reply, err := c.Ask(ctx, []string{"status", option("format", format)}, nil)
+	reply, err := c.shown(ctx, nil, "status", option("format", format))
 	if err != nil {
 		return nil, err
 	}
-	if reply.Status > 1 || len(reply.Output) == 0 {
+	return reply.Output, nil
+}
+
+func (c *Client) migrate(ctx context.Context, config []byte, words ...string) ([]byte, []string, error) {
+	reply, err := c.shown(ctx, config, words...)
+	if err != nil {
+		return nil, nil, err
+	}
+	return reply.Output, lines(reply.Errors), nil
+}
+
+// shown makes a request, and returns its reply if something was shown, also with the exit status 1, or nothing was to be.
+func (c *Client) shown(ctx context.Context, input []byte, words ...string) (*Reply, error) {
+	reply, err := c.Ask(ctx, words, input)
+	if err != nil {
+		return nil, err
+	}
+	if reply.Status > 1 || reply.Status == 1 && len(reply.Output) == 0 {
 		return nil, refusal(reply)
 	}
-	return reply.Output, nil
+	return reply, nil
 }
 
 // output makes a request, and returns its output if it was not refused.

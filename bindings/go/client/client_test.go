@@ -215,9 +215,10 @@ func TestLists(t *testing.T) {
 	if again, _ := json.Marshal(held); err != nil || string(again) != text {
 		t.Errorf("%v, %s", err, again)
 	}
-	text = `[{"key":"k","domain":"a","public_key":"p","not_before":-1,"not_after":5,"distrusted":true,` +
-		`"same_public_key":true,"bundles":["d"]},{"key":"l","domain":"a","public_key":null,"not_before":null,` +
-		`"not_after":null,"distrusted":false,"same_public_key":false,"bundles":[]}]`
+	text = `[{"key":"k","domain":"a","public_key":"p","not_before":-1,"not_after":5,"valid_from":"f","valid_until":"u",` +
+		`"subject":"","distrusted":true,"same_public_key":true,"bundles":["d"]},{"key":"l","domain":"a","public_key":null,` +
+		`"not_before":null,"not_after":null,"valid_from":null,"valid_until":null,"subject":null,"distrusted":false,` +
+		`"same_public_key":false,"bundles":[]}]`
 	known, err := replying(t, replied(`{"keys":`+text+"}\n", "", 0)).ListKeys(ctx, "")
 	if again, _ := json.Marshal(known); err != nil || string(again) != text {
 		t.Errorf("%v, %s", err, again)

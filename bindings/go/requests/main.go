@@ -48,7 +48,21 @@ var calls = map[string]call{
 	"list_keys": func(ctx context.Context, c *client.Client, l *line) (any, error) {
 		return c.ListKeys(ctx, l.Texts[0])
 	},
-	"graph": func(ctx context.Context, c *client.Client, l *line) (any, error) { return c.Graph(ctx, l.Texts[0]) },
+	"graph":    func(ctx context.Context, c *client.Client, l *line) (any, error) { return c.Graph(ctx, l.Texts[0]) },
+	"config":   func(ctx context.Context, c *client.Client, l *line) (any, error) { return c.Config(ctx) },
+	"snapshot": func(ctx context.Context, c *client.Client, l *line) (any, error) { return c.Snapshot(ctx) },
+	"migrate": func(ctx context.Context, c *client.Client, l *line) (any, error) {
+		snapshot, leftOut, err := c.Migrate(ctx, l.Input)
+		return map[string]any{"snapshot": snapshot, "left_out": leftOut}, err
+	},
+	"migrate_records": func(ctx context.Context, c *client.Client, l *line) (any, error) {
+		snapshot, leftOut, err := c.MigrateRecords(ctx, l.Input)
+		return map[string]any{"snapshot": snapshot, "left_out": leftOut}, err
+	},
+	"reseed": func(ctx context.Context, c *client.Client, l *line) (any, error) {
+		return c.Reseed(ctx, l.Texts[0])
+	},
+	"diff": func(ctx context.Context, c *client.Client, l *line) (any, error) { return c.Diff(ctx, l.Input) },
 	"bundle": func(ctx context.Context, c *client.Client, l *line) (any, error) {
 		return c.Bundle(ctx, l.Texts[0])
 	},

@@ -49,16 +49,16 @@ eight_parts : (v s g i d n k more bytes r0 r1 r2 r3 r4 r5 : List ℕ)
     → bytes ≡ v ++ (s ++ (g ++ (i ++ (d ++ (n ++ (k ++ more))))))
 eight_parts v s g i d n k more bytes r0 r1 r2 r3 r4 r5 h0 h1 h2 h3 h4 h5 h6 = cc
 
-abbrev pub told_parts : List ℕ → List ℕ → ℤ × ℤ → Parts
-told_parts public_key subject times =
+abbrev pub parts_with : List ℕ → List ℕ → ℤ × ℤ → Parts
+parts_with public_key subject times =
     record { public_key = public_key; subject = subject; not_before = times.0; not_after = times.1 }
 
 same_parts : (p : Parts) (key subject key_text subject_text : List ℕ) (z times : ℤ × ℤ)
-    → some_of (told_parts key subject z) ≡ some_of p → key ≡ key_text → subject ≡ subject_text → z ≡ times
-    → p ≡ told_parts key_text subject_text times
+    → some_of (parts_with key subject z) ≡ some_of p → key ≡ key_text → subject ≡ subject_text → z ≡ times
+    → p ≡ parts_with key_text subject_text times
 same_parts p key subject key_text subject_text z times e h k l =
-    sym (same_some (told_parts key subject z) p e) ∙ ap (λ (x : List ℕ). told_parts x subject z) h
-    ∙ ap (λ (x : List ℕ). told_parts key_text x z) k ∙ ap (λ (x : ℤ × ℤ). told_parts key_text subject_text x) l
+    sym (same_some (parts_with key subject z) p e) ∙ ap (λ (x : List ℕ). parts_with x subject z) h
+    ∙ ap (λ (x : List ℕ). parts_with key_text x z) k ∙ ap (λ (x : ℤ × ℤ). parts_with key_text subject_text x) l
 
 -- a certificate whose fields these are
 pub record FieldsTake (bytes signed : List ℕ) (p : Parts) (c : Certificate) : Type 0 where
@@ -75,20 +75,20 @@ fields_take bytes signed p fits e =
     let s = bind_some (field_at 2 (after_version bytes)) (λ serial_number. field_at 48 serial_number.after
     >>= λ signature. field_at 48 signature.after >>= λ issuer. field_at 48 issuer.after >>= λ validity. times_at validity.content
     >>= λ times. field_at 48 validity.after >>= λ subject. field_at 48 subject.after
-    >>= λ public_key. Some (told_parts public_key.whole subject.whole times)) p e in
+    >>= λ public_key. Some (parts_with public_key.whole subject.whole times)) p e in
     let g = bind_some (field_at 48 s.0.after) (λ signature. field_at 48 signature.after >>= λ issuer. field_at 48 issuer.after
     >>= λ validity. times_at validity.content >>= λ times. field_at 48 validity.after >>= λ subject. field_at 48 subject.after
-    >>= λ public_key. Some (told_parts public_key.whole subject.whole times)) p s.2 in
+    >>= λ public_key. Some (parts_with public_key.whole subject.whole times)) p s.2 in
     let i = bind_some (field_at 48 g.0.after) (λ issuer. field_at 48 issuer.after >>= λ validity. times_at validity.content
     >>= λ times. field_at 48 validity.after >>= λ subject. field_at 48 subject.after
-    >>= λ public_key. Some (told_parts public_key.whole subject.whole times)) p g.2 in
+    >>= λ public_key. Some (parts_with public_key.whole subject.whole times)) p g.2 in
     let d = bind_some (field_at 48 i.0.after) (λ validity. times_at validity.content >>= λ times. field_at 48 validity.after
-    >>= λ subject. field_at 48 subject.after >>= λ public_key. Some (told_parts public_key.whole subject.whole times)) p i.2 in
+    >>= λ subject. field_at 48 subject.after >>= λ public_key. Some (parts_with public_key.whole subject.whole times)) p i.2 in
     let z = bind_some (times_at d.0.content) (λ times. field_at 48 d.0.after >>= λ subject. field_at 48 subject.after
-    >>= λ public_key. Some (told_parts public_key.whole subject.whole times)) p d.2 in
+    >>= λ public_key. Some (parts_with public_key.whole subject.whole times)) p d.2 in
     let n = bind_some (field_at 48 d.0.after) (λ subject. field_at 48 subject.after
-    >>= λ public_key. Some (told_parts public_key.whole subject.whole z.0)) p z.2 in
-    let k = bind_some (field_at 48 n.0.after) (λ public_key. Some (told_parts public_key.whole n.0.whole z.0)) p n.2 in
+    >>= λ public_key. Some (parts_with public_key.whole subject.whole z.0)) p z.2 in
+    let k = bind_some (field_at 48 n.0.after) (λ public_key. Some (parts_with public_key.whole n.0.whole z.0)) p n.2 in
     let tv = version_takes bytes fits in
     let ts = field_takes 2 (after_version bytes) s.0 tv.1.fits s.1 in
     let tg = field_takes 48 s.0.after g.0 ts.after_fits g.1 in

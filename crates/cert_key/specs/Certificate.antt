@@ -40,7 +40,7 @@ pub record IsSpelled (c : Certificate) (bytes : List ℕ) : Type 0 where
   pub not_before : IsTime c.not_before
   pub not_after : IsTime c.not_after
 
--- what is told of it
+-- what is returned of it
 pub record Parts : Type 0 where
   pub public_key : List ℕ
   pub subject : List ℕ

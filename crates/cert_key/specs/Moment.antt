@@ -1,6 +1,6 @@
 -- Times of certificates (RFC 5280, section 4.1.2.5)
 use Rattle.std.specs.Prelude.{◌≡◌, ℕ, ◌+◌, ◌*◌, ◌/◌, ◌%◌, ◌≤◌, Bool, true, ◌&&◌, List, [], ◌∷◌}
-use Rattle.std.specs.Prelude.{◌++◌, nat_le, nat_lt, ℤ, pos, ◌+ℤ◌, ◌*ℤ◌}
+use Rattle.std.specs.Prelude.{◌++◌, codes, nat_le, nat_lt, ℤ, pos, ◌+ℤ◌, ◌*ℤ◌}
 use Rattle.jiff_core.specs.Calendar.{days_from_civil, days_in_month}
 use Rattle.cert_key.specs.Der.{element}
 
@@ -55,3 +55,22 @@ abbrev pub time : Time → List ℕ
 time (Utc m) = element 23 (digits (m.year % 100) ++ after_year m)
 time (Generalized m) =
     element 24 (digits (m.year / 100) ++ (digits (m.year % 100) ++ after_year m))
+
+-- the moment of so many seconds since 1970-01-01T00:00:00Z, in a year from 0 to 9999
+pub record IsMomentOf (seconds : ℤ) (m : Moment) : Type 0 where
+  pub year : m.year ≤ 9999
+  pub real : is_real m ≡ true
+  pub is : unix_seconds m ≡ seconds
+
+abbrev pub date_text : Moment → List ℕ
+date_text m =
+    digits (m.year / 100) ++ (digits (m.year % 100) ++ (codes "-" ++ (digits m.month
+    ++ (codes "-" ++ digits m.day))))
+
+abbrev pub clock_text : Moment → List ℕ
+clock_text m =
+    digits m.hour ++ (codes ":" ++ (digits m.minute ++ (codes ":" ++ digits m.second)))
+
+-- a moment in UTC (RFC 3339, section 5.6): YYYY-MM-DDTHH:MM:SSZ
+unfoldable pub moment_text : Moment → List ℕ
+moment_text m = date_text m ++ (codes "T" ++ (clock_text m ++ codes "Z"))

@@ -22,12 +22,12 @@ const GENERALIZED_TIME: u8 = 24;
 /// What a calendar and a clock show, or could not.
 #[derive(Clone, Copy, Debug)]
 pub(crate) struct Clock {
-    year: u16,
-    month: u8,
-    day: u8,
-    hour: u8,
-    minute: u8,
-    second: u8,
+    pub(crate) year: u16,
+    pub(crate) month: u8,
+    pub(crate) day: u8,
+    pub(crate) hour: u8,
+    pub(crate) minute: u8,
+    pub(crate) second: u8,
 }
 
 /// The two times of a validity and nothing else, in seconds since the Unix epoch.

@@ -6,6 +6,7 @@ use command_streams::{options, quoted, say, shown, words_of};
 use fault_view::{Flaw, FlawPlace, FoundFlaw, UrlFlaw, find_flaw, is_ignored, json_fault};
 use fed_config::{Config, ConfigError};
 use fedbundle::{Call, CommandError, OptionName, given};
+use progress_line::ProgressMode;
 use replica_core::SyncError;
 use serde_json::Value;
 use state_files::{journal_path, load_state};
@@ -253,7 +254,13 @@ pub(crate) fn say_state(
 }
 
 fn is_refused_so(rt: &HostRuntime, config: &Config, path: &str, error: &CommandError) -> bool {
-    let loaded: Result<IndexedClosure, CommandError> = load_state(rt, rt.alloc(), config, path);
+    let loaded: Result<IndexedClosure, CommandError> = load_state(
+        rt,
+        rt.alloc(),
+        config,
+        path,
+        ProgressMode::Silent,
+    );
     match loaded {
         Ok(_) => false,
         Err(found) => found == *error,

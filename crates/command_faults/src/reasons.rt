@@ -67,6 +67,12 @@ fn say_why(rt: &HostRuntime, call: &Call<'_>, exit: &Exit) -> Result<(), AllocEr
             "is that of no key that is known in the domain",
         ),
         Exit::Locked => say_lock(rt, call, "another command has it"),
+        Exit::ReplicaRuns if given(call, OptionName::At).is_some() => say_option(
+            rt,
+            call,
+            OptionName::With,
+            "has a journal: the socket of its replica is to be named",
+        ),
         Exit::ReplicaRuns => say_lock(rt, call, "a replica has it: --at asks that"),
         Exit::SocketTaken => say_option(
             rt,
@@ -77,7 +83,7 @@ fn say_why(rt: &HostRuntime, call: &Call<'_>, exit: &Exit) -> Result<(), AllocEr
         Exit::NoState => say_option(
             rt,
             call,
-            OptionName::State,
+            missing_option(call),
             "is not there: `new` writes one that holds nothing",
         ),
         Exit::StateExists => say_option(rt, call, OptionName::State, "is there, or its journal is"),
@@ -93,6 +99,14 @@ fn say_why(rt: &HostRuntime, call: &Call<'_>, exit: &Exit) -> Result<(), AllocEr
         Exit::System(fault) => say_system(rt, call, fault),
         Exit::Refused(error) => say_refusal(rt, call, error),
         Exit::Usage => say_keys(rt, call),
+    }
+}
+
+// The option that names a state: with `--at` it is the other side of `diff`.
+fn missing_option(call: &Call<'_>) -> OptionName {
+    match given(call, OptionName::At) {
+        Some(_) => OptionName::With,
+        None => OptionName::State,
     }
 }
 
@@ -205,12 +219,14 @@ fn say_system(rt: &HostRuntime, call: &Call<'_>, fault: &SystemFault) -> Result<
     let state = shown(rt.alloc(), state_path(call))?;
     let listen = listen_addresses(rt.alloc(), call)?;
     let peer = shown(rt.alloc(), given(call, OptionName::Peer).unwrap_or(""))?;
+    let audit = shown(rt.alloc(), given(call, OptionName::Audit).unwrap_or(""))?;
     let socket = shown(rt.alloc(), socket_path(call))?;
     let line = match fault.step {
         Step::Lock => format!(in rt.alloc(); "lock {state}.lock: {words}")?,
         Step::See => format!(in rt.alloc(); "state {state}: {words}")?,
         Step::Save => format!(in rt.alloc(); "write {state}.new, and rename it: {words}")?,
         Step::Journal => format!(in rt.alloc(); "write {state}.journal: {words}")?,
+        Step::Audit => format!(in rt.alloc(); "write {audit}: {words}")?,
         Step::Socket => format!(in rt.alloc(); "socket {socket}: {words}")?,
         Step::Listen => format!(in rt.alloc(); "listen {listen}: {words}")?,
         Step::Accept => format!(in rt.alloc(); "accept at {listen}: {words}")?,

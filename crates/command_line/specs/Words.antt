@@ -32,7 +32,7 @@ use Rattle.command_line.specs.declared.command_name.OptionName.TheVariants.{List
 use Rattle.command_line.specs.declared.command_name.OptionName.TheVariants.{Keys, OptionalKey}
 use Rattle.command_line.specs.declared.command_name.OptionName.TheVariants.{PublicKey, Polls}
 use Rattle.command_line.specs.declared.command_name.OptionName.TheVariants.{OptionalNow, Health}
-use Rattle.command_line.specs.declared.command_name.OptionName.TheVariants.{ExpiresWithin}
+use Rattle.command_line.specs.declared.command_name.OptionName.TheVariants.{ExpiresWithin, Audit}
 use Rattle.command_line.specs.declared.command_name.OptionName.TheVariants.{PeerQuiet}
 
 abbrev pub option_text : OptionName → List ℕ
@@ -75,6 +75,7 @@ option_text ExpiresWithin = codes "expires-within"
 option_text PeerQuiet = codes "peer-quiet"
 option_text Polls = codes "polls"
 option_text Health = codes "health"
+option_text Audit = codes "audit"
 
 -- it has no text after it
 abbrev pub is_flag : OptionName → Bool
@@ -89,6 +90,7 @@ is_flag option = false
 
 -- the words may leave it out
 abbrev pub may_be_left_out : OptionName → Bool
+may_be_left_out To = true
 may_be_left_out OptionalState = true
 may_be_left_out OptionalDomain = true
 may_be_left_out With = true
@@ -110,6 +112,7 @@ may_be_left_out ExpiresWithin = true
 may_be_left_out PeerQuiet = true
 may_be_left_out Polls = true
 may_be_left_out Health = true
+may_be_left_out Audit = true
 may_be_left_out option = false
 
 -- it names a file that a running replica has itself, or it is the format of a command that no such
@@ -145,12 +148,12 @@ name_text command.Stop = codes "stop"
 
 abbrev pub options_of : CommandName → List OptionName
 options_of command.Canon = Domain ∷ FileFormat ∷ Verbose ∷ []
-options_of command.Config = Config ∷ With ∷ FileFormat ∷ Verbose ∷ []
+options_of command.Config = Config ∷ With ∷ Format ∷ Wait ∷ Verbose ∷ At ∷ []
 options_of command.New = Config ∷ State ∷ Wait ∷ Verbose ∷ []
 options_of command.Report = Config ∷ OptionalState ∷ Format ∷ New ∷ Wait ∷ Verbose ∷ At ∷ []
 options_of command.List = Config ∷ State ∷ OptionalDomain ∷ Keys ∷ Format ∷ New ∷ Wait
     ∷ Verbose ∷ At ∷ []
-options_of command.Diff = Config ∷ State ∷ With ∷ New ∷ Verbose ∷ []
+options_of command.Diff = Config ∷ State ∷ With ∷ New ∷ Wait ∷ Verbose ∷ At ∷ []
 options_of command.Graph = Config ∷ State ∷ OptionalDomain ∷ New ∷ Wait ∷ Verbose ∷ At ∷ []
 options_of command.Status = Config ∷ State ∷ Format ∷ OptionalNow ∷ ExpiresWithin ∷ PeerQuiet
     ∷ Polls ∷ New ∷ Wait ∷ Verbose ∷ At ∷ []
@@ -160,16 +163,16 @@ options_of command.Explain = Config ∷ State ∷ Domain ∷ Short ∷ Format �
 options_of command.Observe = Config ∷ State ∷ Domain ∷ Endpoint ∷ Key ∷ Wait ∷ Verbose
     ∷ At ∷ []
 options_of command.Merge = Config ∷ State ∷ Wait ∷ MostBytes ∷ Verbose ∷ At ∷ []
-options_of command.Migrate = Config ∷ State ∷ To ∷ RecordsOnly ∷ Verbose ∷ []
-options_of command.Reseed = Config ∷ State ∷ Allow ∷ Verbose ∷ []
+options_of command.Migrate = Config ∷ State ∷ To ∷ RecordsOnly ∷ Wait ∷ Verbose ∷ At ∷ []
+options_of command.Reseed = Config ∷ State ∷ Allow ∷ Wait ∷ Verbose ∷ At ∷ []
 options_of command.Polls = Config ∷ State ∷ Now ∷ Format ∷ Wait ∷ Verbose ∷ At ∷ []
 options_of command.Distrust = Config ∷ State ∷ Domain ∷ OptionalKey ∷ PublicKey ∷ DryRun ∷ New
     ∷ Wait ∷ Verbose ∷ At ∷ []
 options_of command.Serve = Config ∷ State ∷ Listen ∷ Sessions ∷ Verbose ∷ []
 options_of command.Pull = Config ∷ State ∷ Peer ∷ Wait ∷ MostBytes ∷ Verbose ∷ []
 options_of command.Replica = Config ∷ State ∷ Socket ∷ ReadSocket ∷ OptionalListen ∷ Health
-    ∷ ListenAnywhere ∷ Peers ∷ Every ∷ PeerQuiet ∷ ExpiresWithin ∷ MostBytes ∷ MostRequestBytes
-    ∷ New ∷ Verbose ∷ []
+    ∷ Audit ∷ ListenAnywhere ∷ Peers ∷ Every ∷ PeerQuiet ∷ ExpiresWithin ∷ MostBytes
+    ∷ MostRequestBytes ∷ New ∷ Verbose ∷ []
 options_of command.Stop = Wait ∷ Verbose ∷ At ∷ []
 
 abbrev pub all_names : List CommandName

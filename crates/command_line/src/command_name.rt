@@ -53,6 +53,7 @@ pub enum OptionName {
     PeerQuiet,
     Polls,
     Health,
+    Audit,
 }
 
 /// A subcommand.
@@ -169,6 +170,7 @@ impl OptionName {
             OptionName::PeerQuiet => "peer-quiet",
             OptionName::Polls => "polls",
             OptionName::Health => "health",
+            OptionName::Audit => "audit",
         }
     }
 
@@ -194,7 +196,8 @@ impl OptionName {
     {
         matches!(
             self,
-            OptionName::OptionalState
+            OptionName::To
+                | OptionName::OptionalState
                 | OptionName::OptionalDomain
                 | OptionName::With
                 | OptionName::At
@@ -215,6 +218,7 @@ impl OptionName {
                 | OptionName::PeerQuiet
                 | OptionName::Polls
                 | OptionName::Health
+                | OptionName::Audit
         )
     }
 
@@ -239,11 +243,13 @@ static CANON: [OptionName; 3] = [
     OptionName::Verbose,
 ];
 
-static CONFIG: [OptionName; 4] = [
+static CONFIG: [OptionName; 6] = [
     OptionName::Config,
     OptionName::With,
-    OptionName::FileFormat,
+    OptionName::Format,
+    OptionName::Wait,
     OptionName::Verbose,
+    OptionName::At,
 ];
 
 static NEW: [OptionName; 4] = [
@@ -285,12 +291,14 @@ static GRAPH: [OptionName; 7] = [
     OptionName::At,
 ];
 
-static DIFF: [OptionName; 5] = [
+static DIFF: [OptionName; 7] = [
     OptionName::Config,
     OptionName::State,
     OptionName::With,
     OptionName::New,
+    OptionName::Wait,
     OptionName::Verbose,
+    OptionName::At,
 ];
 
 static STATUS: [OptionName; 11] = [
@@ -348,19 +356,23 @@ static MERGE: [OptionName; 6] = [
     OptionName::At,
 ];
 
-static MIGRATE: [OptionName; 5] = [
+static MIGRATE: [OptionName; 7] = [
     OptionName::Config,
     OptionName::State,
     OptionName::To,
     OptionName::RecordsOnly,
+    OptionName::Wait,
     OptionName::Verbose,
+    OptionName::At,
 ];
 
-static RESEED: [OptionName; 4] = [
+static RESEED: [OptionName; 6] = [
     OptionName::Config,
     OptionName::State,
     OptionName::Allow,
+    OptionName::Wait,
     OptionName::Verbose,
+    OptionName::At,
 ];
 
 static POLLS: [OptionName; 7] = [
@@ -403,13 +415,14 @@ static PULL: [OptionName; 6] = [
     OptionName::Verbose,
 ];
 
-static REPLICA: [OptionName; 15] = [
+static REPLICA: [OptionName; 16] = [
     OptionName::Config,
     OptionName::State,
     OptionName::Socket,
     OptionName::ReadSocket,
     OptionName::OptionalListen,
     OptionName::Health,
+    OptionName::Audit,
     OptionName::ListenAnywhere,
     OptionName::Peers,
     OptionName::Every,

@@ -40,7 +40,8 @@ Ends with 0; with 1 if the document or the name of the domain is refused, and th
 is printed; with 2 if the format is neither text nor json.";
 
 const CONFIG_NOTES: &str = "\
-Reads the configuration, and with --with another one, and nothing from standard input.
+Reads the configuration, or with --at asks a running replica for its own; with --with
+another one, too; and nothing from standard input.
 
 Writes to standard output a line `config` with the configuration's digest, and then its
 relationships, its trust domains and its seeds, a line each; with --with the lines that
@@ -76,8 +77,8 @@ held and how many of them are pending, and for each domain its current document,
 accepted documents, their conflicts and the keys that are distrusted there. Writes to
 standard error the number of each line that is not taken, and why. It writes no file.
 
---format json needs --state or --at, and prints one object: `config`, `receipts`,
-`pending`, `domains` with `current` and `accepted`, `conflicts`, and `records`.
+--format json prints one object: `config`, `receipts`, `pending`, `domains` with `current`
+and `accepted`, `conflicts`, and `records`.
 
 Ends with 0; with 1 if a line was not taken, and the report is printed all the same; with
 1 and no report if the configuration or the state is refused or too many receipts fit;
@@ -98,12 +99,15 @@ file.
 
 --keys prints what is known of each key instead: a line for each X.509 authority that an
 accepted document lists, and then for those that only other documents of receipts list:
-  key <key id> domain <domain> public-key <digest> from <seconds> to <seconds>
+  key <key id> domain <domain> public-key <digest> from <time> to <time>
     distrusted <yes or no> same-public-key <yes or no> bundles <document id>..
-The digest is the SHA-256 of the public key in the certificate, and it is valid from and to
-these Unix seconds; they are `none` if the certificate cannot be read. `same-public-key` is
-`yes` for a key that accepted documents list and that is not distrusted, if a distrusted
-key of the domain has its public key. The bundles are the accepted documents that list it.
+    subject <subject>
+The digest is the SHA-256 of the public key in the certificate, which is valid from and to
+these times, in UTC as 2027-01-31T23:59:59Z. The subject is written as RFC 4514 says, or
+is `empty`. They are `none` if the certificate cannot be read, and the subject also if
+only it cannot. `same-public-key` is `yes` for a key that accepted documents list and that is
+not distrusted, if a distrusted key of the domain has its public key. The bundles are the
+accepted documents that list it.
 
 --format json prints one object of `receipts` and `records`, whose members are named as
 above; with --keys one object of `keys`.
@@ -114,7 +118,8 @@ refused; with 2 if the format is neither text nor json.";
 const DIFF_NOTES: &str = "\
 Reads the configuration, the state file, and with --with another state file under the
 same configuration, and nothing from standard input. A missing state is refused without
---new.
+--new. With --at a running replica is the first, and --with names a state file without a
+journal, or the socket of another running replica.
 
 Writes to standard output the line that `list` prints of each receipt and each record of
 distrust that the first state holds and the other does not, after `- `, and then of each
@@ -225,11 +230,15 @@ nothing is taken, and the state file is as it was.";
 
 const MIGRATE_NOTES: &str = "\
 Reads the configuration, the state file, and the other configuration of --to, and nothing
-from standard input. A missing state is refused.
+from standard input. A missing state is refused. With --at a running replica has the
+first two.
 
 Writes to standard output the state file under the other configuration: the receipts that
 fit it, and the records of distrust whose domain it has; with --records-only only the
-records. Writes to standard error a line for each record and each receipt that is left out,
+records. Without --to it stays under the same configuration, and the output is a snapshot
+of what is held, as `merge` reads one.
+
+Writes to standard error a line for each record and each receipt that is left out,
 `left out record <key id> of <domain>: <cause>` or `left out receipt <receipt id> of
 <domain>: <cause>`. It writes no file. Replicas that held the same print the same.
 
@@ -237,8 +246,8 @@ Ends with 0; with 1 if something was left out, and the rest is printed; with 1 a
 printed if anything read is refused.";
 
 const RESEED_NOTES: &str = "\
-Reads the configuration and the state file, and nothing from standard input. A missing
-state is refused.
+Reads the configuration and the state file, or with --at asks a running replica; nothing
+from standard input. A missing state is refused.
 
 Writes to standard output the configuration with the same relationships, whose seeds are
 the current bundles. It writes no file. `migrate --records-only` carries over the records
@@ -416,6 +425,7 @@ impl OptionName {
             OptionName::PeerQuiet => "SECONDS",
             OptionName::Polls => "FILE",
             OptionName::Health => "ADDRESS",
+            OptionName::Audit => "PATH",
         }
     }
 
@@ -435,11 +445,13 @@ impl OptionName {
             OptionName::Sessions => "How many sessions to serve, from 1 to 1000000",
             OptionName::Peer =>
                 "The address at which the other replica serves: an IP address and a port",
-            OptionName::To => "The other configuration, as JSON with the same limits",
+            OptionName::To =>
+                "The other configuration, as JSON with the same limits [the same one]",
             OptionName::RecordsOnly => "Takes only the records of distrust, and no receipt",
             OptionName::OptionalState => "The state file, in place of standard input",
             OptionName::OptionalDomain => "The one trust domain whose lines are printed",
-            OptionName::With => "What to compare with: a file of the same kind",
+            OptionName::With =>
+                "What to compare with: a file of the same kind; `diff --at` takes a socket, too",
             OptionName::At => "The socket of a running replica, in place of the two files",
             OptionName::Wait =>
                 "How long to wait for the state's lock, or for a running replica's reply, from 0 \
@@ -479,6 +491,8 @@ impl OptionName {
             OptionName::PeerQuiet =>
                 "How long a peer may be quiet, from 0 to 31536000 seconds [600]",
             OptionName::Polls => "The polls so far, as `polls` reads them",
+            OptionName::Audit =>
+                "The path of a file to which a line of JSON is appended for each change",
             OptionName::Health =>
                 "The address of health, metrics and a page: an IP address and a port",
         }
@@ -533,7 +547,10 @@ impl CommandName {
             CommandName::Canon =>
                 "fedbundle canon --domain <DOMAIN> [--format <FORMAT>] [--verbose]",
             CommandName::Config => {
-                "fedbundle config --config <FILE> [--with <FILE>] [--format <FORMAT>] [--verbose]"
+                "fedbundle config --config <FILE> [--with <FILE>] [--format <FORMAT>] \
+                [--verbose]\n       \
+                fedbundle config --at <PATH> [--with <FILE>] [--format <FORMAT>] \
+                [--wait <SECONDS>] [--verbose]"
             }
             CommandName::New => {
                 "fedbundle new --config <FILE> --state <FILE> [--wait <SECONDS>] [--verbose]"
@@ -550,7 +567,9 @@ impl CommandName {
                 [--wait <SECONDS>] [--verbose]"
             }
             CommandName::Diff => {
-                "fedbundle diff --config <FILE> --state <FILE> --with <FILE> [--new] [--verbose]"
+                "fedbundle diff --config <FILE> --state <FILE> --with <FILE> [--new] \
+                [--verbose]\n       \
+                fedbundle diff --at <PATH> --with <FILE> [--wait <SECONDS>] [--verbose]"
             }
             CommandName::Graph => {
                 "fedbundle graph --config <FILE> --state <FILE> [--domain <DOMAIN>] [--new] \
@@ -589,11 +608,15 @@ impl CommandName {
                 fedbundle merge --at <PATH> [--wait <SECONDS>] [--most-bytes <BYTES>] [--verbose]"
             }
             CommandName::Migrate => {
-                "fedbundle migrate --config <FILE> --state <FILE> --to <FILE> [--records-only] \
-                [--verbose]"
+                "fedbundle migrate --config <FILE> --state <FILE> [--to <FILE>] \
+                [--records-only] [--verbose]\n       \
+                fedbundle migrate --at <PATH> [--to <FILE>] [--records-only] \
+                [--wait <SECONDS>] [--verbose]"
             }
             CommandName::Reseed => {
-                "fedbundle reseed --config <FILE> --state <FILE> [--allow <DOMAIN>] [--verbose]"
+                "fedbundle reseed --config <FILE> --state <FILE> [--allow <DOMAIN>] \
+                [--verbose]\n       \
+                fedbundle reseed --at <PATH> [--allow <DOMAIN>] [--wait <SECONDS>] [--verbose]"
             }
             CommandName::Polls => {
                 "fedbundle polls --config <FILE> --state <FILE> --now <SECONDS> \
@@ -620,7 +643,7 @@ impl CommandName {
             CommandName::Replica => {
                 "fedbundle replica --config <FILE> --state <FILE> --socket <PATH> \
                 [--read-socket <PATH>] [--listen <ADDRESS>] [--health <ADDRESS>] \
-                [--listen-anywhere] [--peers <ADDRESS,..>] [--every <SECONDS>] \
+                [--audit <PATH>] [--listen-anywhere] [--peers <ADDRESS,..>] [--every <SECONDS>] \
                 [--peer-quiet <SECONDS>] [--expires-within <DAYS>] \
                 [--most-bytes <BYTES>] [--most-request-bytes <BYTES>] [--new] [--verbose]"
             }

@@ -3,7 +3,9 @@
 //!
 //! A file's name is the name of a text; where no text has the name, the file is not there.
 use crate::devices::{AMPLE_ROOM, Devices};
-use crate::shown_forms::{canon, explain, graph_held, list_held, polls, print_config, report_held};
+use crate::shown_forms::{
+    canon, domain_of, explain, graph_held, list_held, polls, print_config, report_held, usage,
+};
 use crate::words::split_words;
 use bundle_view::Verdict;
 use byte_lines::{FromRead, MemSink, write_all};
@@ -11,16 +13,17 @@ use closure_core::Closure;
 use config_view::write_config_difference;
 use fed_config::Config;
 use fedbundle::{
-    Call, CommandError, CommandName, RunError, WordsError, read_sessions, read_status_format,
-    read_words, run_bundle, run_bundle_pem, run_distrust, run_merge, run_migrate, run_observe,
-    run_pull, run_report, run_report_with, run_serve, show_distrust, status, write_fault,
-    write_served,
+    Call, CommandError, CommandName, OutputForm, RunError, WordsError, is_flag_given,
+    read_output_form, read_sessions, read_status_format, read_words, run_bundle, run_bundle_pem,
+    run_distrust, run_merge, run_migrate, run_observe, run_pull, run_report, run_report_into,
+    run_report_with, run_serve, show_distrust, status, write_fault, write_served,
 };
 use jwk_set::KeyId;
 use migration::Choice;
 use receipt_core::Distrust;
 use replica_sync::{read_snapshot, write_snapshot};
 use replica_view::write_held_difference;
+use reseeding::{Reseeded, reseed};
 use row_script::Script;
 use spiffe_name::{SpiffeId, TrustDomain};
 use status_warnings::{WarnLimits, Watch, write_warned_status};
@@ -136,8 +139,10 @@ fn do_under_config<C: Closure>(
 ) -> Result<(), CommandError> {
     match (asked.name, asked.given) {
         (CommandName::Config, [None, form, ..]) => print_config(case, config, *form, devices),
-        (CommandName::Config, [Some(with), ..]) => compare_configs(case, config, with, devices),
-        (CommandName::Report, [None, ..]) => report::<C>(case, config, devices),
+        (CommandName::Config, [Some(with), form, ..]) => {
+            compare_configs(case, config, with, *form, devices)
+        }
+        (CommandName::Report, [None, form, ..]) => report::<C>(case, config, *form, devices),
         (name, [Some(state), given @ ..]) => {
             let file = case.script.text(state);
             do_over_file::<C>(case, Asked { name, given }, config, file, devices)
@@ -146,13 +151,17 @@ fn do_under_config<C: Closure>(
     }
 }
 
-// Two digests make the exit status 1.
+// Two digests make the exit status 1. There is no JSON of two.
 fn compare_configs(
     case: &Case<'_>,
     config: &Config,
     with: &str,
+    form: Option<&str>,
     devices: &mut Devices,
 ) -> Result<(), CommandError> {
+    if read_output_form(form) != Ok(OutputForm::Text) {
+        return usage(devices);
+    }
     let Some(with) = case.script.text(with) else {
         return Err(CommandError::Io);
     };
@@ -166,12 +175,16 @@ fn compare_configs(
 fn report<C: Closure>(
     case: &Case<'_>,
     config: &Config,
+    form: Option<&str>,
     devices: &mut Devices,
 ) -> Result<(), CommandError> {
-    let count = if case.is_report_own {
-        report_over_its_own(case.alloc, config, devices)?
-    } else {
-        report_over::<C>(case.alloc, config, devices)?
+    let count = match read_output_form(form) {
+        Ok(OutputForm::Text) if case.is_report_own => {
+            report_over_its_own(case.alloc, config, devices)?
+        }
+        Ok(OutputForm::Text) => report_over::<C>(case.alloc, config, devices)?,
+        Ok(OutputForm::Json) => report_json_over::<C>(case.alloc, config, devices)?,
+        Err(_) => return usage(devices),
     };
     devices.status = if count == 0 { 0 } else { 1 };
     Ok(())
@@ -199,6 +212,22 @@ fn report_over<C: Closure>(
     run_report_with::<C, _, _, _>(
         alloc,
         config,
+        &mut devices.input,
+        &mut devices.output,
+        &mut devices.errors,
+    )
+}
+
+fn report_json_over<C: Closure>(
+    alloc: Global,
+    config: &Config,
+    devices: &mut Devices,
+) -> Result<u64, RunError> {
+    let mut closure = C::new(alloc, config)?;
+    run_report_into(
+        alloc,
+        &mut closure,
+        OutputForm::Json,
         &mut devices.input,
         &mut devices.output,
         &mut devices.errors,
@@ -280,9 +309,10 @@ fn do_asked<C: Closure>(
             observe(case, closure, domain, endpoint, key, devices)
         }
         (CommandName::Merge, _) => run_merge(case.alloc, closure, input, output),
-        (CommandName::Migrate, [Some(to), Some(records_only), ..]) => {
-            migrate(case, closure, to, records_only, devices)
+        (CommandName::Migrate, [to, records_only, ..]) => {
+            migrate(case, closure, *to, choice_of(*records_only), devices)
         }
+        (CommandName::Reseed, [allowed, ..]) => reseed_held(case, closure, *allowed, devices),
         (CommandName::Polls, [Some(now), form, ..]) => polls(case, closure, now, *form, devices),
         (CommandName::Distrust, [Some(domain), Some(key), _public_key, flags @ ..]) => {
             let record = record_of(case.alloc, domain, key)?;
@@ -339,26 +369,66 @@ fn compare_held<C: Closure>(
     Ok(())
 }
 
-// A line of what is left out makes the exit status 1.
-fn migrate<C: Closure>(
-    case: &Case<'_>,
-    closure: &C,
-    to: &str,
-    records_only: &str,
-    devices: &mut Devices,
-) -> Result<(), CommandError> {
-    let Some(to) = case.script.text(to) else {
-        return Err(CommandError::Io);
-    };
-    let to = Config::read(case.alloc, to)?;
-    let choice = if records_only == "true" {
+fn choice_of(records_only: Option<&str>) -> Choice {
+    if is_flag_given(records_only) {
         Choice::RecordsOnly
     } else {
         Choice::All
+    }
+}
+
+// Without another configuration what is held stays under its own.
+fn migrate<C: Closure>(
+    case: &Case<'_>,
+    closure: &C,
+    to: Option<&str>,
+    choice: Choice,
+    devices: &mut Devices,
+) -> Result<(), CommandError> {
+    let Some(name) = to else {
+        return migrate_to(case, closure, closure.config(), choice, devices);
     };
+    let Some(text) = case.script.text(name) else {
+        return Err(CommandError::Io);
+    };
+    migrate_to(
+        case,
+        closure,
+        &Config::read(case.alloc, text)?,
+        choice,
+        devices,
+    )
+}
+
+// A line of what is left out makes the exit status 1.
+fn migrate_to<C: Closure>(
+    case: &Case<'_>,
+    closure: &C,
+    to: &Config,
+    choice: Choice,
+    devices: &mut Devices,
+) -> Result<(), CommandError> {
     let (output, errors) = (&mut devices.output, &mut devices.errors);
-    let count = run_migrate(case.alloc, closure, &to, choice, output, errors)?;
+    let count = run_migrate(case.alloc, closure, to, choice, output, errors)?;
     devices.status = if count == 0 { 0 } else { 1 };
+    Ok(())
+}
+
+// A domain that is refused makes the exit status 1.
+fn reseed_held<C: Closure>(
+    case: &Case<'_>,
+    closure: &C,
+    allowed: Option<&str>,
+    devices: &mut Devices,
+) -> Result<(), CommandError> {
+    let allowed = domain_of(case, allowed)?;
+    match reseed(case.alloc, closure, allowed.as_ref())? {
+        Reseeded::NewConfig(text) => write_all(&mut devices.output, text.as_slice())?,
+        Reseeded::Refusals(lines) => {
+            write_all(&mut devices.errors, lines.as_slice())?;
+            devices.status = 1;
+        }
+    }
     Ok(())
 }
 

@@ -6,7 +6,7 @@ use crate::words::split_words;
 use byte_lines::{FromRead, MemSink, write_all};
 use closure_core::Closure;
 use fed_config::Config;
-use fedbundle::{Call, CommandError, CommandName, OptionName, given, read_words};
+use fedbundle::{Call, CommandError, CommandName, OptionName, given, is_flag_given, read_words};
 use local_answers::{Reply, answer_request, request_words};
 use replica_journal::{begin_journal, read_journal};
 use replica_sync::{read_snapshot, write_snapshot};
@@ -41,11 +41,29 @@ fn ask_call<C: Closure>(
     devices: &mut Devices,
 ) -> Result<bool, CommandError> {
     let config = given(call, OptionName::Config).and_then(|name| case.script.text(name));
-    match (config, given(call, OptionName::State)) {
-        (Some(config), Some(state)) if case.is_request || is_same_of_replicas(call) => {
-            ask_under::<C>(case, call, config, case.script.text(state), devices)
+    let state = given(call, OptionName::State);
+    let has_state = state.is_some() || call.name == CommandName::Config;
+    match (config, input_of(case, call)) {
+        (Some(config), Some(input)) if has_state && is_asked(case, call) => {
+            let asked = Case { input, ..*case };
+            let file = state.and_then(|name| case.script.text(name));
+            ask_under::<C>(&asked, call, config, file, devices)
         }
         _ => Ok(false),
+    }
+}
+
+fn is_asked(case: &Case<'_>, call: &Call<'_>) -> bool {
+    case.is_request || is_same_of_replicas(call)
+}
+
+// What the request has in place of standard input: the file that is carried over to or compared
+// with, if one is named, which has to be there.
+fn input_of<'a>(case: &Case<'a>, call: &Call<'_>) -> Option<&'a [u8]> {
+    let script = case.script;
+    match given(call, OptionName::To).or(given(call, OptionName::With)) {
+        Some(name) => script.text(name),
+        None => Some(case.input),
     }
 }
 
@@ -53,14 +71,18 @@ fn ask_call<C: Closure>(
 fn is_same_of_replicas(call: &Call<'_>) -> bool {
     matches!(
         call.name,
-        CommandName::Report
+        CommandName::Config
+            | CommandName::Report
             | CommandName::List
+            | CommandName::Diff
             | CommandName::Graph
             | CommandName::Bundle
             | CommandName::Explain
             | CommandName::Polls
             | CommandName::Observe
             | CommandName::Merge
+            | CommandName::Migrate
+            | CommandName::Reseed
             | CommandName::Distrust
     )
 }
@@ -144,7 +166,7 @@ fn reply_of<C: Closure>(
 fn changes(call: &Call<'_>) -> bool {
     match call.name {
         CommandName::Observe | CommandName::Merge => true,
-        CommandName::Distrust => given(call, OptionName::DryRun) != Some("true"),
+        CommandName::Distrust => !is_flag_given(given(call, OptionName::DryRun)),
         _ => false,
     }
 }

@@ -96,7 +96,10 @@ pub(crate) fn graph_held<C: Closure>(
     Ok(())
 }
 
-fn domain_of(case: &Case<'_>, domain: Option<&str>) -> Result<Option<TrustDomain>, CommandError> {
+pub(crate) fn domain_of(
+    case: &Case<'_>,
+    domain: Option<&str>,
+) -> Result<Option<TrustDomain>, CommandError> {
     match domain {
         Some(domain) => Ok(Some(TrustDomain::read(case.alloc, domain)?)),
         None => Ok(None),
@@ -142,7 +145,7 @@ pub(crate) fn polls<C: Closure>(
     }
 }
 
-fn usage(devices: &mut Devices) -> Result<(), CommandError> {
+pub(crate) fn usage(devices: &mut Devices) -> Result<(), CommandError> {
     tell(b"fedbundle: usage\n", 2, devices);
     Ok(())
 }

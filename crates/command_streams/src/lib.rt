@@ -17,6 +17,6 @@ pub use exit::{print_clap, print_exit};
 pub use process_words::{texts_of, words_of_process};
 pub use streams::{
     ClosedStreams, WholeLines, complaints, error_lines, input, output, output_line,
-    warn_of_anywhere,
+    output_progress_mode, progress_mode, warn_of_anywhere,
 };
 pub use verbose_lines::{is_verbose_for, is_verbose_unasked, quoted, say, shown, words_of};

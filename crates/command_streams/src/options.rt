@@ -1,7 +1,9 @@
 //! The texts of options that name a file, a socket or a number, read.
-use byte_lines::{FromRead, read_up_to};
+use byte_lines::FromRead;
 use fed_config::Config;
-use fedbundle::{Call, CommandError, Exit, OptionName, given, read_sessions, wanted};
+use fedbundle::{
+    Call, CommandError, Exit, OptionName, given, is_flag_given, read_config, read_sessions, wanted,
+};
 use std::alloc::Global;
 use std::fs::Files;
 use std::net::SocketAddr;
@@ -18,8 +20,7 @@ pub fn file<R: Files>(files: &R, path: &str) -> Result<FromRead<R::File>, Comman
 
 /// The configuration in the file.
 pub fn config<R: Files>(files: &R, alloc: Global, path: &str) -> Result<Config, CommandError> {
-    let bytes = read_up_to(alloc, &mut file(files, path)?, usize::MAX)?;
-    Ok(Config::read(alloc, bytes.as_slice())?)
+    read_config(alloc, &mut file(files, path)?)
 }
 
 /// The address of an IP address and a port. At port 0 the system chooses the port.
@@ -47,5 +48,5 @@ pub fn config_of(rt: &HostRuntime, call: &Call<'_>) -> Result<Config, Exit> {
 
 /// Whether the words allow a replica to listen there.
 pub fn may_listen(call: &Call<'_>, address: SocketAddr) -> bool {
-    address.ip().is_loopback() || given(call, OptionName::ListenAnywhere) == Some("true")
+    address.ip().is_loopback() || is_flag_given(given(call, OptionName::ListenAnywhere))
 }

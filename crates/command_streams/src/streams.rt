@@ -2,8 +2,9 @@
 ghost use Rattle.std.specs.Prelude.{◌≤◌};
 
 use byte_lines::{FromRead, FromWrite};
+use progress_line::ProgressMode;
 use std::fs::{File, OpenOptions};
-use std::io::{Result, Stderr, Stdin, Stdout, Write};
+use std::io::{IsTerminal, Result, Stderr, Stdin, Stdout, Write};
 use std::net::SocketAddr;
 use std::os::unix::io::AsFd;
 
@@ -100,6 +101,25 @@ pub fn warn_of_anywhere(rt: &HostRuntime, address: SocketAddr) {
             error_lines(rt),
             "fedbundle: warning: {address} is no loopback address: whoever reaches it is given all"
         );
+    }
+}
+
+/// Whether long work says how far it is: if standard error is a terminal.
+pub fn progress_mode(rt: &HostRuntime) -> ProgressMode {
+    if rt.stderr().is_terminal() {
+        ProgressMode::Shown
+    } else {
+        ProgressMode::Silent
+    }
+}
+
+/// The same of work that writes to standard output, where that is no terminal: its lines would come
+/// between those of the output.
+pub fn output_progress_mode(rt: &HostRuntime) -> ProgressMode {
+    if rt.stdout().is_terminal() {
+        ProgressMode::Silent
+    } else {
+        progress_mode(rt)
     }
 }
 

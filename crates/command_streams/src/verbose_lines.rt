@@ -3,7 +3,7 @@
 //! that does not print.
 use crate::streams::error_lines;
 use fault_view::{push_quoted, push_shown};
-use fedbundle::{Call, OptionName, given};
+use fedbundle::{Call, OptionName, given, is_flag_given};
 use std::alloc::{AllocError, Global};
 use std::io;
 use std::io::{IsTerminal, Write};
@@ -15,7 +15,7 @@ const VARIABLE: &str = "FEDBUNDLE_VERBOSE";
 /// Whether more is to be said: `--verbose` or the environment asks for it, or standard error is a
 /// terminal.
 pub fn is_verbose_for(rt: &HostRuntime, call: &Call<'_>) -> bool {
-    given(call, OptionName::Verbose) == Some("true") || is_verbose_unasked(rt)
+    is_flag_given(given(call, OptionName::Verbose)) || is_verbose_unasked(rt)
 }
 
 /// The same of words that are no call.

@@ -7,3 +7,4 @@ mod CommandFacts
 mod MigrateFacts
 mod DistrustFacts
 mod ShownCallFacts
+mod ShownCommandFacts

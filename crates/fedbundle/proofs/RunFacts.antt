@@ -18,12 +18,12 @@ use Rattle.closure_core.specs.Changes.{HeldAndRoom, TakesOk}
 use Rattle.closure_core.specs.declared.outcome.Taken.{Taken}
 use Rattle.closure_core.specs.declared.outcome.Taken.TheVariants.{New as TakenNew, Already as TakenAlready}
 use Rattle.fedbundle.specs.Stream.{AreTaken, OverfillStore, IsRefusedLine, Complaint, complaint_text}
-use Rattle.bundle_view.specs.Report.{WritesReport, BeginsReport}
+use Rattle.command_line.specs.declared.option_texts.OutputForm.{OutputForm}
 use Rattle.bundle_view.specs.declared.error.ReportError.{ReportError}
 use Rattle.bundle_view.specs.declared.error.ReportError.TheVariants.{Io as SinkFailed, NoMemory as NoMemoryForReport}
 use Rattle.fedbundle.specs.CommandRun.{CommandRun, DeviceRun, WritesNothing, HasFailed}
 use Rattle.fedbundle.specs.Errors.{of_line, of_report}
-use Rattle.fedbundle.specs.Report.{PrintsReport, CutsReport, TellsAll, BeginsTelling, AnswersReport, meaning_of_receipts}
+use Rattle.fedbundle.specs.Report.{PrintsReport, CutsReport, TellsAll, BeginsTelling, AnswersReport, meaning_of_receipts, WritesReportIn, BeginsReportIn}
 use Rattle.fedbundle.specs.Inside.Judging.{TakesReceiptText, IsTextTooMany, HasJudged, TriesText, StopsJudging}
 use Rattle.fedbundle.specs.declared.run_error.RunError.{RunError}
 use Rattle.fedbundle.specs.declared.run_error.RunError.TheVariants.{Full, NoMemory, Io}
@@ -433,28 +433,28 @@ told_whole c None m told tells n judged = tt
 told_whole c (Some xs) m told tells n judged = begun_judged c (lines_of xs) m told tells n judged
 
 -- A sink that failed at the report of what is held holds a beginning of the report of what is taken.
-pub cut_off : (sink : DeviceRun) (c : Configuration) (stream : Option (List ℕ)) (m : Meaning) (told tells : Option (List ℕ))
+pub cut_off : (form : OutputForm) (sink : DeviceRun) (c : Configuration) (stream : Option (List ℕ)) (m : Meaning) (told tells : Option (List ℕ))
     (n : ℕ) → IfSome stream (λ bytes. HasJudged c (lines_of bytes) m told tells n)
-    → BeginsReport m sink.before sink.after → IfSome stream (λ bytes. CutsReport sink c (lines_of bytes))
-cut_off sink c None m told tells n judged begins = tt
-cut_off sink c (Some xs) m told tells n judged begins = record {
+    → BeginsReportIn form m sink.before sink.after → IfSome stream (λ bytes. CutsReport form sink c (lines_of bytes))
+cut_off form sink c None m told tells n judged begins = tt
+cut_off form sink c (Some xs) m told tells n judged begins = record {
   receipts = m.held;
   taken = judged.taken;
-  begun = subst (λ (z : Meaning). BeginsReport z sink.before sink.after) (meaning_is c m judged.config judged.records) begins;
+  begun = subst (λ (z : Meaning). BeginsReportIn form z sink.before sink.after) (meaning_is c m judged.config judged.records) begins;
 }
 
 -- the report of what is held is that of the receipts taken, and all complaints are written
-pub reported : (sink complaints : DeviceRun) (c : Configuration) (stream : Option (List ℕ)) (m : Meaning)
+pub reported : (form : OutputForm) (sink complaints : DeviceRun) (c : Configuration) (stream : Option (List ℕ)) (m : Meaning)
     (n : ℕ) → IfSome stream (λ bytes. HasJudged c (lines_of bytes) m complaints.before complaints.after n)
-    → WritesReport m sink.before sink.after
-    → IfSome stream (λ bytes. PrintsReport sink c (lines_of bytes) × TellsAll complaints c (lines_of bytes) n)
-reported sink complaints c None m n judged writes = tt
-reported sink complaints c (Some xs) m n judged writes = (
+    → WritesReportIn form m sink.before sink.after
+    → IfSome stream (λ bytes. PrintsReport form sink c (lines_of bytes) × TellsAll complaints c (lines_of bytes) n)
+reported form sink complaints c None m n judged writes = tt
+reported form sink complaints c (Some xs) m n judged writes = (
   record {
     receipts = m.held;
     taken = judged.taken;
     few = judged.few;
-    report = subst (λ (z : Meaning). WritesReport z sink.before sink.after) (meaning_is c m judged.config judged.records) writes;
+    report = subst (λ (z : Meaning). WritesReportIn form z sink.before sink.after) (meaning_is c m judged.config judged.records) writes;
   },
   record { list = judged.complaints; all = judged.all; telling = judged.telling; counted = judged.counted },
 )
@@ -467,9 +467,9 @@ if_some_then None P Q then holds = tt
 if_some_then (Some xs) P Q then holds = then xs holds
 
 -- Memory ran out before a line was read.
-pub stopped_early : (run : CommandRun) (complaints : DeviceRun) (c : Configuration)
-    → WritesNothing run.sink → complaints.after ≡ complaints.before → AnswersReport run complaints c (Err NoMemory)
-stopped_early run complaints c same untold = (
+pub stopped_early : (form : OutputForm) (run : CommandRun) (complaints : DeviceRun) (c : Configuration)
+    → WritesNothing run.sink → complaints.after ≡ complaints.before → AnswersReport form run complaints c (Err NoMemory)
+stopped_early form run complaints c same untold = (
   same,
   if_some run.source.before _
       (λ bytes. subst (λ (tells : Option (List ℕ)). BeginsTelling c (lines_of bytes) complaints.before tells) (sym untold)
@@ -477,25 +477,25 @@ stopped_early run complaints c same untold = (
 )
 
 -- The lines were not all taken, so nothing of the report was written.
-pub stopped_judging : (run : CommandRun) (complaints : DeviceRun) (c : Configuration) (e : RunError)
+pub stopped_judging : (form : OutputForm) (run : CommandRun) (complaints : DeviceRun) (c : Configuration) (e : RunError)
     → WritesNothing run.sink → (e ≡ Io → HasFailed run.source ⊎ HasFailed complaints)
     → IfSome run.source.before (λ bytes. StopsJudging c (lines_of bytes) complaints.before complaints.after e)
-    → AnswersReport run complaints c (Err e)
-stopped_judging run complaints c Full same failed stops =
+    → AnswersReport form run complaints c (Err e)
+stopped_judging form run complaints c Full same failed stops =
     ((same, if_some_then run.source.before _ _ (λ bytes both. both.0) stops), if_some_then run.source.before _ _ (λ bytes both. both.1) stops)
-stopped_judging run complaints c NoMemory same failed stops = (same, stops)
-stopped_judging run complaints c Io same failed stops = (inl (failed refl, same), stops)
+stopped_judging form run complaints c NoMemory same failed stops = (same, stops)
+stopped_judging form run complaints c Io same failed stops = (inl (failed refl, same), stops)
 
 -- The lines were taken, and the report was not written.
-pub stopped_writing : (run : CommandRun) (complaints : DeviceRun) (c : Configuration) (m : Meaning) (n : ℕ) (e : ReportError)
+pub stopped_writing : (form : OutputForm) (run : CommandRun) (complaints : DeviceRun) (c : Configuration) (m : Meaning) (n : ℕ) (e : ReportError)
     → IfSome run.source.before (λ bytes. HasJudged c (lines_of bytes) m complaints.before complaints.after n)
     → (e ≡ NoMemoryForReport → WritesNothing run.sink)
-    → (e ≡ SinkFailed → HasFailed run.sink × BeginsReport m run.sink.before run.sink.after)
-    → AnswersReport run complaints c (Err (of_report e))
-stopped_writing run complaints c m n SinkFailed judged same failed =
+    → (e ≡ SinkFailed → HasFailed run.sink × BeginsReportIn form m run.sink.before run.sink.after)
+    → AnswersReport form run complaints c (Err (of_report e))
+stopped_writing form run complaints c m n SinkFailed judged same failed =
     let fault = failed refl in (
-      inr (fault.0, cut_off run.sink c run.source.before m complaints.before complaints.after n judged fault.1),
+      inr (fault.0, cut_off form run.sink c run.source.before m complaints.before complaints.after n judged fault.1),
       told_whole c run.source.before m complaints.before complaints.after n judged,
     )
-stopped_writing run complaints c m n NoMemoryForReport judged same failed =
+stopped_writing form run complaints c m n NoMemoryForReport judged same failed =
     (same refl, told_whole c run.source.before m complaints.before complaints.after n judged)

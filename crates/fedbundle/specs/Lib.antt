@@ -22,4 +22,5 @@ pub mod Exits
 pub mod Stream
 pub mod SaidValues
 pub mod Shown
+pub mod ShownCommands
 pub mod Inside

@@ -8,6 +8,10 @@ use Rattle.fed_config.specs.Configuration.{Configuration}
 use Rattle.receipt_core.specs.Acceptance.{Meaning}
 use Rattle.receipt_core.specs.Receipt.{Receipt}
 use Rattle.bundle_view.specs.Report.{WritesReport, BeginsReport}
+use Rattle.command_line.specs.declared.option_texts.OutputForm.{OutputForm}
+use Rattle.command_line.specs.declared.option_texts.OutputForm.TheVariants as output
+use Rattle.json_reports.specs.ReportJson.{IsReportJson}
+use Rattle.text_lines.specs.TextLines.{BeginsSome, WritesSome}
 use Rattle.fedbundle.specs.CommandRun.{CommandRun, DeviceRun, IsReadOut, WritesNothing}
 use Rattle.fedbundle.specs.CommandRun.{HasFailed, IsAsSound}
 use Rattle.receipt_core.specs.Limits.{receipt_limit}
@@ -22,18 +26,30 @@ use Rattle.fedbundle.specs.declared.run_error.RunError.TheVariants.{Full, NoMemo
 abbrev pub meaning_of_receipts : Configuration → List Receipt → Meaning
 meaning_of_receipts c receipts = record { config = c; held = receipts; records = [] }
 
+-- exactly the report was written, as text or as JSON
+abbrev pub WritesReportIn : OutputForm → Meaning → (old new : Option (List ℕ)) → Type 0
+WritesReportIn output.Text m old new = WritesReport m old new
+WritesReportIn output.Json m old new = WritesSome (IsReportJson m) old new
+
+-- a beginning of the report was written
+abbrev pub BeginsReportIn : OutputForm → Meaning → (old new : Option (List ℕ)) → Type 0
+BeginsReportIn output.Text m old new = BeginsReport m old new
+BeginsReportIn output.Json m old new = BeginsSome (IsReportJson m) old new
+
 -- The report of the receipts that are taken of these lines was written, and nothing else.
-pub record PrintsReport (sink : DeviceRun) (c : Configuration) (lines : Lines) : Type 0 where
+pub record PrintsReport (form : OutputForm) (sink : DeviceRun) (c : Configuration)
+    (lines : Lines) : Type 0 where
   pub receipts : List Receipt
   pub taken : AreTaken c lines.whole receipts
   pub few : length receipts ≤ receipt_limit
-  pub report : WritesReport (meaning_of_receipts c receipts) sink.before sink.after
+  pub report : WritesReportIn form (meaning_of_receipts c receipts) sink.before sink.after
 
 -- The sink failed, after a beginning of that report.
-pub record CutsReport (sink : DeviceRun) (c : Configuration) (lines : Lines) : Type 0 where
+pub record CutsReport (form : OutputForm) (sink : DeviceRun) (c : Configuration)
+    (lines : Lines) : Type 0 where
   pub receipts : List Receipt
   pub taken : AreTaken c lines.whole receipts
-  pub begun : BeginsReport (meaning_of_receipts c receipts) sink.before sink.after
+  pub begun : BeginsReportIn form (meaning_of_receipts c receipts) sink.before sink.after
 
 -- ---- what is reported
 
@@ -56,34 +72,44 @@ pub record BeginsTelling (c : Configuration) (lines : Lines)
 
 -- The source, or the sink of complaints, failed before anything of the report was written; or the
 -- report's sink failed.
-abbrev pub FailsReport : CommandRun → DeviceRun → Configuration → Type 0
-FailsReport run complaints c =
+abbrev pub FailsReport : OutputForm → CommandRun → DeviceRun → Configuration → Type 0
+FailsReport form run complaints c =
     ((HasFailed run.source ⊎ HasFailed complaints) × WritesNothing run.sink)
     ⊎ (HasFailed run.sink
-    × IfSome run.source.before (λ bytes. CutsReport run.sink c (lines_of bytes)))
+    × IfSome run.source.before (λ bytes. CutsReport form run.sink c (lines_of bytes)))
 
 -- By the error: there are too many receipts, or memory ran out, and nothing of the report was
 -- written; or a device failed.
-abbrev pub StopsReport : CommandRun → DeviceRun → Configuration → RunError → Type 0
-StopsReport run complaints c Full = WritesNothing run.sink
+abbrev pub StopsReport : OutputForm → CommandRun → DeviceRun → Configuration → RunError → Type 0
+StopsReport form run complaints c Full = WritesNothing run.sink
     × IfSome run.source.before (λ bytes. OverfillStore c (lines_of bytes).whole)
-StopsReport run complaints c NoMemory = WritesNothing run.sink
-StopsReport run complaints c Io = FailsReport run complaints c
+StopsReport form run complaints c NoMemory = WritesNothing run.sink
+StopsReport form run complaints c Io = FailsReport form run complaints c
 
 -- By the answer: the report was written and all complaints, n of them; or the run stopped, and
 -- a beginning of the complaints was written. Where the source's bytes are not known, nothing is
 -- said of its lines.
-abbrev pub AnswersReport : CommandRun → DeviceRun → Configuration → Result ℕ RunError → Type 0
-AnswersReport run complaints c (Ok n) = IsReadOut run.source
+abbrev pub AnswersReport : OutputForm → CommandRun → DeviceRun → Configuration
+    → Result ℕ RunError → Type 0
+AnswersReport form run complaints c (Ok n) = IsReadOut run.source
     × IfSome run.source.before
-    (λ bytes. PrintsReport run.sink c (lines_of bytes) × TellsAll complaints c (lines_of bytes) n)
-AnswersReport run complaints c (Err e) = StopsReport run complaints c e
+    (λ bytes. PrintsReport form run.sink c (lines_of bytes)
+    × TellsAll complaints c (lines_of bytes) n)
+AnswersReport form run complaints c (Err e) = StopsReport form run complaints c e
     × IfSome run.source.before
     (λ bytes. BeginsTelling c (lines_of bytes) complaints.before complaints.after)
 
+-- the form of the report, and by which configuration
+pub record AskedReport : Type 0 where
+  pub form : OutputForm
+  pub config : Configuration
+
+abbrev pub report_asked : OutputForm → Configuration → AskedReport
+report_asked form config = record { form = form; config = config }
+
 -- That, and no fault of a device is passed over, or reported as another error.
-pub record RunsReport (run : CommandRun) (complaints : DeviceRun) (c : Configuration)
+pub record RunsReport (run : CommandRun) (complaints : DeviceRun) (asked : AskedReport)
     (result : Result ℕ RunError) : Type 0 where
-  pub answer : AnswersReport run complaints c result
+  pub answer : AnswersReport asked.form run complaints asked.config result
   pub sound : (IsErrOf result Io → ⊥)
       → IsAsSound run.source × IsAsSound run.sink × IsAsSound complaints

@@ -427,7 +427,8 @@ abbrev pub ShowsEffect : ShownCall → DeviceRun → Result ℕ Exit → Type 0
 ShowsEffect call sink result = RefusesUnwritten (SaysNoRecord call.name call.texts) sink result
     ⊎ ShowsEffectSaid call sink result
 
--- The same by the command. Only `explain`, `polls` and `status` read. Another command is refused.
+-- The same by the command, of those that write on one sink. Only `explain`, `polls` and `status`
+-- read. Another command is refused.
 abbrev pub ShowsBy : CommandName → ShownCall → CommandRun → Result ℕ Exit → Type 0
 ShowsBy command.Report call run result = ShowsReport call run.sink result
     × IsUntouched run.source
@@ -441,7 +442,3 @@ ShowsBy command.Status call run result = ShowsStatus call run result
 ShowsBy command.Distrust call run result = ShowsEffect call run.sink result
     × IsUntouched run.source
 ShowsBy name call run result = RefusesUnread (λ exit. exit ≡ Usage) run result
-
--- What a command does that shows what is held.
-abbrev pub RunsShown : ShownCall → CommandRun → Result ℕ Exit → Type 0
-RunsShown call run result = ShowsBy call.name call run result

@@ -72,6 +72,8 @@ pub enum Step {
     Save,
     /// It wrote the journal.
     Journal,
+    /// It wrote the audit file.
+    Audit,
     /// It was to listen on the socket of local requests.
     Socket,
     /// It was to listen at an address.

@@ -7,6 +7,7 @@ mod bundle;
 mod canon;
 mod chain_text;
 mod complaint;
+mod config_source;
 mod counts;
 mod distrust;
 mod error;
@@ -27,7 +28,10 @@ mod run_error;
 mod said_values;
 mod serve;
 mod shown;
+mod shown_config;
+mod shown_difference;
 mod shown_held;
+mod shown_moves;
 mod shown_status;
 mod two_parts;
 
@@ -39,6 +43,7 @@ pub use command_line::{
     read_explanation_form, read_key, read_output_form, read_request, read_sessions, read_words,
     wanted,
 };
+pub use config_source::read_config;
 pub use counts::write_counted;
 pub use distrust::{run_distrust, show_distrust};
 pub use error::{CommandError, status};
@@ -57,3 +62,5 @@ pub use run_error::RunError;
 pub use said_values::{read_domain, read_record, read_verdict};
 pub use serve::{run_serve, write_served};
 pub use shown::{Shown, run_shown};
+pub use shown_config::run_config;
+pub use shown_difference::run_diff;

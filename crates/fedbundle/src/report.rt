@@ -1,14 +1,21 @@
 //! `report`: what a replica accepts, from the bytes of a stream of receipts.
-ghost use Rattle.std.specs.Prelude.{◌≡◌, []};
+ghost use Rattle.std.specs.Prelude.{◌≡◌, ◌||◌, [], true, Err, OnOk};
+ghost use Rattle.bundle_view.specs.Report.{is_report_fault};
+ghost use Rattle.bundle_view.specs.declared.error.ReportError.TheVariants.{Io, NoMemory};
+ghost use Rattle.command_line.specs.declared.option_texts.OutputForm.TheVariants.{Text};
 ghost use Rattle.fedbundle.specs.CommandRun.{device_run, run_of};
-ghost use Rattle.fedbundle.specs.Report.{RunsReport};
+ghost use Rattle.fedbundle.specs.Report.{BeginsReportIn, RunsReport, WritesReportIn, report_asked};
+ghost use Rattle.json_reports.specs.ReportJson.{IsReportJson};
+ghost use Rattle.text_lines.specs.TextLines.{BeginsSome, WritesSome};
 
 use crate::judge::take_lines;
 use crate::run_error::RunError;
-use bundle_view::write_report;
-use byte_lines::{Sink, Source};
+use bundle_view::{ReportError, write_report};
+use byte_lines::{DeviceError, Sink, Source};
 use closure_core::Closure;
+use command_line::OutputForm;
 use fed_config::Config;
+use json_reports::write_report_json;
 use std::alloc::Global;
 use trust_closure::IndexedClosure;
 
@@ -48,7 +55,8 @@ pub fn run_report<R: Source, W: Sink, E: Sink>(
     ensures { RunsReport
         (run_of (device_run R.remaining R.has_failed source.old source.new)
         (device_run W.contents W.has_failed sink.old sink.new))
-        (device_run E.contents E.has_failed complaints.old complaints.new) config.now result }
+        (device_run E.contents E.has_failed complaints.old complaints.new)
+        (report_asked Text config.now) result }
 {
     run_report_with::<IndexedClosure, R, W, E>(alloc, config, source, sink, complaints)
 }
@@ -67,21 +75,31 @@ pub fn run_report_with<C: Closure, R: Source, W: Sink, E: Sink>(
     ensures { RunsReport
         (run_of (device_run R.remaining R.has_failed source.old source.new)
         (device_run W.contents W.has_failed sink.old sink.new))
-        (device_run E.contents E.has_failed complaints.old complaints.new) config.now result }
+        (device_run E.contents E.has_failed complaints.old complaints.new)
+        (report_asked Text config.now) result }
 {
     let mut closure = C::new(alloc, config)?;
-    run_report_into(alloc, &mut closure, source, sink, complaints)
+    run_report_into(
+        alloc,
+        &mut closure,
+        OutputForm::Text,
+        source,
+        sink,
+        complaints,
+    )
 }
 
-/// The same as [`run_report`], into a closure that holds nothing yet, by the configuration of that.
-/// What it took is the caller's afterwards: a program that ends with its report need not give the
-/// memory back piece by piece.
+/// The same as [`run_report`], in either form, into a closure that holds nothing yet, by the
+/// configuration of that. What it took is the caller's afterwards: a program that ends with its
+/// report need not give the memory back piece by piece. As JSON the report is the object of
+/// [`write_report_json`].
 ///
 /// # Errors
 /// Those of [`run_report`].
 pub fn run_report_into<C: Closure, R: Source, W: Sink, E: Sink>(
     alloc: Global,
     closure: &mut C,
+    form: OutputForm,
     source: &mut R,
     sink: &mut W,
     complaints: &mut E,
@@ -92,11 +110,47 @@ pub fn run_report_into<C: Closure, R: Source, W: Sink, E: Sink>(
         (run_of (device_run R.remaining R.has_failed source.old source.new)
         (device_run W.contents W.has_failed sink.old sink.new))
         (device_run E.contents E.has_failed complaints.old complaints.new)
-        (C.state closure.old).meaning.config result }
+        (report_asked form (C.state closure.old).meaning.config) result }
 {
     // The prover learns here that each domain has one relationship.
     let _domains = closure.config().domains();
     let count = take_lines(alloc, closure, source, complaints)?;
-    write_report(alloc, closure, sink)?;
+    report_to(alloc, closure, form, sink)?;
     Ok(count)
+}
+
+fn report_to<C: Closure, W: Sink>(
+    alloc: Global,
+    closure: &C,
+    form: OutputForm,
+    sink: &mut W,
+) -> Result<(), ReportError>
+    ensures ok { OnOk result (WritesReportIn form (C.state closure.now).meaning
+        (W.contents sink.old) (W.contents sink.new)) }
+    ensures io { result ≡ Err Io → (W.has_failed sink.new ≡ true)
+        × BeginsReportIn form (C.state closure.now).meaning (W.contents sink.old)
+        (W.contents sink.new) }
+    ensures memory { result ≡ Err NoMemory → sink.new ≡ sink.old }
+    ensures fault { W.has_failed sink.new ≡ (is_report_fault result || W.has_failed sink.old) }
+{
+    match form {
+        OutputForm::Text => write_report(alloc, closure, sink),
+        OutputForm::Json => json_to(alloc, closure, sink),
+    }
+}
+
+fn json_to<C: Closure, W: Sink>(alloc: Global, closure: &C, sink: &mut W) -> Result<(), ReportError>
+    ensures ok { OnOk result (WritesSome (IsReportJson (C.state closure.now).meaning)
+        (W.contents sink.old) (W.contents sink.new)) }
+    ensures io { result ≡ Err Io → (W.has_failed sink.new ≡ true)
+        × BeginsSome (IsReportJson (C.state closure.now).meaning) (W.contents sink.old)
+        (W.contents sink.new) }
+    ensures memory { result ≡ Err NoMemory → sink.new ≡ sink.old }
+    ensures fault { W.has_failed sink.new ≡ (is_report_fault result || W.has_failed sink.old) }
+{
+    match write_report_json(alloc, closure, sink) {
+        Ok(()) => Ok(()),
+        Err(DeviceError::Io) => Err(ReportError::Io),
+        Err(DeviceError::NoMemory) => Err(ReportError::NoMemory),
+    }
 }

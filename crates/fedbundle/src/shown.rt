@@ -1,15 +1,16 @@
-//! The commands that show what is held, by what their words say: `report`, `list`, `graph`,
-//! `bundle`, `explain`, `polls`, `status`, and `distrust` if it only shows what a record would
-//! change.
+//! The commands that show what is held or its configuration, by what their words say: `config`,
+//! `report`, `list`, `diff`, `graph`, `bundle`, `explain`, `migrate`, `reseed`, `polls`, `status`,
+//! and `distrust` if it only shows what a record would change.
 ghost use Rattle.std.specs.Prelude.{◌≡◌, Ok};
 ghost use Rattle.json_reports.specs.ReportJson.{IsReportJson};
 ghost use Rattle.bundle_view.specs.Report.{IsReport};
 ghost use Rattle.fedbundle.specs.CommandRun.{device_run, run_of};
 ghost use Rattle.fedbundle.specs.CurrentBundle.{RunsBundle, RunsBundlePem};
-ghost use Rattle.fedbundle.specs.Shown.{IsReportIn, RunsShown, RunsWriter};
+ghost use Rattle.fedbundle.specs.Shown.{IsReportIn, RunsWriter, ShowsBy};
 ghost use Rattle.fedbundle.specs.Shown.{ShowsBundle, ShowsEffect, ShowsExplanation, ShowsPolls};
 ghost use Rattle.fedbundle.specs.Shown.{ShowsReport, exit_if_written, polls_form};
 ghost use Rattle.fedbundle.specs.Shown.{shown_call};
+ghost use Rattle.fedbundle.specs.ShownCommands.{RunsShown};
 ghost use Rattle.command_line.specs.declared.option_texts.BundleFormat.TheVariants.{Json, Pem};
 
 use crate::bundle::{run_bundle, run_bundle_pem};
@@ -20,7 +21,10 @@ use crate::explain::run_explain;
 use crate::option_values::read_moment;
 use crate::polls::run_polls_in;
 use crate::said_values::{read_domain, read_record};
+use crate::shown_config::run_config;
+use crate::shown_difference::diff;
 use crate::shown_held::{graph, list};
+use crate::shown_moves::{migrate, reseed_of};
 use crate::shown_status::status;
 use bundle_view::write_report;
 use byte_lines::{Sink, Source};
@@ -48,12 +52,17 @@ pub struct Shown<'call, 'words, 'a> {
 }
 
 /// Writes what the words ask for, of what is held, and returns the exit status: 1 for a `status`
-/// with a warning, and otherwise 0. `explain` and `polls`, and `status` with `--polls`, read the
-/// source, to its end or as far as [`run_explain`] and [`run_polls_in`] say; the others leave it.
-/// `distrust` only shows what the record would change, whether or not the words have `--dry-run`.
+/// with a warning, for a `config` or a `diff` that found a difference, and for a `migrate` or a
+/// `reseed` that reports something on `complaints`; and otherwise 0. Only those two write there.
+///
+/// `explain` and `polls`, and `status` with `--polls`, read the source, to its end or as far as
+/// [`run_explain`] and [`run_polls_in`] say. It has the other configuration for `config` with
+/// `--with` and `migrate` with `--to`, and a snapshot of the other side for `diff`, which all read
+/// it to its end. The others leave it. `distrust` only shows what the record would change, whether
+/// or not the words have `--dry-run`.
 ///
 /// # Errors
-/// Where the words are refused, neither the source nor the sink was touched.
+/// Where the words are refused, no device was touched.
 /// - [`Exit::Usage`]: an option is missing or has no form that the command has, or the command is
 ///   another one,
 /// - [`Exit::BadKey`], [`Exit::BadMoment`], [`Exit::BadNumber`]: the text of `--key`, of `--now`,
@@ -61,14 +70,38 @@ pub struct Shown<'call, 'words, 'a> {
 /// - [`Exit::NoBundle`]: `bundle`, of a domain that has no current document. Nothing was written.
 /// - [`Exit::NotAccepted`]: `explain`, of a document that is not accepted. Nothing was written.
 /// - [`Exit::Refused`]: the name of the domain is none, or the error of the command's function.
-pub fn run_shown<C: Closure, R: Source, W: Sink>(
+pub fn run_shown<C: Closure, R: Source, W: Sink, E: Sink>(
+    alloc: Global,
+    closure: &C,
+    shown: Shown<'_, '_, '_>,
+    source: &mut R,
+    sink: &mut W,
+    complaints: &mut E,
+) -> Result<u8, Exit>
+    ensures { RunsShown (shown_call shown.entry (C.state closure.now).meaning)
+        (run_of (device_run R.remaining R.has_failed source.old source.new)
+        (device_run W.contents W.has_failed sink.old sink.new))
+        (device_run E.contents E.has_failed complaints.old complaints.new) result }
+{
+    match shown.call.name {
+        CommandName::Config => run_config(alloc, closure.config(), shown.call, source, sink),
+        CommandName::Diff => diff(alloc, closure, shown, source, sink),
+        CommandName::Migrate => migrate(alloc, closure, shown, source, sink, complaints),
+        CommandName::Reseed => reseed_of(alloc, closure, shown, sink, complaints),
+        _ => show_alone(alloc, closure, shown, source, sink),
+    }
+}
+
+// The commands that write on one sink.
+fn show_alone<C: Closure, R: Source, W: Sink>(
     alloc: Global,
     closure: &C,
     shown: Shown<'_, '_, '_>,
     source: &mut R,
     sink: &mut W,
 ) -> Result<u8, Exit>
-    ensures { RunsShown (shown_call shown.entry (C.state closure.now).meaning)
+    ensures { ShowsBy shown.entry.call.now.name
+        (shown_call shown.entry (C.state closure.now).meaning)
         (run_of (device_run R.remaining R.has_failed source.old source.new)
         (device_run W.contents W.has_failed sink.old sink.new)) result }
 {

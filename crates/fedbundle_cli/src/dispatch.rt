@@ -69,6 +69,7 @@ fn empty_path(call: &Call<'_>) -> Option<OptionName> {
         OptionName::Socket,
         OptionName::ReadSocket,
         OptionName::Polls,
+        OptionName::Audit,
     ];
     paths
         .iter()

@@ -1,10 +1,11 @@
 // `replica`: what the words say of it, read, and the replica run.
 use command_line::number_given;
 use command_streams::options::may_listen;
-use command_streams::{options, warn_of_anywhere};
+use command_streams::{options, progress_mode, warn_of_anywhere};
 use fed_config::Config;
-use fedbundle::{Call, CommandError, Exit, OptionName, given, manner_of, wanted};
+use fedbundle::{Call, CommandError, Exit, OptionName, given, is_flag_given, manner_of, wanted};
 use local_answers::PageLimits;
+use progress_line::ProgressMode;
 use replica_loop::{Settings, run_replica};
 use std::alloc::Global;
 use std::net::SocketAddr;
@@ -38,7 +39,7 @@ const MOST_PEERS: usize = 16;
 /// Runs the replica until it is asked to end.
 pub(crate) fn run(rt: &HostRuntime, config: &Config, call: &Call<'_>) -> Result<u8, Exit> {
     let peers = peers_of(rt.alloc(), given(call, OptionName::Peers))?;
-    let settings = settings_of(call, peers.as_slice())?;
+    let settings = settings_of(call, peers.as_slice(), progress_mode(rt))?;
     for address in [settings.listen, settings.health].into_iter().flatten() {
         warn_of_anywhere(rt, address);
     }
@@ -46,12 +47,17 @@ pub(crate) fn run(rt: &HostRuntime, config: &Config, call: &Call<'_>) -> Result<
     Ok(0)
 }
 
-fn settings_of<'a, 'p>(call: &Call<'a>, peers: &'p [SocketAddr]) -> Result<Settings<'a, 'p>, Exit> {
+fn settings_of<'a, 'p>(
+    call: &Call<'a>,
+    peers: &'p [SocketAddr],
+    progress: ProgressMode,
+) -> Result<Settings<'a, 'p>, Exit> {
     let manner = manner_of(call)?;
     Ok(Settings {
         state: wanted(call, OptionName::State)?,
         socket: wanted(call, OptionName::Socket)?,
         read_socket: given(call, OptionName::ReadSocket),
+        audit: given(call, OptionName::Audit),
         listen: listen_of(call)?,
         health: health_of(call)?,
         page_limits: page_limits_of(call)?,
@@ -60,8 +66,9 @@ fn settings_of<'a, 'p>(call: &Call<'a>, peers: &'p [SocketAddr]) -> Result<Setti
         every: Duration::from_secs(every_of(given(call, OptionName::Every))?),
         most_bytes: manner.most_bytes,
         most_request_bytes: request_bytes_of(given(call, OptionName::MostRequestBytes))?,
-        is_new: given(call, OptionName::New) == Some("true"),
+        is_new: is_flag_given(given(call, OptionName::New)),
         is_verbose: manner.is_verbose,
+        progress,
     })
 }
 

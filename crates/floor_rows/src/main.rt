@@ -58,6 +58,7 @@ fn call_with_bytes(
         "ignored" => found_flaws::ignored(alloc, text, answer),
         "quoted" => found_flaws::quote(alloc, text, answer),
         "key_parts" => key_parts::read(alloc, text, answer),
+        "name_text" => key_parts::read_name(alloc, text, answer),
         "errors" => errors::report_all(answer),
         _ => match str::from_utf8(text) {
             Ok(text) => call_with_text(alloc, script, row, text, answer),
@@ -81,6 +82,7 @@ fn call_with_text(
         "url_text" => elements::read_url_text(alloc, script, text, answer),
         "non_empty_text" => elements::read_non_empty_text(alloc, script, text, answer),
         "certificate" => elements::read_certificate(alloc, script, text, answer),
+        "moment_text" => key_parts::read_moment(alloc, text, answer),
         _ => answer.push_str("unknown verb\n"),
     }
 }

@@ -2,5 +2,6 @@ mod DomainKeyFacts
 mod ListingFacts
 mod MatchingFacts
 mod MetFacts
+mod PartFacts
 mod PieceFacts
 mod PublicKeyFacts

@@ -2,4 +2,5 @@
 pub mod KeysSoFar
 pub mod Listed
 pub mod MetIds
+pub mod PartTexts
 pub mod PublicKeys

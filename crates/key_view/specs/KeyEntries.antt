@@ -1,6 +1,7 @@
 -- What is known of the keys of each domain
 use Rattle.std.specs.Prelude.{◌≡◌, ◌↔◌, ℕ, Bool, false, not, ◌&&◌, cond, IsTrue, List, [], ◌∷◌, map}
-use Rattle.std.specs.Prelude.{length, Contains, Option, Some, None, nat_eq}
+use Rattle.std.specs.Prelude.{length, Contains, Option, Some, None, option_map, string_bytes}
+use Rattle.std.specs.Prelude.{nat_eq}
 use Rattle.std.specs.Str.{bytes_eq}
 use Rattle.std.specs.List.{AllZip, list_any}
 use Rattle.sha2.specs.Sha256.{sha256}
@@ -14,6 +15,8 @@ use Rattle.receipt_core.specs.Acceptance.{Meaning}
 use Rattle.receipt_core.specs.declared.distrust.Distrust.{Distrust}
 use Rattle.closure_core.specs.AcceptedList.{IsAcceptedList}
 use Rattle.cert_key.specs.Certificate.{Certificate, IsSpelled, parts_of}
+use Rattle.cert_key.specs.Moment.{moment_of, moment_text}
+use Rattle.cert_key.specs.Name.{IsNameText}
 use Rattle.key_view.specs.declared.key_listing.DomainKeys.{DomainKeys}
 use Rattle.key_view.specs.declared.known_entry.KeyEntry.{KeyEntry}
 use Rattle.key_view.specs.declared.known_entry.KeyParts.{KeyParts}
@@ -28,16 +31,20 @@ pub record DomainView : Type 0 where
   pub accepted : List Bundle
   pub records : List Distrust
 
--- what the certificate says, with the digest of its public key
-pub record IsToldBy (c : Certificate) (p : KeyParts) : Type 0 where
+-- what the certificate says: the digest of its public key, its validity in seconds and as dates,
+-- and its subject
+pub record IsReadOf (c : Certificate) (p : KeyParts) : Type 0 where
   pub public_key : p.public_key ≡ sha256 (parts_of c).public_key
   pub not_before : p.not_before ≡ (parts_of c).not_before
   pub not_after : p.not_after ≡ (parts_of c).not_after
+  pub valid_from : string_bytes p.valid_from ≡ moment_text (moment_of c.not_before)
+  pub valid_until : string_bytes p.valid_until ≡ moment_text (moment_of c.not_after)
+  pub subject : IsNameText (parts_of c).subject (option_map string_bytes p.subject)
 
--- what is told of these bytes: none where they spell no certificate
+-- what these bytes say as a certificate, and nothing if they do not spell one
 abbrev pub IsKeyParts : List ℕ → Option KeyParts → Type 0
 IsKeyParts der None = (c : Certificate) → IsSpelled c der → ⊥
-IsKeyParts der (Some p) = (c : Certificate) × IsSpelled c der × IsToldBy c p
+IsKeyParts der (Some p) = (c : Certificate) × IsSpelled c der × IsReadOf c p
 
 -- the authority is one of X.509, and has this key
 abbrev pub is_some_key : Option KeyId → KeyId → Bool

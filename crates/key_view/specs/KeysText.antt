@@ -1,6 +1,6 @@
 -- What is printed of the keys
 use Rattle.std.specs.Prelude.{◌≡◌, ℕ, ℤ, Bool, false, not, cond, List, [], ◌∷◌, ◌++◌, map, flat_map}
-use Rattle.std.specs.Prelude.{codes, Option, Some, None}
+use Rattle.std.specs.Prelude.{codes, Option, Some, None, option_map, string_bytes}
 use Rattle.std.specs.Str.{bytes_eq}
 use Rattle.std.specs.Fmt.{signed_decimal}
 use Rattle.hex.specs.Hex.{encode_lower}
@@ -44,7 +44,8 @@ no_parts_text = codes " public-key none from none to none"
 
 abbrev pub read_parts_text : KeyParts → List ℕ
 read_parts_text p = labelled (codes " public-key ") (encode_lower p.public_key)
-    ++ (key_number (codes " from ") p.not_before ++ key_number (codes " to ") p.not_after)
+    ++ (labelled (codes " from ") (string_bytes p.valid_from)
+    ++ labelled (codes " to ") (string_bytes p.valid_until))
 
 abbrev pub parts_text : Option KeyParts → List ℕ
 parts_text None = no_parts_text
@@ -57,13 +58,30 @@ abbrev pub bundles_text : List DocId → List ℕ
 bundles_text [] = codes " bundles none"
 bundles_text (id ∷ others) = labelled (codes " bundles") [] ++ bundle_words (id ∷ others)
 
+-- a subject as it is, which is no word here: it has a `=` if it is not empty
+abbrev pub subject_words : Option (List ℕ) → List ℕ
+subject_words None = codes "none"
+subject_words (Some []) = codes "empty"
+subject_words (Some (b ∷ bytes)) = b ∷ bytes
+
+abbrev pub subject_of : Option KeyParts → Option (List ℕ)
+subject_of None = None
+subject_of (Some p) = option_map string_bytes p.subject
+
+-- A subject can have spaces, so it ends the line.
+unfoldable pub subject_ending : List ℕ → List ℕ
+subject_ending words = codes " subject " ++ (words ++ codes "\n")
+
+abbrev pub subject_end : Option (List ℕ) → List ℕ
+subject_end subject = subject_ending (subject_words subject)
+
 -- the line of a key among those of its domain
 abbrev pub known_key_line : List ℕ → List KeyEntry → KeyEntry → List ℕ
 known_key_line domain keys e = labelled (codes "key ") (encode_lower e.key.0)
     ++ (labelled (codes " domain ") domain ++ (parts_text e.parts
     ++ (labelled (codes " distrusted ") (yes_or_no e.is_distrusted)
     ++ (labelled (codes " same-public-key ") (yes_or_no (has_distrusted_key keys e))
-    ++ (bundles_text e.bundles.items ++ closing (codes "\n"))))))
+    ++ (bundles_text e.bundles.items ++ subject_end (subject_of e.parts))))))
 
 abbrev pub domain_lines : Option (List ℕ) → DomainKeys → List ℕ
 domain_lines chosen k = cond (is_of_other chosen k.domain) []
@@ -72,12 +90,26 @@ domain_lines chosen k = cond (is_of_other chosen k.domain) []
 -- ---- JSON
 
 unfoldable pub no_parts_json : List ℕ
-no_parts_json = codes ",\"public_key\":null,\"not_before\":null,\"not_after\":null"
+no_parts_json =
+    codes ",\"public_key\":null,\"not_before\":null,\"not_after\":null"
+    ++ codes ",\"valid_from\":null,\"valid_until\":null,\"subject\":null"
+
+unfoldable pub no_subject_json : List ℕ
+no_subject_json = codes ",\"subject\":null"
+
+abbrev pub subject_json : Option (List ℕ) → List ℕ
+subject_json None = no_subject_json
+subject_json (Some text) = string_member (codes ",\"subject\":") text
+
+abbrev pub texts_json : KeyParts → List ℕ
+texts_json p = string_member (codes ",\"valid_from\":") (string_bytes p.valid_from)
+    ++ (string_member (codes ",\"valid_until\":") (string_bytes p.valid_until)
+    ++ subject_json (option_map string_bytes p.subject))
 
 abbrev pub read_parts_json : KeyParts → List ℕ
 read_parts_json p = digest_member (codes ",\"public_key\":") p.public_key
     ++ (key_number (codes ",\"not_before\":") p.not_before
-    ++ key_number (codes ",\"not_after\":") p.not_after)
+    ++ (key_number (codes ",\"not_after\":") p.not_after ++ texts_json p))
 
 abbrev pub parts_json : Option KeyParts → List ℕ
 parts_json None = no_parts_json

@@ -1,12 +1,15 @@
 //! The keys as lines and as compact JSON.
 ghost use Rattle.std.specs.Prelude.{◌≡◌, ◌++◌, codes, flat_map, map, option_copied, IfOk, OnOk};
+ghost use Rattle.std.specs.Prelude.{option_map, Some, string_bytes};
 ghost use Rattle.json_text.specs.JsonText.{array_member};
 ghost use Rattle.hex.specs.Hex.{encode_lower};
 ghost use Rattle.key_view.specs.KeysText.{IsKeysText, IsSameKeysText, bundle_words, bundles_text};
 ghost use Rattle.key_view.specs.KeysText.{domain_jsons, domain_lines, is_of_other, known_key_json};
 ghost use Rattle.key_view.specs.KeysText.{closing, known_key_line, key_number, keys_in, keys_json};
 ghost use Rattle.key_view.specs.KeysText.{labelled};
-ghost use Rattle.key_view.specs.KeysText.{no_parts_json, no_parts_text, read_parts_json};
+ghost use Rattle.key_view.specs.KeysText.{no_parts_json, no_parts_text, no_subject_json};
+ghost use Rattle.key_view.specs.KeysText.{read_parts_json, subject_end, subject_ending};
+ghost use Rattle.key_view.specs.KeysText.{subject_json, subject_of, texts_json};
 ghost use Rattle.key_view.specs.KeysText.{read_parts_text};
 ghost use Rattle.key_view.specs.KeysText.{parts_json, parts_text, quoted_id, same_key_line};
 ghost use Rattle.key_view.specs.KeysText.{same_key_lines, same_keys, yes_or_no};
@@ -26,16 +29,20 @@ use text_lines::TextLine;
 /// How the keys are written.
 #[derive(Clone, Copy, Debug, PartialEq, Eq)]
 pub enum KeysForm {
-    /// A line for each: `key <key id> domain <domain> public-key <digest> from <moment> to <moment>
-    /// distrusted <yes or no> same-public-key <yes or no> bundles <document id>..`. The digest is
-    /// the SHA-256 of the certificate's public key, and a moment is in seconds since the Unix
-    /// epoch; where the certificate is not read, they are `none`. A key has the same public key
-    /// if an accepted document lists it and it is not distrusted, though a distrusted key of the
-    /// domain has its public key. The bundles are `none` where no accepted document lists the key.
+    /// A line for each: `key <key id> domain <domain> public-key <digest> from <time> to <time>
+    /// distrusted <yes or no> same-public-key <yes or no> bundles <document id>.. subject
+    /// <subject>`. The digest is the SHA-256 of the certificate's public key, a time is a date
+    /// and a time in UTC, `YYYY-MM-DDTHH:MM:SSZ`, and the subject is a text of RFC 4514
+    /// ([`cert_key::name_text`]); if the certificate is not read, they are `none`. The subject is
+    /// also `none` if it alone is not read, and `empty` if it is empty. A key has the same public
+    /// key if an accepted document lists it and it is not distrusted, though a distrusted key of
+    /// the domain has its public key. The bundles are `none` if no accepted document lists the key.
     Lines,
     /// A compact JSON object of one member, `keys`, and a line feed. It has an object for each, of
-    /// `key`, `domain`, `public_key`, `not_before`, `not_after`, which are `null` where the
-    /// certificate is not read, `distrusted`, `same_public_key` and `bundles`.
+    /// `key`, `domain`, `public_key`, `not_before` and `not_after` in seconds since the Unix epoch,
+    /// `valid_from` and `valid_until` as in a line, `subject`, which all are `null` if the
+    /// certificate is not read, `distrusted`, `same_public_key` and `bundles`. The subject is also
+    /// `null` if it alone is not read.
     Json,
 }
 
@@ -228,7 +235,7 @@ fn push_key_line(
     push_yes_or_no(out, b" distrusted ", entry.is_distrusted)?;
     push_yes_or_no(out, b" same-public-key ", keys.has_distrusted_key(entry))?;
     push_bundles(out, entry.bundles.as_slice())?;
-    push_closing(out, b"\n")?;
+    push_subject_end(out, &entry.parts)?;
     Ok(())
 }
 
@@ -244,14 +251,9 @@ fn push_parts(out: &mut Vec<u8>, parts: &Option<KeyParts>) -> Result<(), AllocEr
 fn push_read_parts(out: &mut Vec<u8>, parts: &KeyParts) -> Result<(), AllocError>
     ensures { OnOk result (out.new.items ≡ out.old.items ++ read_parts_text parts.now) }
 {
-    let KeyParts {
-        public_key,
-        not_before,
-        not_after,
-    } = *parts;
-    push_id(out, b" public-key ", &public_key)?;
-    push_number(out, b" from ", not_before)?;
-    push_number(out, b" to ", not_after)?;
+    push_id(out, b" public-key ", &parts.public_key)?;
+    push_labelled(out, b" from ", parts.valid_from.as_bytes())?;
+    push_labelled(out, b" to ", parts.valid_until.as_bytes())?;
     Ok(())
 }
 
@@ -260,6 +262,44 @@ fn push_no_parts(out: &mut Vec<u8>) -> Result<(), AllocError>
     ensures { OnOk result (out.new.items ≡ out.old.items ++ no_parts_text) }
 {
     out.extend_from_slice(b" public-key none from none to none")
+}
+
+fn push_subject_end(out: &mut Vec<u8>, parts: &Option<KeyParts>) -> Result<(), AllocError>
+    ensures { OnOk result (out.new.items ≡ out.old.items ++ subject_end (subject_of parts.now)) }
+{
+    match parts {
+        Some(parts) => push_subject(out, &parts.subject),
+        None => push_ending(out, b"none"),
+    }
+}
+
+fn push_subject(out: &mut Vec<u8>, subject: &Option<String>) -> Result<(), AllocError>
+    ensures { OnOk result (out.new.items
+        ≡ out.old.items ++ subject_end (option_map string_bytes subject.now)) }
+{
+    match subject {
+        Some(text) => push_subject_text(out, text.as_bytes()),
+        None => push_ending(out, b"none"),
+    }
+}
+
+fn push_subject_text(out: &mut Vec<u8>, text: &[u8]) -> Result<(), AllocError>
+    ensures { OnOk result (out.new.items ≡ out.old.items ++ subject_end (Some text.now)) }
+{
+    if text.is_empty() {
+        push_ending(out, b"empty")
+    } else {
+        push_ending(out, text)
+    }
+}
+
+#[tactic(auto, unfolding(crate::specs::KeysText::subject_ending))]
+fn push_ending(out: &mut Vec<u8>, words: &[u8]) -> Result<(), AllocError>
+    ensures { OnOk result (out.new.items ≡ out.old.items ++ subject_ending words.now) }
+{
+    out.extend_from_slice(b" subject ")?;
+    out.extend_from_slice(words)?;
+    out.extend_from_slice(b"\n")
 }
 
 fn push_bundles(out: &mut Vec<u8>, bundles: &[DocId]) -> Result<(), AllocError>
@@ -396,7 +436,7 @@ fn known_key_json(
     let mut text = Vec::new(alloc);
     push_digest(&mut text, b"{\"key\":", &entry.key.0)?;
     push_string(alloc, &mut text, b",\"domain\":", domain.as_str())?;
-    push_parts_json(&mut text, &entry.parts)?;
+    push_parts_json(alloc, &mut text, &entry.parts)?;
     push_truth(&mut text, b",\"distrusted\":", entry.is_distrusted)?;
     push_truth(
         &mut text,
@@ -408,34 +448,69 @@ fn known_key_json(
     Ok(TextLine::new(text))
 }
 
-fn push_parts_json(out: &mut Vec<u8>, parts: &Option<KeyParts>) -> Result<(), AllocError>
+fn push_parts_json(
+    alloc: Global,
+    out: &mut Vec<u8>,
+    parts: &Option<KeyParts>,
+) -> Result<(), AllocError>
     ensures { OnOk result (out.new.items ≡ out.old.items ++ parts_json parts.now) }
 {
     match parts {
-        Some(parts) => push_read_parts_json(out, parts),
+        Some(parts) => push_read_parts_json(alloc, out, parts),
         None => push_no_parts_json(out),
     }
 }
 
-fn push_read_parts_json(out: &mut Vec<u8>, parts: &KeyParts) -> Result<(), AllocError>
+fn push_read_parts_json(
+    alloc: Global,
+    out: &mut Vec<u8>,
+    parts: &KeyParts,
+) -> Result<(), AllocError>
     ensures { OnOk result (out.new.items ≡ out.old.items ++ read_parts_json parts.now) }
 {
-    let KeyParts {
-        public_key,
-        not_before,
-        not_after,
-    } = *parts;
-    push_digest(out, b",\"public_key\":", &public_key)?;
-    push_number(out, b",\"not_before\":", not_before)?;
-    push_number(out, b",\"not_after\":", not_after)?;
+    push_digest(out, b",\"public_key\":", &parts.public_key)?;
+    push_number(out, b",\"not_before\":", parts.not_before)?;
+    push_number(out, b",\"not_after\":", parts.not_after)?;
+    push_texts_json(alloc, out, parts)?;
     Ok(())
+}
+
+fn push_texts_json(alloc: Global, out: &mut Vec<u8>, parts: &KeyParts) -> Result<(), AllocError>
+    ensures { OnOk result (out.new.items ≡ out.old.items ++ texts_json parts.now) }
+{
+    push_string(alloc, out, b",\"valid_from\":", parts.valid_from.as_str())?;
+    push_string(alloc, out, b",\"valid_until\":", parts.valid_until.as_str())?;
+    push_subject_json(alloc, out, &parts.subject)?;
+    Ok(())
+}
+
+fn push_subject_json(
+    alloc: Global,
+    out: &mut Vec<u8>,
+    subject: &Option<String>,
+) -> Result<(), AllocError>
+    ensures { OnOk result (out.new.items
+        ≡ out.old.items ++ subject_json (option_map string_bytes subject.now)) }
+{
+    match subject {
+        Some(text) => push_string(alloc, out, b",\"subject\":", text.as_str()),
+        None => push_no_subject_json(out),
+    }
+}
+
+#[tactic(auto, unfolding(crate::specs::KeysText::no_subject_json))]
+fn push_no_subject_json(out: &mut Vec<u8>) -> Result<(), AllocError>
+    ensures { OnOk result (out.new.items ≡ out.old.items ++ no_subject_json) }
+{
+    out.extend_from_slice(b",\"subject\":null")
 }
 
 #[tactic(auto, unfolding(crate::specs::KeysText::no_parts_json))]
 fn push_no_parts_json(out: &mut Vec<u8>) -> Result<(), AllocError>
     ensures { OnOk result (out.new.items ≡ out.old.items ++ no_parts_json) }
 {
-    out.extend_from_slice(b",\"public_key\":null,\"not_before\":null,\"not_after\":null")
+    out.extend_from_slice(b",\"public_key\":null,\"not_before\":null,\"not_after\":null")?;
+    out.extend_from_slice(b",\"valid_from\":null,\"valid_until\":null,\"subject\":null")
 }
 
 fn push_bundles_json(alloc: Global, out: &mut Vec<u8>, bundles: &[DocId]) -> Result<(), AllocError>

@@ -9,11 +9,19 @@ use Rattle.fedbundle.specs.Distrust.{ShowsDistrust}
 use Rattle.fedbundle.specs.Exits.{AppendsExit, exit_status_of}
 use Rattle.fedbundle.specs.Explain.{ExplanationCall, RunsExplain, explanation_call}
 use Rattle.fedbundle.specs.Polls.{RunsPollsIn, polls_call}
-use Rattle.fedbundle.specs.Shown.{IsReportIn, RunsShown, RunsWriter, ShownCall, ShowsBundle, ShowsBy, ShowsEffect, ShowsExplanation}
+use Rattle.fedbundle.specs.Shown.{IsReportIn, RunsWriter, ShownCall, ShowsBundle, ShowsBy, ShowsEffect, ShowsExplanation}
 use Rattle.fedbundle.specs.Shown.{ShowsGraph, ShowsList, ShowsPolls, ShowsReport, ShowsSight, ShowsStanding, ShowsStatus, StatusSight, exit_if_done}
 use Rattle.fedbundle.specs.Shown.{exit_if_warned, exit_if_written, polls_form, shown_said, sight_of_call, watched_by}
+use Rattle.fedbundle.specs.Migrate.{Move, RunsMigrate}
+use Rattle.fedbundle.specs.ShownCommands.{Compares, ComparesConfigsIn, ConfigCall, EndsMove, IsConfigIn, MovesTo, PrintsReseeded, PrintsWhole, RunsShown}
+use Rattle.fedbundle.specs.ShownCommands.{ShowsConfig, ShowsConfigIn, ShowsDifference, ShowsMove}
+use Rattle.fedbundle.specs.ShownCommands.{ShowsNamed, ShowsReseed, config_call, config_said, exit_if_same}
+use Rattle.fed_config.specs.Configuration.{Configuration}
+use Rattle.migration.specs.declared.carrying.Choice.{Choice}
+use Rattle.reseeding.specs.declared.starting_anew.Reseeded.{Reseeded}
+use Rattle.reseeding.specs.declared.starting_anew.Reseeded.TheVariants.{NewConfig, Refusals}
 use Rattle.status_warnings.specs.declared.seen.Fetch.{Fetch}
-use Rattle.command_line.specs.declared.command_name.OptionName.TheVariants.{Polls}
+use Rattle.command_line.specs.declared.command_name.OptionName.TheVariants.{Polls, To, With}
 use Rattle.status_warnings.specs.WarnedStatus.{IsWarnedStatusIn}
 use Rattle.command_line.specs.declared.command_name.CommandName.{CommandName}
 use Rattle.command_line.specs.declared.command_name.CommandName.TheVariants as command
@@ -24,6 +32,7 @@ use Rattle.fedbundle.specs.declared.exits.Exit.TheVariants.{NoBundle, NotAccepte
 use Rattle.command_line.specs.declared.option_texts.BundleFormat.{BundleFormat}
 use Rattle.command_line.specs.declared.option_texts.BundleFormat.TheVariants.{Json, Pem}
 use Rattle.command_line.specs.declared.option_texts.OutputForm.{OutputForm}
+use Rattle.command_line.specs.declared.option_texts.OutputForm.TheVariants as output
 use Rattle.local_answers.specs.RequestRun.{Answers, AnswersShown, CallRun, Ends, EndsAnyhow, EndsOver, EndsShown, IsEnded, IsWith}
 use Rattle.local_answers.specs.RequestRun.{exit_over_memory, memory_exit, shown_in}
 use Rattle.local_answers.specs.declared.reply.Reply.{Reply}
@@ -183,39 +192,144 @@ shown_unwritten command.Status call run exit shows sound = status_unwritten call
 shown_unwritten command.Distrust call run exit shows sound = effect_call_unwritten call run.sink exit shows.0 sound
 shown_unwritten name call run exit shows sound = shows.0.unwritten.0
 
+-- of two that are compared
+same_unwritten : (Is : List ℕ → Type 0) (sink : DeviceRun) (answer : Result Bool CommandError) (exit : Exit) → RunsWriter Is sink answer
+    → Err exit ≡ exit_if_same answer → (exit ≡ Refused Io → ⊥) → WritesNothing sink
+same_unwritten Is sink (Ok v) exit runs is sound = let no : ⊥ = cc in absurd no
+same_unwritten Is sink (Err Io) exit runs is sound = let same : exit ≡ Refused Io = cc in absurd (sound same)
+same_unwritten Is sink (Err NoMemory) exit runs is sound = runs
+same_unwritten Is sink (Err e) exit runs is sound = absurd runs
+
+compared_unwritten : (Is : List ℕ → Type 0) (Same : Type 0) (sink : DeviceRun) (exit : Exit) → Compares Is Same sink (Err exit)
+    → (exit ≡ Refused Io → ⊥) → WritesNothing sink
+compared_unwritten Is Same sink exit compares sound = same_unwritten Is sink compares.answer exit compares.runs compares.is sound
+
+-- of `config`
+configs_unwritten : (form : OutputForm) (c : Configuration) (run : CommandRun) (exit : Exit) → ComparesConfigsIn form c run (Err exit)
+    → (exit ≡ Refused Io → ⊥) → WritesNothing run.sink
+configs_unwritten output.Text c run exit (inl ended) sound = ended.unwritten.0
+configs_unwritten output.Text c run exit (inr compares) sound = compared_unwritten _ _ run.sink exit compares.compares sound
+configs_unwritten output.Json c run exit refused sound = refused.0.unwritten.0
+
+config_in_unwritten : (with : Option (List ℕ)) (form : OutputForm) (c : Configuration) (run : CommandRun) (exit : Exit)
+    → ShowsConfigIn with form c run (Err exit) → (exit ≡ Refused Io → ⊥) → WritesNothing run.sink
+config_in_unwritten None form c run exit shows sound =
+    writer_unwritten (IsConfigIn form c) run.sink shows.0.answer exit shows.0.runs shows.0.is sound
+config_in_unwritten (Some path) form c run exit compares sound = configs_unwritten form c run exit compares sound
+
+config_unwritten : (call : ConfigCall) (run : CommandRun) (exit : Exit) → ShowsConfig call run (Err exit) → (exit ≡ Refused Io → ⊥)
+    → WritesNothing run.sink
+config_unwritten call run exit (inl refused) sound = refused.0.unwritten.0
+config_unwritten call run exit (inr shows) sound =
+    config_in_unwritten (config_said call With) shows.form call.config run exit shows.shows sound
+
+-- of `diff`
+difference_unwritten : (call : ShownCall) (run : CommandRun) (exit : Exit) → ShowsDifference call run (Err exit) → (exit ≡ Refused Io → ⊥)
+    → WritesNothing run.sink
+difference_unwritten call run exit (inl refused) sound = refused.0.unwritten.0
+difference_unwritten call run exit (inr (inl ended)) sound = ended.unwritten.0
+difference_unwritten call run exit (inr (inr compares)) sound = compared_unwritten _ _ run.sink exit compares.compares sound
+
+-- of `migrate`, on both sinks
+answer_unwritten : (move : Move) (sink complaints : DeviceRun) (answer : Result ℕ CommandError) (exit : Exit) → RunsMigrate move sink complaints answer
+    → EndsMove answer (Err exit) → (exit ≡ Refused Io → ⊥) → (exit ≡ Refused NoMemory → ⊥) → WritesNothing sink × WritesNothing complaints
+answer_unwritten move sink complaints (Ok n) exit runs (inl (none, same)) sound memory = let no : ⊥ = cc in absurd no
+answer_unwritten move sink complaints (Ok n) exit runs (inr (some, same)) sound memory = let no : ⊥ = cc in absurd no
+answer_unwritten move sink complaints (Err Io) exit runs is sound memory = let same : exit ≡ Refused Io = cc in absurd (sound same)
+answer_unwritten move sink complaints (Err NoMemory) exit runs is sound memory = let same : exit ≡ Refused NoMemory = cc in absurd (memory same)
+answer_unwritten move sink complaints (Err e) exit runs is sound memory = absurd runs.answer
+
+move_unwritten : (move : Move) (sink complaints : DeviceRun) (exit : Exit) → ShowsMove move sink complaints (Err exit) → (exit ≡ Refused Io → ⊥)
+    → (exit ≡ Refused NoMemory → ⊥) → WritesNothing sink × WritesNothing complaints
+move_unwritten move sink complaints exit shows sound memory = answer_unwritten move sink complaints shows.answer exit shows.runs shows.is sound memory
+
+moves_unwritten : (said : Option (List ℕ)) (choice : Choice) (m : Meaning) (run : CommandRun) (complaints : DeviceRun) (exit : Exit)
+    → MovesTo said choice m run complaints (Err exit) → (exit ≡ Refused Io → ⊥) → (exit ≡ Refused NoMemory → ⊥)
+    → WritesNothing run.sink × WritesNothing complaints
+moves_unwritten None choice m run complaints exit moves sound memory = move_unwritten _ run.sink complaints exit moves.0 sound memory
+moves_unwritten (Some path) choice m run complaints exit (inl ended) sound memory = (ended.0.unwritten.0, ended.1.0)
+moves_unwritten (Some path) choice m run complaints exit (inr on) sound memory = move_unwritten _ run.sink complaints exit on.moves sound memory
+
+-- of `reseed`, on both sinks
+whole_failed : (text : List ℕ) (status : ℕ) (device : DeviceRun) (exit : Exit) → PrintsWhole text status device (Err exit) → exit ≡ Refused Io
+whole_failed text status device (Refused Io) whole = refl
+whole_failed text status device exit whole = absurd whole
+
+reseeded_failed : (outcome : Reseeded) (sink complaints : DeviceRun) (exit : Exit) → PrintsReseeded outcome sink complaints (Err exit)
+    → exit ≡ Refused Io
+reseeded_failed (NewConfig text) sink complaints exit prints = whole_failed text.items 0 sink exit prints.0
+reseeded_failed (Refusals lines) sink complaints exit prints = whole_failed lines.items 1 complaints exit prints.0
+
+reseed_unwritten : (call : ShownCall) (sink complaints : DeviceRun) (exit : Exit) → ShowsReseed call sink complaints (Err exit)
+    → (exit ≡ Refused Io → ⊥) → WritesNothing sink × WritesNothing complaints
+reseed_unwritten call sink complaints exit (inl refused) sound = (refused.0.unwritten.0, refused.1.0)
+reseed_unwritten call sink complaints exit (inr said) sound = elim said.reseeds [
+  | inl lacks ↦ (lacks.unwritten.0, lacks.silent.0)
+  | inr prints ↦ absurd (sound (reseeded_failed prints.outcome sink complaints exit prints.prints))
+]
+
+-- of a command by its name
+named_unwritten : (name : CommandName) (call : ShownCall) (run : CommandRun) (complaints : DeviceRun) (exit : Exit)
+    → ShowsNamed name call run complaints (Err exit) → (exit ≡ Refused Io → ⊥) → (exit ≡ Refused NoMemory → ⊥)
+    → WritesNothing run.sink × WritesNothing complaints
+named_unwritten command.Config call run complaints exit shows sound memory =
+    (config_unwritten (config_call call.name call.texts call.meaning.config) run exit shows.0 sound, shows.1.0)
+named_unwritten command.Diff call run complaints exit shows sound memory = (difference_unwritten call run exit shows.0 sound, shows.1.0)
+named_unwritten command.Migrate call run complaints exit shows sound memory =
+    moves_unwritten (shown_said call To) shows.choice call.meaning run complaints exit shows.moves sound memory
+named_unwritten command.Reseed call run complaints exit shows sound memory = reseed_unwritten call run.sink complaints exit shows.0 sound
+named_unwritten name call run complaints exit shows sound memory = (shown_unwritten name call run exit shows.0 sound, shows.1.0)
+
 -- ---- what is shown, over memory
 
 -- what runs at a second that is the one of the replica
-pub runs_at : (run : CallRun) (devices : CommandRun) (result : Result ℕ Exit) (told : ℤ) → told ≡ run.running.moment
-    → RunsShown (record (shown_in run) { moment = told }) devices result → RunsShown (shown_in run) devices result
-runs_at run devices result told same runs = subst (λ (z : ℤ). RunsShown (record (shown_in run) { moment = z }) devices result) same runs
+pub runs_at : (run : CallRun) (devices : CommandRun) (complaints : DeviceRun) (result : Result ℕ Exit) (told : ℤ) → told ≡ run.running.moment
+    → RunsShown (record (shown_in run) { moment = told }) devices complaints result → RunsShown (shown_in run) devices complaints result
+runs_at run devices complaints result told same runs =
+    subst (λ (z : ℤ). RunsShown (record (shown_in run) { moment = z }) devices complaints result) same runs
 
 -- the command ended: its device failed only where memory ran out
-ended_over : (run : CallRun) (devices : CommandRun) (exit : Exit) → devices.source.before ≡ Some run.change.input → devices.sink.before ≡ Some []
-    → RunsShown (shown_in run) devices (Err exit) → EndsOver run (exit_over_memory exit)
-ended_over run devices (Refused Io) source empty runs = inl tt
-ended_over run devices exit source empty runs = inr (record {
-  devices = devices;
-  over = record { source = source; empty = empty; filled = shown_unwritten run.name (shown_in run) devices exit runs (λ io. cc) ∙ empty };
-  runs = runs;
-})
+ended_over : (run : CallRun) (devices : CommandRun) (complaints : DeviceRun) (exit : Exit) → devices.source.before ≡ Some run.change.input
+    → devices.sink.before ≡ Some [] → complaints.before ≡ Some [] → RunsShown (shown_in run) devices complaints (Err exit)
+    → EndsOver run (exit_over_memory exit)
+ended_over run devices complaints (Refused Io) source empty silent runs = inl tt
+ended_over run devices complaints (Refused NoMemory) source empty silent runs = inl tt
+ended_over run devices complaints exit source empty silent runs =
+    let unwritten = named_unwritten run.name (shown_in run) devices complaints exit runs (λ io. cc) (λ none. cc) in
+    inr (record {
+      devices = devices;
+      over = record { source = source; empty = empty; filled = unwritten.0 ∙ empty };
+      complaints = complaints;
+      silent = silent;
+      said = unwritten.1 ∙ silent;
+      runs = runs;
+    })
 
 -- the same of how it is told
-pub shown_ended : (run : CallRun) (devices : CommandRun) (exit why : Exit) → why ≡ exit_over_memory exit
-    → devices.source.before ≡ Some run.change.input → devices.sink.before ≡ Some [] → RunsShown (shown_in run) devices (Err exit)
-    → EndsOver run why
-shown_ended run devices exit why is source empty runs =
-    subst (EndsOver run) (sym is) (ended_over run devices exit source empty runs)
+pub shown_ended : (run : CallRun) (devices : CommandRun) (complaints : DeviceRun) (exit why : Exit) → why ≡ exit_over_memory exit
+    → devices.source.before ≡ Some run.change.input → devices.sink.before ≡ Some [] → complaints.before ≡ Some []
+    → RunsShown (shown_in run) devices complaints (Err exit) → EndsOver run why
+shown_ended run devices complaints exit why is source empty silent runs =
+    subst (EndsOver run) (sym is) (ended_over run devices complaints exit source empty silent runs)
 
--- the command is done, and its output is replied
-pub shown_done : (run : CallRun) (devices : CommandRun) (output errors : List ℕ) (status : ℕ) (reply : Reply)
+-- the command is done: its output is replied, and what it complains of beside that
+pub shown_done : (run : CallRun) (devices : CommandRun) (complaints : DeviceRun) (output beside : List ℕ) (status : ℕ) (reply : Reply)
     → devices.source.before ≡ Some run.change.input → devices.sink.before ≡ Some [] → devices.sink.after ≡ Some output
-    → RunsShown (shown_in run) devices (Ok status) → errors ≡ [] → IsWith reply output errors status → AnswersShown run reply
-shown_done run devices output errors status reply source empty filled runs nothing with = record {
+    → complaints.before ≡ Some [] → complaints.after ≡ Some beside
+    → RunsShown (shown_in run) devices complaints (Ok status) → IsWith reply output beside status → AnswersShown run reply
+shown_done run devices complaints output beside status reply source empty filled silent said runs with = record {
   output = output;
+  beside = beside;
   status = status;
-  shows = record { devices = devices; over = record { source = source; empty = empty; filled = filled }; runs = runs };
-  replied = subst (λ l. IsWith reply output l status) nothing with;
+  shows = record {
+    devices = devices;
+    over = record { source = source; empty = empty; filled = filled };
+    complaints = complaints;
+    silent = silent;
+    said = said;
+    runs = runs;
+  };
+  replied = with;
 }
 
 -- ---- the reply

@@ -15,7 +15,8 @@ use Rattle.fedbundle.specs.Observe.{Fetched, IsAsHeld, RunsObserve}
 use Rattle.command_line.specs.OptionTexts.{SaysFlag, SaysManner, SaysNoManner, option_said}
 use Rattle.fedbundle.specs.SaidValues.{EndsAtDomain, SaysNoRecord, SaysNoVerdict, SaysRecord}
 use Rattle.fedbundle.specs.SaidValues.{SaysVerdict}
-use Rattle.fedbundle.specs.Shown.{RunsShown, ShownCall}
+use Rattle.fedbundle.specs.Shown.{ShownCall}
+use Rattle.fedbundle.specs.ShownCommands.{RunsShown}
 use Rattle.fedbundle.specs.Exits.{IsExitLine, exit_status_of}
 use Rattle.command_line.specs.Words.{CallsInRequest, the_command}
 use Rattle.command_line.specs.declared.command_name.CommandName.{CommandName}
@@ -52,6 +53,16 @@ pub record Gives (Runs : CommandRun → Type 0) (input output : List ℕ) : Type
   pub devices : CommandRun
   pub over : OverMemory devices input output
   pub runs : Runs devices
+
+-- The same with a second sink, which held nothing and holds what is said beside the output.
+pub record GivesBeside (Runs : CommandRun → DeviceRun → Type 0) (input output beside : List ℕ)
+    : Type 0 where
+  pub devices : CommandRun
+  pub over : OverMemory devices input output
+  pub complaints : DeviceRun
+  pub silent : complaints.before ≡ Some []
+  pub said : complaints.after ≡ Some beside
+  pub runs : Runs devices complaints
 
 -- Into some such sink this is so.
 pub record GivesInto (Runs : DeviceRun → Type 0) (output : List ℕ) : Type 0 where
@@ -235,13 +246,16 @@ shown_in run = record {
   moment = run.running.moment;
 }
 
--- A command that shows what is held, over memory: its output, and its exit status.
+-- A command that shows what is held, over memory: its output, what it complains of beside that, and
+-- its exit status.
 pub record AnswersShown (run : CallRun) (reply : Reply) : Type 0 where
   pub output : List ℕ
+  pub beside : List ℕ
   pub status : ℕ
-  pub shows : Gives (λ devices. RunsShown (shown_in run) devices (Ok status)) run.change.input
-      output
-  pub replied : IsWith reply output [] status
+  pub shows : GivesBeside
+      (λ devices complaints. RunsShown (shown_in run) devices complaints (Ok status))
+      run.change.input output beside
+  pub replied : IsWith reply output beside status
 
 -- `observe`
 pub record AnswersObserveCall (run : CallRun) (reply : Reply) : Type 0 where
@@ -299,11 +313,12 @@ EndsAnyhow run (BadNumber option) = SaysNoManner run.name run.texts (unread.BadN
 EndsAnyhow run (Refused NoMemory) = Unit {0}
 EndsAnyhow run exit = ⊥
 
--- A command that shows what is held ends over memory, with no output. No device failed.
+-- A command that shows what is held ends over memory, and nothing was written. No sink failed.
 abbrev pub EndsShown : CallRun → Exit → Type 0
 EndsShown run (Refused Io) = ⊥
-EndsShown run exit =
-    Gives (λ devices. RunsShown (shown_in run) devices (Err exit)) run.change.input []
+EndsShown run exit = GivesBeside
+    (λ devices complaints. RunsShown (shown_in run) devices complaints (Err exit))
+    run.change.input [] []
 
 -- The same, or memory ran out.
 abbrev pub EndsOver : CallRun → Exit → Type 0

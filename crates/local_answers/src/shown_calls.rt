@@ -1,5 +1,5 @@
-//! The commands that show what is held, over memory: their source has the input, and their sink is
-//! a text, whose growth is all that can fail. Beside them `stop`, which does nothing but end.
+//! The commands that show what is held, over memory: their source has the input, and their sinks
+//! are texts, whose growth is all that can fail. Beside them `stop`, which does nothing but end.
 ghost use Rattle.std.specs.Prelude.{◌≡◌, [], IfErr, IfOk};
 ghost use Rattle.fedbundle.specs.CommandRun.{state_run};
 ghost use Rattle.command_line.specs.declared.command_name.CommandName.TheVariants as command;
@@ -32,10 +32,19 @@ pub(crate) fn shown<C: Closure>(
     };
     let mut source = FromRead::new(asked.input);
     let mut output = FromWrite::new(Vec::new(alloc));
-    match run_shown(alloc, closure, shown, &mut source, &mut output) {
+    let mut complaints = FromWrite::new(Vec::new(alloc));
+    match run_shown(
+        alloc,
+        closure,
+        shown,
+        &mut source,
+        &mut output,
+        &mut complaints,
+    ) {
         Ok(status) => {
             let text = output.into_inner();
-            Ok(Reply::of_streams(alloc, status, text, Vec::new(alloc))?)
+            let beside = complaints.into_inner();
+            Ok(Reply::of_streams(alloc, status, text, beside)?)
         }
         Err(exit) => Err(over_memory(exit)),
     }

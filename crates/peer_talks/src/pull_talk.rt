@@ -2,15 +2,20 @@
 use crate::ending::Ending;
 use crate::held_state::HeldState;
 use crate::unread_bytes::UnreadBytes;
+use change_view::{HeldChange, JournalledChange, NewEntries, count_entries, last_line_digest};
 use closure_core::Closure;
 use replica_sync::{Pulling, SyncError};
 use std::alloc::{AllocError, Global};
+use std::net::SocketAddr;
 
 /// A connection on which this replica asks, and takes what is answered.
 #[derive(Drop)]
 pub struct PullTalk {
     // Which of the peers it is.
     number: usize,
+    peer: SocketAddr,
+    // How many records came that were not held.
+    records: u64,
     pulling: Pulling,
     rest: UnreadBytes,
     // How many more bytes may come.
@@ -24,10 +29,13 @@ impl PullTalk {
         alloc: Global,
         closure: &C,
         number: usize,
+        peer: SocketAddr,
         most_bytes: u64,
     ) -> Result<PullTalk, SyncError> {
         Ok(PullTalk {
             number,
+            peer,
+            records: 0,
             pulling: Pulling::new(alloc, closure)?,
             rest: UnreadBytes::new(alloc),
             bytes_left: most_bytes,
@@ -78,11 +86,22 @@ impl PullTalk {
         alloc: Global,
         held: &mut HeldState<C>,
     ) -> Result<(), SyncError> {
+        let before = held.fresh.len();
         let piece = self.rest.left();
-        let used = self
+        let read = self
             .pulling
-            .read_lines(alloc, &mut held.closure, piece, &mut held.fresh)?;
-        self.rest.took(used);
+            .read_lines(alloc, &mut held.closure, piece, &mut held.fresh);
+        let came = &held.fresh[before.min(held.fresh.len())..];
+        if !came.is_empty() {
+            let new = count_entries(came);
+            self.records = self.records.saturating_add(new.records);
+            let is_noted = match pulled(alloc, self.peer, new, came) {
+                Ok(change) => held.pulled.push(change).is_ok(),
+                Err(_) => false,
+            };
+            held.has_unreported |= !is_noted;
+        }
+        self.rest.took(read?);
         Ok(())
     }
 
@@ -117,4 +136,22 @@ impl PullTalk {
     pub fn taken(&self) -> u64 {
         self.pulling.taken()
     }
+
+    /// How many records of distrust came that were not held.
+    pub fn records(&self) -> u64 {
+        self.records
+    }
+}
+
+// What is reported of lines that came of the peer.
+fn pulled(
+    alloc: Global,
+    peer: SocketAddr,
+    new: NewEntries,
+    lines: &[u8],
+) -> Result<JournalledChange, AllocError> {
+    Ok(JournalledChange {
+        change: HeldChange::Pull(format!(in alloc; "{peer}")?, new),
+        last: last_line_digest(lines),
+    })
 }

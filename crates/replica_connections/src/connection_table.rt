@@ -326,6 +326,7 @@ impl ConnectionTable {
         bytes
     }
 
+    /// The connections, in the order in which the journal gets the lines of what they changed.
     pub fn all(&self) -> &[LiveConnection] {
         self.connections.as_slice()
     }

@@ -1,5 +1,7 @@
 //! A connection of this machine, on which one request comes and one reply goes.
+use crate::change_notes::ComingChange;
 use crate::request_work::work_of;
+use change_view::JournalledChange;
 use closure_core::Closure;
 use fair_turns::{ByteRoom, Work};
 use local_answers::{
@@ -30,6 +32,8 @@ pub struct LocalTalk {
     answer: LocalAnswer,
     // How many bytes the request has so far, or the reply of a command.
     held: u64,
+    // What it changed that is not on the disk yet.
+    change: Option<JournalledChange>,
 }
 
 // What is being sent.
@@ -51,6 +55,7 @@ impl LocalTalk {
             parts: RequestParts::new(alloc),
             answer: LocalAnswer::Awaited,
             held: 0,
+            change: None,
         }
     }
 
@@ -61,6 +66,7 @@ impl LocalTalk {
             parts: RequestParts::new(alloc),
             answer: LocalAnswer::Fault(RequestFault::TooManyRequests.reply()),
             held: 0,
+            change: None,
         }
     }
 
@@ -135,10 +141,45 @@ impl LocalTalk {
             self.refuse(alloc, RequestFault::TooManyRequests);
             return;
         }
+        let coming = self.coming(alloc, &held.closure);
         match self.carry_out(alloc, held, around) {
-            Ok(reply) => self.reply_within(alloc, reply, around.room),
+            Ok(reply) => {
+                self.note(alloc, held, coming, &reply);
+                self.reply_within(alloc, reply, around.room);
+            }
             Err(fault) => self.refuse(alloc, fault),
         }
+    }
+
+    // The request as one that may change something, where it is one.
+    fn coming<C: Closure>(&self, alloc: Global, closure: &C) -> Option<ComingChange> {
+        if self.work() != Some(Work::Change) {
+            return None;
+        }
+        let request = self.parts.whole().ok()?;
+        Some(ComingChange::of(alloc, closure, request.words))
+    }
+
+    // Keeps what is reported of it once it is on the disk.
+    fn note<C: Closure>(
+        &mut self,
+        alloc: Global,
+        held: &mut HeldState<C>,
+        coming: Option<ComingChange>,
+        reply: &Reply,
+    ) {
+        let Some(coming) = coming else {
+            return;
+        };
+        match coming.made(alloc, &held.closure, reply.journal.as_slice()) {
+            Ok(change) => self.change = change,
+            Err(_) => held.has_unreported = true,
+        }
+    }
+
+    /// What it changed that is not on the disk yet.
+    pub fn change(&self) -> Option<&JournalledChange> {
+        self.change.as_ref()
     }
 
     // Where there is no room for the reply, and nothing was changed, it is refused.
@@ -188,6 +229,7 @@ impl LocalTalk {
 
     /// The lines are on the disk.
     pub fn settle(&mut self) {
+        self.change = None;
         if let LocalAnswer::Whole(sending) = &mut self.answer {
             sending.settle();
         }

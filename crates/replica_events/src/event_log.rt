@@ -1,5 +1,6 @@
 //! Events on standard error: a line for each, pairs of a word and a value in a fixed order. No byte
 //! that another side chose stands in one. `event_counts` says where one line stands for several.
+use change_view::{HeldChange, NewEntries, push_event};
 use peer_talks::Ending;
 use replica_sync::SyncError;
 use state_files::LostFile;
@@ -14,8 +15,8 @@ use std::time::Duration;
 /// What is reported.
 #[derive(Clone, Copy, Debug)]
 pub enum LogEvent {
-    /// A session in which this replica asked has ended.
-    Pull(SocketAddr, u64, Duration, Ending),
+    /// A session in which this replica asked has ended, and brought so much.
+    Pull(SocketAddr, NewEntries, Duration, Ending),
     /// A connection on which another replica asked has ended.
     Serve(Option<SocketAddr>, Duration, Ending),
     /// A connection of this machine has ended.
@@ -36,12 +37,27 @@ pub enum LogEvent {
     Journal(SyncError),
     /// A file of the state was removed or replaced.
     Lost(LostFile),
+    /// So many lines at the end of the audit file were cut off: their changes are not held.
+    AuditCut(u64),
+    /// The audit file could not be written.
+    AuditFault(SyncError),
 }
 
 /// Writes the event's line at once. That it cannot be written changes nothing.
 pub fn log_event<R: Eprint>(rt: &R, alloc: Global, event: LogEvent) {
     if let Ok(line) = format!(in alloc; "{event}\n") {
         let _ = rt.eprint(line);
+    }
+}
+
+/// Writes the line of a change that is on the disk. That it cannot be written changes nothing.
+pub fn log_change<R: Eprint>(rt: &R, alloc: Global, change: &HeldChange) {
+    let mut line = Vec::new(alloc);
+    if push_event(&mut line, change).is_ok()
+        && line.push(b'\n').is_ok()
+        && let Ok(text) = str::from_utf8(line.as_slice())
+    {
+        let _ = rt.eprint(text);
     }
 }
 
@@ -82,11 +98,9 @@ impl Display for LogEvent {
     fn fmt<W: fmt::Write>(&self, f: &mut Formatter<W>) -> fmt::Result {
         match self {
             LogEvent::Pull(peer, new, time, ending) => {
-                write!(
-                    f,
-                    "event=pull peer={peer} new={new} seconds={}",
-                    Seconds(*time)
-                )?;
+                let NewEntries { receipts, records } = *new;
+                write!(f, "event=pull peer={peer} new={receipts} records={records}")?;
+                write!(f, " seconds={}", Seconds(*time))?;
                 Outcome(*ending).fmt(f)
             }
             LogEvent::Serve(Some(peer), time, ending) => {
@@ -115,6 +129,8 @@ impl Display for LogEvent {
             LogEvent::Fold(bytes) => write!(f, "event=fold bytes={bytes}"),
             LogEvent::FoldFault(why) => write!(f, "event=fold fault={}", session_code(*why)),
             LogEvent::Journal(why) => write!(f, "event=journal fault={}", session_code(*why)),
+            LogEvent::AuditCut(lines) => write!(f, "event=audit cut={lines}"),
+            LogEvent::AuditFault(why) => write!(f, "event=audit fault={}", session_code(*why)),
             LogEvent::Lost(LostFile::Lock) => f.write_str("event=lost file=lock"),
             LogEvent::Lost(LostFile::Journal) => f.write_str("event=lost file=journal"),
             LogEvent::Lost(LostFile::State) => f.write_str("event=lost file=state"),

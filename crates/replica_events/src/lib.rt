@@ -7,4 +7,4 @@ mod event_counts;
 mod event_log;
 
 pub use event_counts::EventCounts;
-pub use event_log::{LogEvent, log_event};
+pub use event_log::{LogEvent, log_change, log_event};

@@ -1,35 +1,63 @@
 //! The files in which a running replica keeps what it holds: the lock, the state and its journal.
+use crate::change_reports::audit_lines;
 use closure_core::Closure;
 use fedbundle::FileFault;
 use peer_talks::HeldState;
+use progress_line::ProgressMode;
 use replica_connections::ConnectionTable;
 use replica_events::{LogEvent, log_event};
 use state_files::{
-    AppendFault, FoldFault, Journal, LostFile, StateLock, begin_anew, fold_state, save_snapshot,
+    AppendFault, AuditFile, FoldFault, Journal, LostFile, StateLock, begin_anew, fold_state,
+    save_snapshot,
 };
 use std::alloc::Global;
 use std::fs::{File, Files};
 use std::io::Eprint;
+use std::time::Clock;
+
+/// Why a change is not on the disk.
+#[derive(Clone, Copy, Debug)]
+pub(crate) enum KeepFault {
+    /// The audit file could not be written: the journal has nothing of the change.
+    Audit(FileFault),
+    /// The journal or the state file could not be written.
+    State(FileFault),
+}
+
+impl From<FileFault> for KeepFault {
+    fn from(fault: FileFault) -> KeepFault {
+        KeepFault::State(fault)
+    }
+}
 
 /// The files of a running replica.
 #[derive(Drop)]
 pub(crate) struct KeptFiles {
     lock: StateLock,
     journal: Journal,
+    audit: Option<AuditFile>,
     // Whether a fault came while the journal was emptied: the state file has all that is held, and
     // no line may be appended before a journal is begun anew.
     is_unsettled: bool,
     // How often the snapshot was written anew.
     folds: u64,
+    progress: ProgressMode,
 }
 
 impl KeptFiles {
-    pub(crate) fn new(lock: StateLock, journal: Journal) -> KeptFiles {
+    pub(crate) fn new(
+        lock: StateLock,
+        journal: Journal,
+        audit: Option<AuditFile>,
+        progress: ProgressMode,
+    ) -> KeptFiles {
         KeptFiles {
             lock,
             journal,
+            audit,
             is_unsettled: false,
             folds: 0,
+            progress,
         }
     }
 
@@ -49,8 +77,30 @@ impl KeptFiles {
     }
 
     /// Puts on the disk what came, and looks whether it is in the files that have the names. Only
-    /// then it may be acknowledged.
-    pub(crate) fn keep<C: Closure, R: Files<File = File> + Eprint>(
+    /// then it may be acknowledged. The lines of the audit file are on the disk first, so a kill
+    /// leaves no change there is no line of. `moment` is the Unix second.
+    pub(crate) fn keep<C: Closure, R: Files<File = File> + Clock + Eprint>(
+        &mut self,
+        rt: &R,
+        alloc: Global,
+        held: &HeldState<C>,
+        table: &ConnectionTable,
+        path: &str,
+        moment: u64,
+    ) -> Result<(), KeepFault> {
+        if let Some(audit) = &mut self.audit {
+            let written = match audit_lines(alloc, held, table, moment) {
+                Ok(lines) => audit.append(rt, lines.as_slice()),
+                Err(error) => Err(FileFault::from(error)),
+            };
+            if let Err(fault) = written {
+                return Err(KeepFault::Audit(fault));
+            }
+        }
+        Ok(self.keep_state(rt, alloc, held, table, path)?)
+    }
+
+    fn keep_state<C: Closure, R: Files<File = File> + Clock + Eprint>(
         &mut self,
         rt: &R,
         alloc: Global,
@@ -86,7 +136,7 @@ impl KeptFiles {
     // A name leads to another file. Where that is the state's, all that is held is written anew;
     // where it is the journal's, it is written, and the replica ends; and where it is the lock's,
     // another command may have the state, so nothing is written.
-    fn mend<C: Closure, R: Files<File = File> + Eprint>(
+    fn mend<C: Closure, R: Files<File = File> + Clock + Eprint>(
         &mut self,
         rt: &R,
         alloc: Global,
@@ -98,7 +148,7 @@ impl KeptFiles {
         match lost {
             LostFile::Lock => Err(lost.fault()),
             LostFile::Journal => {
-                if let Err(fault) = save_snapshot(rt, alloc, closure, path) {
+                if let Err(fault) = save_snapshot(rt, alloc, closure, path, self.progress) {
                     log_event(rt, alloc, LogEvent::FoldFault(fault.why));
                 }
                 Err(lost.fault())
@@ -107,14 +157,14 @@ impl KeptFiles {
         }
     }
 
-    fn begin_anew<C: Closure, R: Files<File = File> + Eprint>(
+    fn begin_anew<C: Closure, R: Files<File = File> + Clock + Eprint>(
         &mut self,
         rt: &R,
         alloc: Global,
         closure: &C,
         path: &str,
     ) -> Result<(), FileFault> {
-        self.journal = begin_anew(rt, alloc, closure, path)?;
+        self.journal = begin_anew(rt, alloc, closure, path, self.progress)?;
         self.is_unsettled = false;
         self.note_fold(rt, alloc);
         Ok(())
@@ -122,7 +172,7 @@ impl KeptFiles {
 
     /// Writes the state file anew where the journal is long. Where that fails, the journal goes on,
     /// or is begun anew before the next change is acknowledged.
-    pub(crate) fn fold<C: Closure, R: Files<File = File> + Eprint>(
+    pub(crate) fn fold<C: Closure, R: Files<File = File> + Clock + Eprint>(
         &mut self,
         rt: &R,
         alloc: Global,
@@ -140,14 +190,14 @@ impl KeptFiles {
         Ok(())
     }
 
-    fn fold_journal<C: Closure, R: Files<File = File> + Eprint>(
+    fn fold_journal<C: Closure, R: Files<File = File> + Clock + Eprint>(
         &mut self,
         rt: &R,
         alloc: Global,
         closure: &C,
         path: &str,
     ) {
-        match fold_state(rt, alloc, closure, path, &mut self.journal) {
+        match fold_state(rt, alloc, closure, path, &mut self.journal, self.progress) {
             Ok(true) => self.note_fold(rt, alloc),
             Ok(false) => self.journal.put_off(),
             Err(FoldFault::Kept(fault)) => self.put_off(rt, alloc, fault),

@@ -1,4 +1,5 @@
 //! The beginning and the end of a replica that stays.
+use crate::kept_files::KeepFault;
 use crate::settings::Settings;
 use crate::turn::{RunningReplica, turn};
 use closure_core::Closure;
@@ -37,7 +38,7 @@ const MOST_EVENTS: usize = 256;
 /// - [`Exit::SocketTaken`]: another process listens on the socket, or its path names something else
 ///   than a socket,
 /// - [`Exit::System`]: the system refused a step of the beginning, or a change could not be put on
-///   the disk ([`Step::Journal`]),
+///   the disk ([`Step::Journal`], [`Step::Audit`]),
 /// - [`Exit::Refused`]: the state is refused, `ready` could not be printed, or memory ran out.
 pub fn run_replica<R: Runtime<File = File, A = Global> + Net>(
     rt: &R,
@@ -75,7 +76,13 @@ fn find<R: Files<File = File>>(
         has_state,
         has_journal,
     };
-    match StateBeginning::of(alloc, settings.state, found, settings.is_new)? {
+    match StateBeginning::of(
+        alloc,
+        settings.state,
+        found,
+        settings.is_new,
+        settings.progress,
+    )? {
         Some(beginning) => Ok(beginning),
         None => Err(Exit::NoState),
     }
@@ -83,7 +90,7 @@ fn find<R: Files<File = File>>(
 
 // What is held, all of which is in the snapshot then; or, where that could not be written, in the
 // files as they were.
-fn load<C: Closure, R: Files<File = File> + Eprint>(
+fn load<C: Closure, R: Files<File = File> + Clock + Eprint>(
     rt: &R,
     alloc: Global,
     config: &Config,
@@ -130,9 +137,13 @@ fn run_turns<C: Closure, R: Files<File = File> + Net + Clock + Eprint>(
         match turn(rt, alloc, held, running, events, settings) {
             Ok(true) => break,
             Ok(false) => {}
-            Err(fault) => {
+            Err(KeepFault::State(fault)) => {
                 log_event(rt, alloc, LogEvent::Journal(fault.why));
                 return Err(Exit::of_file(Step::Journal, fault));
+            }
+            Err(KeepFault::Audit(fault)) => {
+                log_event(rt, alloc, LogEvent::AuditFault(fault.why));
+                return Err(Exit::of_file(Step::Audit, fault));
             }
         }
     }

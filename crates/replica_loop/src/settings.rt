@@ -1,5 +1,6 @@
 //! What the words say of a replica.
 use local_answers::PageLimits;
+use progress_line::ProgressMode;
 use replica_sockets::ListenPlaces;
 use std::net::SocketAddr;
 use std::time::Duration;
@@ -13,6 +14,8 @@ pub struct Settings<'a, 'p> {
     pub socket: &'a str,
     /// The path of a second socket, at which nothing can be changed.
     pub read_socket: Option<&'a str>,
+    /// The path of a file to which a line is appended for each change.
+    pub audit: Option<&'a str>,
     /// Where other replicas pull from this one.
     pub listen: Option<SocketAddr>,
     /// Where pages for health and metrics are asked for.
@@ -33,6 +36,8 @@ pub struct Settings<'a, 'p> {
     pub is_new: bool,
     /// Whether each connection is reported that has ended, and not only those at fault.
     pub is_verbose: bool,
+    /// Whether it is said how far the state is read or written.
+    pub progress: ProgressMode,
 }
 
 impl<'a> Settings<'a, '_> {

@@ -2,12 +2,14 @@
 //! milliseconds of long requests or of changes are carried out, what came is put on the disk, and
 //! only then it is shown. So nobody is shown a change that a kill could take back, and nobody waits
 //! for more than one of the others at a time. `kept_files` has what is on the disk.
-use crate::kept_files::KeptFiles;
+use crate::change_reports::log_changes;
+use crate::kept_files::{KeepFault, KeptFiles};
 use crate::settings::Settings;
 use crate::turn_counts::TurnCounts;
+use change_view::NewEntries;
 use closure_core::Closure;
 use fair_turns::Work;
-use fedbundle::{Exit, FileFault, Step};
+use fedbundle::{Exit, Step};
 use health_pages::LoopCounts;
 use local_answers::{PageLimits, PageSource};
 use mio::Events;
@@ -19,7 +21,7 @@ use replica_connections::{
 use replica_events::{EventCounts, LogEvent, log_event};
 use replica_sockets::{Arrival, Listeners, Rights, Socket, at_step, file_at_step};
 use replica_sync::SyncError;
-use state_files::{StateBeginning, StateLock};
+use state_files::{AuditFile, StateBeginning, StateLock};
 use status_view::RunningStatus;
 use std::alloc::Global;
 use std::fs::{File, Files};
@@ -39,6 +41,12 @@ const ARRIVALS_A_TURN: usize = 32;
 
 /// How many sessions are begun in one turn.
 const PULLS_A_TURN: usize = 16;
+
+/// What a session has brought that did not begin.
+const NOTHING_NEW: NewEntries = NewEntries {
+    receipts: 0,
+    records: 0,
+};
 
 /// How long replies may still be sent after the replica was asked to end.
 const LAST_SECONDS: u64 = 1;
@@ -66,7 +74,7 @@ pub(crate) struct RunningReplica {
 
 impl RunningReplica {
     /// Begins the journal, and listens.
-    pub(crate) fn begin<C: Closure, R: Files<File = File> + Net + Clock>(
+    pub(crate) fn begin<C: Closure, R: Files<File = File> + Net + Clock + Eprint>(
         rt: &R,
         alloc: Global,
         closure: &C,
@@ -76,13 +84,19 @@ impl RunningReplica {
     ) -> Result<RunningReplica, Exit> {
         let now = at_step(Step::Socket, Instant::now(rt))?;
         let listeners = Listeners::open(rt, &settings.places(), now)?;
-        let journal = beginning.begin_journal(rt, alloc, closure, settings.state);
         let began = unix_seconds(rt).unwrap_or(0);
+        let audit = begin_audit(rt, alloc, closure, settings.audit, began)?;
+        let journal = beginning.begin_journal(rt, alloc, closure, settings.state);
         Ok(RunningReplica {
             listeners,
             table: ConnectionTable::new(alloc, settings.most_request_bytes)?,
             peers: Peers::new(alloc, settings.peers, settings.every, now)?,
-            files: KeptFiles::new(lock, file_at_step(Step::Journal, journal)?),
+            files: KeptFiles::new(
+                lock,
+                file_at_step(Step::Journal, journal)?,
+                audit,
+                settings.progress,
+            ),
             events: EventCounts::new(alloc),
             now,
             began,
@@ -257,13 +271,17 @@ impl RunningReplica {
             let Some((number, peer)) = self.peers.begin(self.now) else {
                 break;
             };
-            let begun = match PullTalk::new(alloc, closure, number, left) {
+            let begun = match PullTalk::new(alloc, closure, number, peer, left) {
                 Ok(talk) => self.connect(rt, talk, peer),
                 Err(why) => Err(Ending::Fault(why)),
             };
             if let Err(ending) = begun {
                 self.peers.end(number, ending, 0, None);
-                log_event(rt, alloc, LogEvent::Pull(peer, 0, Duration::ZERO, ending));
+                log_event(
+                    rt,
+                    alloc,
+                    LogEvent::Pull(peer, NOTHING_NEW, Duration::ZERO, ending),
+                );
             }
         }
     }
@@ -336,16 +354,18 @@ impl RunningReplica {
     }
 
     /// Puts on the disk what came in this turn. Where that fails, the replies say so.
-    pub(crate) fn commit<C: Closure, R: Files<File = File> + Eprint>(
+    pub(crate) fn commit<C: Closure, R: Files<File = File> + Clock + Eprint>(
         &mut self,
         rt: &R,
         alloc: Global,
         held: &mut HeldState<C>,
         path: &str,
-    ) -> Result<(), FileFault> {
-        match self.files.keep(rt, alloc, held, &self.table, path) {
+    ) -> Result<(), KeepFault> {
+        let moment = unix_seconds(rt).unwrap_or(0);
+        match self.files.keep(rt, alloc, held, &self.table, path, moment) {
             Ok(()) => {
-                held.fresh.clear();
+                log_changes(rt, alloc, &self.table);
+                held.settle();
                 self.table.settle();
                 Ok(())
             }
@@ -466,12 +486,39 @@ fn event_of(
         return Some(LogEvent::Refuse);
     }
     match &conn.talk {
-        Talk::Pull(talk) => Some(LogEvent::Pull(conn.peer?, talk.taken(), time, ending)),
+        Talk::Pull(talk) => Some(LogEvent::Pull(conn.peer?, new_of(talk), time, ending)),
         Talk::Served(_) if is_said => Some(LogEvent::Serve(conn.peer, time, ending)),
         Talk::Local(_) if is_said => Some(LogEvent::Local(time, ending)),
         Talk::Page(_) if is_said => Some(LogEvent::Page(conn.peer, time, ending)),
         _ => None,
     }
+}
+
+// How much the session brought.
+fn new_of(talk: &PullTalk) -> NewEntries {
+    NewEntries {
+        receipts: talk.taken(),
+        records: talk.records(),
+    }
+}
+
+// The audit file, if there is to be one. It is reported how many lines were cut off.
+fn begin_audit<C: Closure, R: Files<File = File> + Eprint>(
+    rt: &R,
+    alloc: Global,
+    closure: &C,
+    path: Option<&str>,
+    moment: u64,
+) -> Result<Option<AuditFile>, Exit> {
+    let Some(path) = path else {
+        return Ok(None);
+    };
+    let begun = AuditFile::begin(rt, alloc, closure, path, moment);
+    let (audit, cut) = file_at_step(Step::Audit, begun)?;
+    if cut > 0 {
+        log_event(rt, alloc, LogEvent::AuditCut(cut));
+    }
+    Ok(Some(audit))
 }
 
 /// One turn. Returns whether the replica has ended.
@@ -482,7 +529,7 @@ pub(crate) fn turn<C: Closure, R: Files<File = File> + Net + Clock + Eprint>(
     running: &mut RunningReplica,
     events: &mut Events,
     settings: &Settings<'_, '_>,
-) -> Result<bool, FileFault> {
+) -> Result<bool, KeepFault> {
     running.wait(rt, alloc, events);
     running.accept(rt, alloc);
     running.begin_pulls(rt, alloc, &held.closure, settings.most_bytes);

@@ -7,10 +7,13 @@ use crate::state::{SeenState, see_state};
 use closure_core::Closure;
 use fed_config::Config;
 use fedbundle::{CommandError, FileFault};
+use progress_line::ProgressMode;
 use replica_core::SyncError;
 use state_steps::{BeginStep, Beginning, FileStep, FoldEnd, FoundFiles};
 use std::alloc::{AllocError, Global};
 use std::fs::{File, Files};
+use std::io::Eprint;
+use std::time::Clock;
 
 /// How many steps there are at most between the loading and the journal.
 const SAVE_STEPS: u32 = 5;
@@ -28,11 +31,13 @@ pub struct StateBeginning {
     has_journal: bool,
     // Whether it goes on with the journal that was found, since the state could not be saved.
     is_resumed: bool,
+    mode: ProgressMode,
 }
 
 impl StateBeginning {
     /// The beginning with the files that were found beside the path, or none where there is neither
-    /// a state nor a journal, and `may_be_new` does not allow that.
+    /// a state nor a journal, and `may_be_new` does not allow that. The mode says whether lines say
+    /// how far the reading and the writing are.
     ///
     /// # Errors
     /// Memory ran out.
@@ -41,13 +46,15 @@ impl StateBeginning {
         path: &str,
         found: FoundFiles,
         may_be_new: bool,
+        mode: ProgressMode,
     ) -> Result<Option<StateBeginning>, AllocError> {
         match Beginning::of(found, may_be_new) {
             Some(beginning) => Ok(Some(StateBeginning {
                 beginning,
-                made: MadeFiles::new(alloc, path)?,
+                made: MadeFiles::new(alloc, path, mode)?,
                 has_journal: found.has_journal,
                 is_resumed: false,
+                mode,
             })),
             None => Ok(None),
         }
@@ -57,14 +64,14 @@ impl StateBeginning {
     ///
     /// # Errors
     /// Those of [`load_state`].
-    pub fn load<C: Closure, R: Files>(
+    pub fn load<C: Closure, R: Files + Clock + Eprint>(
         &mut self,
         files: &R,
         alloc: Global,
         config: &Config,
         path: &str,
     ) -> Result<C, CommandError> {
-        match load_state(files, alloc, config, path) {
+        match load_state(files, alloc, config, path, self.mode) {
             Ok(closure) => {
                 self.beginning.done();
                 Ok(closure)
@@ -86,7 +93,7 @@ impl StateBeginning {
     /// # Errors
     /// - [`SyncError::Io`]: the system refused a step,
     /// - [`SyncError::NoMemory`]: memory ran out.
-    pub fn save<C: Closure, R: Files<File = File>>(
+    pub fn save<C: Closure, R: Files<File = File> + Clock + Eprint>(
         &mut self,
         files: &R,
         alloc: Global,
@@ -109,7 +116,7 @@ impl StateBeginning {
     /// # Errors
     /// - [`SyncError::Io`]: the system refused a step, or what was loaded is not saved yet,
     /// - [`SyncError::NoMemory`]: memory ran out.
-    pub fn begin_journal<C: Closure, R: Files<File = File>>(
+    pub fn begin_journal<C: Closure, R: Files<File = File> + Clock + Eprint>(
         mut self,
         files: &R,
         alloc: Global,
@@ -145,7 +152,7 @@ impl StateBeginning {
         }
     }
 
-    fn change<C: Closure, R: Files<File = File>>(
+    fn change<C: Closure, R: Files<File = File> + Clock + Eprint>(
         &mut self,
         files: &R,
         alloc: Global,
@@ -173,17 +180,18 @@ impl StateBeginning {
 /// # Errors
 /// - [`SyncError::Io`]: the system refused a step,
 /// - [`SyncError::NoMemory`]: memory ran out.
-pub fn begin_anew<C: Closure, R: Files<File = File>>(
+pub fn begin_anew<C: Closure, R: Files<File = File> + Clock + Eprint>(
     files: &R,
     alloc: Global,
     closure: &C,
     path: &str,
+    mode: ProgressMode,
 ) -> Result<Journal, FileFault> {
     let found = FoundFiles {
         has_state: true,
         has_journal: true,
     };
-    match StateBeginning::of(alloc, path, found, true)? {
+    match StateBeginning::of(alloc, path, found, true, mode)? {
         Some(mut again) => {
             // What the files have is held.
             again.beginning.done();

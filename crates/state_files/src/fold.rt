@@ -3,9 +3,12 @@ use crate::journal::Journal;
 use crate::made_files::MadeFiles;
 use closure_core::Closure;
 use fedbundle::FileFault;
+use progress_line::ProgressMode;
 use state_steps::{FoldEnd, Folding};
 use std::alloc::{AllocError, Global};
 use std::fs::{File, Files};
+use std::io::Eprint;
+use std::time::Clock;
 
 /// How many steps a fold has.
 const STEPS: u32 = 6;
@@ -26,18 +29,20 @@ impl From<AllocError> for FoldFault {
 }
 
 /// Writes what is held as the snapshot in the state file, and begins an empty journal in the place
-/// of this one. Returns whether it did, and not where the journal goes on.
+/// of this one. Returns whether it did, and not where the journal goes on. Where the mode says so,
+/// it is said how far the writing is.
 ///
 /// # Errors
 /// Where the system refused a step, or memory ran out.
-pub fn fold_state<C: Closure, R: Files<File = File>>(
+pub fn fold_state<C: Closure, R: Files<File = File> + Clock + Eprint>(
     files: &R,
     alloc: Global,
     closure: &C,
     path: &str,
     journal: &mut Journal,
+    mode: ProgressMode,
 ) -> Result<bool, FoldFault> {
-    let mut made = MadeFiles::new(alloc, path)?;
+    let mut made = MadeFiles::new(alloc, path, mode)?;
     let mut folding = Folding::begin();
     for _ in 0..STEPS {
         let Some(step) = folding.next() else {

@@ -11,11 +11,12 @@
 //! a replica that stays does first, and `fold` what it does where its journal is long. `made_files`
 //! does the steps of these three; a file that it makes is a `new_file`, whose mode and owner
 //! `access` gives. `resume` goes on with a journal where the state cannot be written. `file_names`
-//! has the files' names, and `named_files` what the system has under one: what this program did not
-//! make is never changed.
+//! has the files' names, `audit` is the file with a line for each change, and `named_files` what
+//! the system has under a name: what this program did not make is never changed.
 #![tactic(auto)]
 
 mod access;
+mod audit;
 mod begin;
 mod file_names;
 mod fold;
@@ -29,6 +30,7 @@ mod resume;
 mod save;
 mod state;
 
+pub use audit::AuditFile;
 pub use begin::{StateBeginning, begin_anew};
 pub use file_names::{has_journal, journal_path};
 pub use fold::{FoldFault, fold_state};

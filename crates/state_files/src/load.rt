@@ -5,16 +5,19 @@ use byte_lines::FromRead;
 use closure_core::Closure;
 use fed_config::Config;
 use fedbundle::{CommandError, FileFault};
+use progress_line::{ProgressMode, WatchedReader, WorkProgress};
 use replica_journal::read_journal;
 use std::alloc::Global;
 use std::fs::Files;
+use std::io::Eprint;
+use std::time::Clock;
 use std::{fs, io};
 
 /// The closure of what is held: what the snapshot in the state file says, and what the whole lines
 /// of its journal say. Where neither file is there it holds nothing.
 ///
 /// The journal is opened before the state file, so what another command folds into the state
-/// meanwhile is found in one of the two.
+/// meanwhile is found in one of the two. Where the mode says so, it is said how far the reading is.
 ///
 /// # Errors
 /// - [`CommandError::Sync`]: the state file is refused, as by [`read_snapshot`], or cannot be
@@ -26,20 +29,32 @@ use std::{fs, io};
 /// memory ran out, and else `Io`.
 ///
 /// [`read_snapshot`]: replica_sync::read_snapshot
-pub fn load_state<C: Closure, R: Files>(
-    files: &R,
+pub fn load_state<C: Closure, R: Files + Clock + Eprint>(
+    rt: &R,
     alloc: Global,
     config: &Config,
     path: &str,
+    mode: ProgressMode,
+) -> Result<C, CommandError> {
+    let mut progress = WorkProgress::begin(rt, alloc, "reading the state", mode);
+    load_files(rt, alloc, config, path, &mut progress)
+}
+
+fn load_files<C: Closure, R: Files + Clock + Eprint>(
+    rt: &R,
+    alloc: Global,
+    config: &Config,
+    path: &str,
+    progress: &mut WorkProgress<'_, R>,
 ) -> Result<C, CommandError> {
     let name = journal_path(alloc, path)?;
-    match fs::open(files, name.as_str()) {
+    match fs::open(rt, name.as_str()) {
         Ok(journal) => {
-            let closure = load_snapshot(files, alloc, config, path)?;
-            with_journal(alloc, closure, journal)
+            let closure = load_snapshot(rt, alloc, config, path, progress)?;
+            with_journal(alloc, closure, WatchedReader::new(journal, progress))
         }
         Err(error) if error.kind() == io::ErrorKind::NotFound => {
-            Ok(load_snapshot(files, alloc, config, path)?)
+            Ok(load_snapshot(rt, alloc, config, path, progress)?)
         }
         Err(error) => Err(CommandError::Journal(FileFault::from(error).why)),
     }

@@ -5,12 +5,14 @@ use crate::new_file::{create_new, write_closure};
 use closure_core::Closure;
 use fed_config::Config;
 use fedbundle::FileFault;
+use progress_line::ProgressMode;
 use replica_journal::begin_journal;
 use state_steps::FileStep;
 use std::alloc::{AllocError, Global};
 use std::fs;
 use std::fs::{File, Files};
-use std::io::Write;
+use std::io::{Eprint, Write};
+use std::time::Clock;
 
 /// The names of the files beside a state file, and the files that are made, each from its writing
 /// on: the new snapshot, which has its own name later, and the journal.
@@ -21,11 +23,17 @@ pub(crate) struct MadeFiles {
     new: Option<File>,
     snapshot: Option<File>,
     journal: Option<File>,
+    mode: ProgressMode,
 }
 
 impl MadeFiles {
-    /// No file is made yet. The names take all memory that the steps take, but what is written.
-    pub(crate) fn new(alloc: Global, path: &str) -> Result<MadeFiles, AllocError> {
+    /// No file is made yet. The names take all memory that the steps take, but what is written. The
+    /// mode says whether it is said how far the writing of a snapshot is.
+    pub(crate) fn new(
+        alloc: Global,
+        path: &str,
+        mode: ProgressMode,
+    ) -> Result<MadeFiles, AllocError> {
         let journal_name = journal_path(alloc, path)?;
         Ok(MadeFiles {
             new_name: new_path(alloc, path)?,
@@ -33,6 +41,7 @@ impl MadeFiles {
             new: None,
             snapshot: None,
             journal: None,
+            mode,
         })
     }
 
@@ -48,7 +57,7 @@ impl MadeFiles {
 
     /// Does the step to the files of the state file at the path. Where it fails, no new snapshot is
     /// left that never gets its name.
-    pub(crate) fn do_step<C: Closure, R: Files<File = File>>(
+    pub(crate) fn do_step<C: Closure, R: Files<File = File> + Clock + Eprint>(
         &mut self,
         files: &R,
         alloc: Global,
@@ -63,7 +72,7 @@ impl MadeFiles {
         done
     }
 
-    fn try_step<C: Closure, R: Files<File = File>>(
+    fn try_step<C: Closure, R: Files<File = File> + Clock + Eprint>(
         &mut self,
         files: &R,
         alloc: Global,
@@ -89,7 +98,7 @@ impl MadeFiles {
         }
     }
 
-    fn write_snapshot<C: Closure, R: Files<File = File>>(
+    fn write_snapshot<C: Closure, R: Files<File = File> + Clock + Eprint>(
         &mut self,
         files: &R,
         alloc: Global,
@@ -99,7 +108,7 @@ impl MadeFiles {
         let file = self
             .new
             .insert(create_new(files, self.new_name.as_str(), path)?);
-        write_closure(alloc, closure, file)
+        write_closure(files, alloc, closure, file, self.mode)
     }
 
     // Removes the new snapshot that was made here. That it stays changes nothing: nobody reads it,

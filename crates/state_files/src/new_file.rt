@@ -4,11 +4,13 @@ use crate::named_files::{found, remove_own};
 use byte_lines::FromWrite;
 use closure_core::Closure;
 use fedbundle::FileFault;
+use progress_line::{ProgressMode, WatchedWriter, WorkProgress};
 use replica_core::SyncError;
 use replica_sync::write_snapshot;
 use std::alloc::Global;
 use std::fs::{File, Files};
-use std::io::{BufWriter, Write};
+use std::io::{BufWriter, Eprint, Write};
+use std::time::Clock;
 use std::{fs, io};
 
 /// The bytes that are gathered before they are written to the file.
@@ -44,14 +46,19 @@ fn take_state_access<R: Files>(files: &R, file: &File, path: &str) -> Result<(),
     }
 }
 
-/// Writes a snapshot of what is held into the file.
-pub(crate) fn write_closure<C: Closure>(
+/// Writes a snapshot of what is held into the file. Where the mode says so, it is said how far that
+/// is.
+pub(crate) fn write_closure<C: Closure, R: Clock + Eprint>(
+    rt: &R,
     alloc: Global,
     closure: &C,
     file: &File,
+    mode: ProgressMode,
 ) -> Result<(), FileFault> {
     let mut noting = NotingFile { file, code: None };
-    match write_into(alloc, closure, &mut noting) {
+    let mut progress = WorkProgress::begin(rt, alloc, "writing the state", mode);
+    let watched = WatchedWriter::new(&mut noting, &mut progress);
+    match write_into(alloc, closure, watched) {
         Ok(()) => Ok(()),
         Err(why) => Err(FileFault {
             why,
@@ -82,10 +89,10 @@ impl io::Write for NotingFile<'_> {
     }
 }
 
-fn write_into<C: Closure>(
+fn write_into<C: Closure, W: io::Write + Drop>(
     alloc: Global,
     closure: &C,
-    file: &mut NotingFile<'_>,
+    file: W,
 ) -> Result<(), SyncError> {
     let buffer = match BufWriter::with_capacity(alloc, BUFFER_BYTES, file) {
         Ok(buffer) => buffer,

@@ -2,10 +2,13 @@
 use crate::made_files::MadeFiles;
 use closure_core::Closure;
 use fedbundle::FileFault;
+use progress_line::ProgressMode;
 use replica_core::SyncError;
 use state_steps::Saving;
 use std::alloc::Global;
 use std::fs::{File, Files};
+use std::io::Eprint;
+use std::time::Clock;
 
 /// How many steps a save has.
 const STEPS: u32 = 5;
@@ -21,19 +24,20 @@ const STEPS: u32 = 5;
 ///
 /// The new file has the mode and, where the system allows it, the owner and the group of the state
 /// file that it replaces; where it does not, the group has no access. Where there was no state
-/// file, the mode is 0600.
+/// file, the mode is 0600. Where `mode` says so, it is said how far the writing is.
 ///
 /// # Errors
 /// Where the journal is not removed, the state file is written.
 /// - [`SyncError::Io`]: the system refused a step,
 /// - [`SyncError::NoMemory`]: memory ran out.
-pub fn save_state<C: Closure, R: Files<File = File>>(
+pub fn save_state<C: Closure, R: Files<File = File> + Clock + Eprint>(
     files: &R,
     alloc: Global,
     closure: &C,
     path: &str,
+    mode: ProgressMode,
 ) -> Result<(), FileFault> {
-    let saving = save_within(files, alloc, closure, path, STEPS)?;
+    let saving = save_within(files, alloc, closure, path, mode, STEPS)?;
     if saving.is_done() {
         Ok(())
     } else {
@@ -46,25 +50,27 @@ pub fn save_state<C: Closure, R: Files<File = File>>(
 /// # Errors
 /// - [`SyncError::Io`]: the system refused a step,
 /// - [`SyncError::NoMemory`]: memory ran out.
-pub fn save_snapshot<C: Closure, R: Files<File = File>>(
+pub fn save_snapshot<C: Closure, R: Files<File = File> + Clock + Eprint>(
     files: &R,
     alloc: Global,
     closure: &C,
     path: &str,
+    mode: ProgressMode,
 ) -> Result<(), FileFault> {
-    save_within(files, alloc, closure, path, STEPS - 1)?;
+    save_within(files, alloc, closure, path, mode, STEPS - 1)?;
     Ok(())
 }
 
 // A save that is over after so many steps.
-fn save_within<C: Closure, R: Files<File = File>>(
+fn save_within<C: Closure, R: Files<File = File> + Clock + Eprint>(
     files: &R,
     alloc: Global,
     closure: &C,
     path: &str,
+    mode: ProgressMode,
     steps: u32,
 ) -> Result<Saving, FileFault> {
-    let mut made = MadeFiles::new(alloc, path)?;
+    let mut made = MadeFiles::new(alloc, path, mode)?;
     let mut saving = Saving::begin();
     for _ in 0..steps {
         let Some(step) = saving.next() else {

@@ -4,10 +4,13 @@ use byte_lines::FromRead;
 use closure_core::Closure;
 use fed_config::Config;
 use fedbundle::FileFault;
+use progress_line::{WatchedReader, WorkProgress};
 use replica_core::SyncError;
 use replica_sync::read_snapshot;
 use std::alloc::Global;
 use std::fs::{File, Files};
+use std::io::Eprint;
+use std::time::Clock;
 use std::{fs, io};
 
 /// How many bytes the state file has, or `None` where there is none.
@@ -67,14 +70,18 @@ impl SeenState {
 /// # Errors
 /// Those of [`read_snapshot`]. Where the file is there and cannot be opened, `NoMemory` if the
 /// system says that memory ran out, and else `Io`.
-pub(crate) fn load_snapshot<C: Closure, R: Files>(
-    files: &R,
+pub(crate) fn load_snapshot<C: Closure, R: Files + Clock + Eprint>(
+    rt: &R,
     alloc: Global,
     config: &Config,
     path: &str,
+    progress: &mut WorkProgress<'_, R>,
 ) -> Result<C, SyncError> {
-    match fs::open(files, path) {
-        Ok(file) => read_snapshot(alloc, config, &mut FromRead::new(file)),
+    match fs::open(rt, path) {
+        Ok(file) => {
+            let file = WatchedReader::new(file, progress);
+            read_snapshot(alloc, config, &mut FromRead::new(file))
+        }
         Err(error) if error.kind() == io::ErrorKind::NotFound => Ok(C::new(alloc, config)?),
         Err(error) => Err(FileFault::from(error).why),
     }

@@ -1,6 +1,6 @@
 //! The state file as the commands use it: its lock, which is waited for within a limit, what it
 //! holds, and how much may come to that.
-use command_streams::{error_lines, is_verbose_unasked};
+use command_streams::{error_lines, is_verbose_unasked, progress_mode};
 use fed_config::Config;
 use fedbundle::{
     Call, CommandError, CommandName, Exit, Manner, OptionName, Step, given, is_flag_given,
@@ -143,7 +143,7 @@ pub(crate) fn load<C: Closure>(
         }
         say_missing(rt, state);
     }
-    Ok(load_state(rt, rt.alloc(), config, state.path)?)
+    Ok(load_state(rt, rt.alloc(), config, state.path, progress_mode(rt))?)
 }
 
 // Whether there is a state, or the system does not say so: the command finds out when it loads it.
@@ -169,7 +169,7 @@ pub(crate) fn leave<T: Drop>(held: T) {
 }
 
 pub(crate) fn save<C: Closure>(rt: &HostRuntime, closure: &C, path: &str) -> Result<(), Exit> {
-    match save_state(rt, rt.alloc(), closure, path) {
+    match save_state(rt, rt.alloc(), closure, path, progress_mode(rt)) {
         Ok(()) => Ok(()),
         Err(fault) => Err(Exit::of_file(Step::Save, fault)),
     }

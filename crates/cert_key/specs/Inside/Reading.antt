@@ -1,12 +1,8 @@
--- Reading from left to right, each step a value or nothing
+-- Reading from left to right
 use Rattle.std.specs.Prelude.{◌≡◌, ℕ, ◌+◌, ◌-◌, ◌*◌, List, [], ◌∷◌, length, take, drop, Option}
 use Rattle.std.specs.Prelude.{Some, None, nat_eq, nat_lt, if◌then◌else◌}
 use Rattle.cert_key.specs.declared.der.Element.{Element}
-
-infixl 10 ◌>>=◌
-abbrev pub ◌>>=◌ : {A B : Type 0} → Option A → (A → Option B) → Option B
-(Some x) >>= f = f x
-None >>= f = None
+pub use Rattle.cert_key.specs.Step.{◌>>=◌}
 
 -- what a function returned, seen by view, is what reading gives
 abbrev pub IsReadAs : {X Y : Type 0} → (X → Y) → Option X → Option Y → Type 0

@@ -1,7 +1,9 @@
 -- Reading times, from left to right
 use Rattle.std.specs.Prelude.{ℕ, ◌+◌, ◌-◌, ◌*◌, ◌≤◌, ◌<◌, pos, Bool, false, ◌&&◌, List, [], ◌∷◌}
-use Rattle.std.specs.Prelude.{length, Option, Some, None, nat_eq, nat_le, nat_lt, if◌then◌else◌, ℤ}
+use Rattle.std.specs.Prelude.{◌/◌, ◌%◌, length, Option, Some, None, nat_eq, nat_le, nat_lt, ℤ}
+use Rattle.std.specs.Prelude.{unsigned_abs, if◌then◌else◌}
 use Rattle.jiff_core.specs.Calendar.{days_in_month}
+use Rattle.jiff_core.specs.declared.civil.date.Date.{Date}
 use Rattle.cert_key.specs.declared.moment.Clock.{Clock}
 use Rattle.cert_key.specs.Moment.{Moment, is_real, unix_seconds}
 use Rattle.cert_key.specs.Inside.Reading.{◌>>=◌, Found, element_at}
@@ -38,6 +40,27 @@ pub record IsTimeOfDay (m : Moment) : Type 0 where
   pub hour : m.hour < 24
   pub minute : m.minute < 60
   pub second : m.second < 60
+
+-- Two digits are enough for each part, and four for the year.
+pub record IsShown (m : Moment) : Type 0 where
+  pub year : m.year ≤ 9999
+  pub month : m.month < 100
+  pub day : m.day < 100
+  pub hour : m.hour < 100
+  pub minute : m.minute < 100
+  pub second : m.second < 100
+
+-- the moment of a date and a second of its day
+abbrev pub moment_on : Date → ℕ → Moment
+moment_on d second =
+    record {
+      year = unsigned_abs d.year;
+      month = d.month;
+      day = d.day;
+      hour = second / 3600;
+      minute = second / 60 % 60;
+      second = second % 60;
+    }
 
 unfoldable pub seconds_at : Moment → Option ℤ
 seconds_at m = if is_real m then Some (unix_seconds m) else None

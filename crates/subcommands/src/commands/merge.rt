@@ -3,8 +3,10 @@ use crate::commands::state_writers::{Coming, change};
 use crate::limited_reader::LimitedReader;
 use crate::state_access::{leave, room_left, state_access_of};
 use byte_lines::FromRead;
+use command_streams::progress_mode;
 use fed_config::Config;
 use fedbundle::{Call, CommandError, Exit};
+use progress_line::{WatchedReader, WorkProgress};
 use replica_sync::read_snapshot;
 use std::io::Read;
 use trust_closure::IndexedClosure;
@@ -19,11 +21,21 @@ pub(crate) fn run(rt: &HostRuntime, config: &Config, call: &Call<'_>) -> Result<
 
 fn read_other(rt: &HostRuntime, config: &Config, most_bytes: u64) -> Result<IndexedClosure, Exit> {
     let mut limited = LimitedReader::new(rt.stdin(), most_bytes);
-    match read_from(rt, config, &mut limited) {
+    match read_watched(rt, config, &mut limited) {
         Ok(other) => Ok(other),
         Err(_) if limited.has_passed() => Err(Exit::TooManyBytes),
         Err(error) => Err(Exit::Refused(error)),
     }
+}
+
+fn read_watched<R: Read>(
+    rt: &HostRuntime,
+    config: &Config,
+    reader: &mut R,
+) -> Result<IndexedClosure, CommandError> {
+    let work = "reading the other state";
+    let mut progress = WorkProgress::begin(rt, rt.alloc(), work, progress_mode(rt));
+    read_from(rt, config, &mut WatchedReader::new(reader, &mut progress))
 }
 
 fn read_from<R: Read>(

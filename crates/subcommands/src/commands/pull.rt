@@ -5,9 +5,10 @@ use crate::limited_reader::LimitedReader;
 use crate::state_access::{StateAccess, leave, load, lock, room_left, save, state_access_of};
 use byte_lines::{FromRead, FromWrite};
 use command_faults::status_of;
-use command_streams::{options, output_line};
+use command_streams::{options, output_line, progress_mode};
 use fed_config::Config;
 use fedbundle::{Call, CommandError, Exit, OptionName, Step, run_pull, wanted};
+use progress_line::{WatchedReader, WorkProgress};
 use state_files::{SeenState, has_journal, see_state};
 use std::io::Read;
 use trust_closure::{Closure, ExchangeClosure};
@@ -59,11 +60,22 @@ fn end_session(
     most_bytes: u64,
 ) -> Result<(), Exit> {
     let mut answers = LimitedReader::new(connection.direction(rt), most_bytes);
-    match pull_on(rt, closure, &mut answers, &connection) {
+    match pull_watched(rt, closure, &mut answers, &connection) {
         Ok(()) => Ok(()),
         Err(_) if answers.has_passed() => Err(Exit::TooManyBytes),
         Err(error) => Err(Exit::Refused(error)),
     }
+}
+
+fn pull_watched<R: Read>(
+    rt: &HostRuntime,
+    closure: &mut ExchangeClosure,
+    answers: &mut R,
+    connection: &Connection,
+) -> Result<(), CommandError> {
+    let mut progress = WorkProgress::begin(rt, rt.alloc(), "pulling", progress_mode(rt));
+    let mut watched = WatchedReader::new(answers, &mut progress);
+    pull_on(rt, closure, &mut watched, connection)
 }
 
 fn pull_on<R: Read>(

@@ -2,16 +2,12 @@
 use crate::state_access::leave;
 use command_streams::{complaints, input, output};
 use fed_config::Config;
-use fedbundle::{
-    Call, CommandError, Exit, OptionName, OutputForm, given, read_output_form, run_report_into,
-};
+use fedbundle::{Call, CommandError, Exit, OptionName, given, read_output_form, run_report_into};
 use trust_closure::{Closure, IndexedClosure};
 
-/// Prints the report of the receipts that standard input has. That is text alone.
+/// Prints the report of the receipts that standard input has.
 pub(crate) fn report_lines(rt: &HostRuntime, config: &Config, call: &Call<'_>) -> Result<u8, Exit> {
-    if read_output_form(given(call, OptionName::Format))? == OutputForm::Json {
-        return Err(Exit::Usage);
-    }
+    let form = read_output_form(given(call, OptionName::Format))?;
     let mut errors = complaints(rt);
     let Ok(mut closure) = IndexedClosure::new(rt.alloc(), config) else {
         return Err(Exit::Refused(CommandError::NoMemory));
@@ -19,6 +15,7 @@ pub(crate) fn report_lines(rt: &HostRuntime, config: &Config, call: &Call<'_>) -
     let reported = run_report_into(
         rt.alloc(),
         &mut closure,
+        form,
         &mut input(rt),
         &mut output(rt),
         &mut errors,

@@ -4,9 +4,12 @@ use crate::connection::{Connection, accept, listen};
 use crate::state_access::{load, state_access_of};
 use byte_lines::{FromRead, FromWrite};
 use command_streams::options::config_of;
-use command_streams::{error_lines, options, output_line, print_exit, warn_of_anywhere};
+use command_streams::{
+    error_lines, options, output_line, print_exit, progress_mode, warn_of_anywhere,
+};
 use fed_config::Config;
 use fedbundle::{Call, CommandError, Exit, OptionName, run_serve, wanted, write_served};
+use progress_line::{WatchedWriter, WorkProgress};
 use std::io::Write;
 use std::net::{SocketAddr, TcpListener};
 use trust_closure::ExchangeClosure;
@@ -89,8 +92,10 @@ fn serve_on(
     closure: &ExchangeClosure,
     connection: &Connection,
 ) -> Result<u64, CommandError> {
+    let mut progress = WorkProgress::begin(rt, rt.alloc(), "serving", progress_mode(rt));
+    let answers = WatchedWriter::new(connection.direction(rt), &mut progress);
     let mut source = FromRead::new(connection.direction(rt));
-    let mut sink = FromWrite::new(connection.direction(rt));
+    let mut sink = FromWrite::new(answers);
     run_serve(rt.alloc(), closure, &mut source, &mut sink)
 }
 

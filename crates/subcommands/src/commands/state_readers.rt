@@ -1,10 +1,12 @@
 //! The subcommands that show what a state file holds, and write no file: they take no lock. The
 //! replica is made and given back in one place, and each command only borrows it.
-use crate::commands::{diff, distrust, migrate, reseed};
+use crate::commands::{diff, distrust};
 use crate::state_access::{leave, load, state_access_of};
-use command_streams::{input, options, output};
+use byte_lines::{FromWrite, Source};
+use command_streams::{complaints, input, options, output_progress_mode};
 use fed_config::Config;
 use fedbundle::{Call, CommandName, Exit, OptionName, Shown, given, run_shown};
+use progress_line::{ProgressMode, WatchedWriter, WorkProgress};
 use std::rt::Clock;
 use trust_closure::IndexedClosure;
 
@@ -24,30 +26,53 @@ fn show_of(
 ) -> Result<u8, Exit> {
     match call.name {
         CommandName::Diff => diff::run(rt, config, closure, call),
-        CommandName::Migrate => migrate::run(rt, closure, call),
-        CommandName::Reseed => reseed::run(rt, closure, call),
         CommandName::Distrust => distrust::show(rt, closure, call),
         _ => show_as_replica(rt, closure, call),
     }
 }
 
-// The commands that a running replica has, too.
+// The commands that a running replica has, too. A file that the words name is read in place of
+// standard input.
 fn show_as_replica(
     rt: &HostRuntime,
     closure: &IndexedClosure,
     call: &Call<'_>,
+) -> Result<u8, Exit> {
+    match given(call, OptionName::Polls).or(given(call, OptionName::To)) {
+        Some(path) => show_from(rt, closure, call, &mut options::file(rt, path)?),
+        None => show_from(rt, closure, call, &mut input(rt)),
+    }
+}
+
+fn show_from<R: Source>(
+    rt: &HostRuntime,
+    closure: &IndexedClosure,
+    call: &Call<'_>,
+    source: &mut R,
 ) -> Result<u8, Exit> {
     let shown = Shown {
         call,
         running: None,
         moment: unix_second(rt),
     };
-    match given(call, OptionName::Polls) {
-        Some(path) => {
-            let mut polls = options::file(rt, path)?;
-            run_shown(rt.alloc(), closure, shown, &mut polls, &mut output(rt))
-        }
-        None => run_shown(rt.alloc(), closure, shown, &mut input(rt), &mut output(rt)),
+    let mode = progress_mode_of(rt, call);
+    let mut progress = WorkProgress::begin(rt, rt.alloc(), "writing the migrated state", mode);
+    let output = WatchedWriter::new(rt.stdout(), &mut progress);
+    run_shown(
+        rt.alloc(),
+        closure,
+        shown,
+        source,
+        &mut FromWrite::new(output),
+        &mut complaints(rt),
+    )
+}
+
+// A snapshot is all that may be long.
+fn progress_mode_of(rt: &HostRuntime, call: &Call<'_>) -> ProgressMode {
+    match call.name {
+        CommandName::Migrate => output_progress_mode(rt),
+        _ => ProgressMode::Silent,
     }
 }
 

@@ -1,6 +1,7 @@
 use Rattle.std.proofs.Common.{ap, refl}
 use Rattle.std.proofs.lemmas.Result.{err_from_is_err_and}
 use Rattle.receipt_core.specs.Acceptance.{Meaning}
+use Rattle.command_line.specs.declared.option_texts.OutputForm.TheVariants.{Text}
 use Rattle.fedbundle.specs.CommandRun.{device_run, run_of}
 use Rattle.fedbundle.proofs.RunFacts.{stopped_early}
 use Rattle.fedbundle.proofs.report.run_report_with.Goals as goal
@@ -12,7 +13,7 @@ returns-in_err-closure g c =
     (device_run g.W.Sink.contents g.W.Sink.has_failed c.args.sink.now c.args.sink.now) in
     let complaints = device_run g.E.Sink.contents g.E.Sink.has_failed c.args.complaints.now c.args.complaints.now in
     rw (exit.1, exit.2) (record {
-      answer = stopped_early run complaints c.args.config.now refl refl;
+      answer = stopped_early Text run complaints c.args.config.now refl refl;
       sound = λ unless. (refl, refl, refl);
     })
 

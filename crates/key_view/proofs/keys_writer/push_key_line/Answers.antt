@@ -11,4 +11,4 @@ returns c =
     (c.in_ok-push_yes_or_no-2.ensures ∙ ap (λ b. c.push_yes_or_no.new.out.items ++ labelled (codes " same-public-key ")
     (yes_or_no b)) c.has_distrusted_key.ensures)
     (c.in_ok-push_bundles.ensures ∙ ap (λ ids. c.push_yes_or_no-2.new.out.items ++ bundles_text ids) c.as_slice.ensures.value)
-    c.in_ok-push_closing.ensures
+    c.in_ok-push_subject_end.ensures

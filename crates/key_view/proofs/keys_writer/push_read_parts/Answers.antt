@@ -1,10 +1,10 @@
-use Rattle.std.proofs.Common.{rules, w64, to_z-of_z, FitsSigned}
+use Rattle.std.proofs.Common.{◌++◌, ◌∙◌, ap, codes}
+use Rattle.key_view.specs.KeysText.{labelled}
 use Rattle.key_view.proofs.PieceFacts.{three_pieces}
 use Rattle.key_view.proofs.keys_writer.push_read_parts.Goals as goal
 
 pub returns : goal.returns
 returns c =
-    let from : FitsSigned w64 c.args.parts.now.not_before = search rules in
-    let until : FitsSigned w64 c.args.parts.now.not_after = search rules in
-    three_pieces _ _ _ _ _ _ _ c.in_ok-push_id.ensures (simp to_z-of_z at c.in_ok-push_number.ensures)
-    (simp to_z-of_z at c.in_ok-push_number-2.ensures)
+    three_pieces _ _ _ _ _ _ _ c.in_ok-push_id.ensures
+    (c.in_ok-push_labelled.ensures ∙ ap (λ t. c.push_id.new.out.items ++ labelled (codes " from ") t) c.as_bytes.ensures.value)
+    (c.in_ok-push_labelled-2.ensures ∙ ap (λ t. c.push_labelled.new.out.items ++ labelled (codes " to ") t) c.as_bytes-2.ensures.value)

@@ -1,0 +1,100 @@
+//! The sums of what a closure holds.
+ghost use Rattle.std.specs.Prelude.{◌≡◌, ◌++◌, IfOk, OnOk, flat_map, map};
+ghost use Rattle.sha2.specs.Sha256.{sha256};
+ghost use Rattle.replica_core.specs.Session.{state_of};
+ghost use Rattle.replica_texts.specs.Messages.{record_text};
+ghost use Rattle.bucket_sums.specs.Sums.{bucket_sum, ids_text, records_sum, sums_of};
+
+use crate::part_marks::PART_COUNT;
+use crate::part_sums::Sums;
+use crate::sum::Sum;
+use closure_core::{Closure, Distrusts};
+use jwk_set::KeyId;
+use receipt_core::{Distrust, ReceiptId};
+use replica_sync::have;
+use sha2::{Digest, Sha256};
+use spiffe_name::TrustDomain;
+use std::alloc::{AllocError, Global};
+
+/// The sums of what the closure holds: a SHA-256 over the lines of its records of distrust, and
+/// one for each bucket over the ids of its receipts, in order. Of an
+/// [`ExchangeClosure`](trust_closure::ExchangeClosure) no receipt's id is computed for it.
+///
+/// # Errors
+/// Memory ran out.
+pub fn sums_held<C: Closure>(alloc: Global, closure: &C) -> Result<Sums, AllocError>
+    ensures { IfOk result (λ sums. sums ≡ sums_of (state_of (C.state closure.now).meaning)) }
+{
+    let mut sums = Vec::with_capacity(alloc, PART_COUNT)?;
+    let records = sum_of_records(alloc, closure)?;
+    sums.push(records)?;
+    'buckets: for bucket in 0..256u16 {
+        let sum = sum_of_bucket(alloc, closure, bucket as u8)?;
+        sums.push(sum)?;
+    }
+    Ok(Sums::of_all(sums))
+}
+
+fn sum_of_bucket<C: Closure>(alloc: Global, closure: &C, bucket: u8) -> Result<Sum, AllocError>
+    ensures { IfOk result
+        (λ sum. sum.0 ≡ bucket_sum (state_of (C.state closure.now).meaning) bucket) }
+{
+    match have(alloc, closure, bucket) {
+        Ok(own) => {
+            let text = text_of_ids(alloc, own.ids())?;
+            Ok(sum_of(text.as_slice()))
+        }
+        Err(_) => Err(AllocError),
+    }
+}
+
+fn sum_of_records<C: Closure>(alloc: Global, closure: &C) -> Result<Sum, AllocError>
+    ensures { IfOk result (λ sum. sum.0 ≡ records_sum (state_of (C.state closure.now).meaning)) }
+{
+    let text = text_of_records(alloc, closure.distrusts())?;
+    Ok(sum_of(text.as_slice()))
+}
+
+fn sum_of(text: &[u8]) -> Sum
+    ensures { result.0 ≡ sha256 text.now }
+{
+    Sum(Sha256::digest(text))
+}
+
+fn text_of_ids(alloc: Global, ids: &[ReceiptId]) -> Result<Vec<u8>, AllocError>
+    ensures { IfOk result (λ text. text.items ≡ ids_text (map (λ id. id.0) ids.now)) }
+{
+    let mut text = Vec::new(alloc);
+    for id in ids {
+        text.extend_from_slice(&id.0)?;
+    }
+    Ok(text)
+}
+
+fn text_of_records(alloc: Global, distrusts: Distrusts<'_>) -> Result<Vec<u8>, AllocError>
+    ensures { IfOk result (λ text. text.items ≡ flat_map record_text distrusts.entry) }
+{
+    let mut text = Vec::new(alloc);
+    for (domain, key) in distrusts {
+        push_record(alloc, &mut text, domain, key)?;
+    }
+    Ok(text)
+}
+
+fn push_record(
+    alloc: Global,
+    out: &mut Vec<u8>,
+    domain: &TrustDomain,
+    key: &KeyId,
+) -> Result<(), AllocError>
+    ensures { OnOk result (out.new.items
+        ≡ out.old.items ++ record_text (record { domain = domain.now; key = key.now })) }
+{
+    let record = Distrust {
+        domain: domain.try_clone(alloc)?,
+        key: *key,
+    };
+    let line = record.write_line(alloc)?;
+    out.extend_from_slice(line.as_slice())?;
+    out.extend_from_slice(b"\n")
+}

@@ -1,0 +1,21 @@
+//! Sums: a SHA-256 of each part of what a replica holds, by which two replicas find out which parts
+//! differ before they exchange any receipt.
+#![tactic(auto)]
+
+mod answer_part;
+mod held_sums;
+pub mod laws;
+mod part_marks;
+mod part_sums;
+mod question_lines;
+mod sum;
+mod sum_lines;
+mod sums_asking;
+mod sums_serving;
+
+pub use held_sums::sums_held;
+pub use part_marks::{Marks, PART_COUNT};
+pub use part_sums::Sums;
+pub use sum::Sum;
+pub use sums_asking::{SumsAsking, sums_question};
+pub use sums_serving::SumsServing;

@@ -1,0 +1,64 @@
+//! What a change did to what a replica holds.
+use bundle_doc::DocId;
+use jwk_set::KeyId;
+use spiffe_name::TrustDomain;
+
+/// What a change did to what a replica holds. It has names of the configuration, digests and
+/// numbers, and nothing that a peer or a bundle spells.
+#[derive(Debug, Drop)]
+pub enum HeldChange {
+    /// A bundle was observed.
+    Observe(ObservedBundle),
+    /// A key was distrusted.
+    Distrust(DistrustedKey),
+    /// A snapshot was merged.
+    Merge(NewEntries),
+    /// A peer, whose configured address this is, answered.
+    Pull(String, NewEntries),
+}
+
+/// A change, and the lines that the journal gets for it.
+#[derive(Debug, Drop)]
+pub struct JournalledChange {
+    /// What it did.
+    pub change: HeldChange,
+    /// The SHA-256 of the last of the lines, without its line feed.
+    pub last: [u8; 32],
+}
+
+/// A bundle that was observed, and was not before.
+#[derive(Debug, Drop)]
+pub struct ObservedBundle {
+    /// Its trust domain.
+    pub domain: TrustDomain,
+    /// Its id.
+    pub document: DocId,
+    /// Its sequence number, where it has one.
+    pub sequence: Option<u64>,
+    /// The key that authenticated the endpoint.
+    pub key: KeyId,
+    /// The document that vouches for the endpoint by this key.
+    pub voucher: DocId,
+    /// Whether it is the current document of its domain now.
+    pub is_current: bool,
+}
+
+/// A key that was distrusted, and was not before.
+#[derive(Debug, Drop)]
+pub struct DistrustedKey {
+    /// The trust domain.
+    pub domain: TrustDomain,
+    /// The key.
+    pub key: KeyId,
+    /// How many documents are not accepted any more.
+    pub fell: u64,
+}
+
+/// How much is held that was not before.
+#[derive(Clone, Copy, Debug, PartialEq, Eq)]
+pub struct NewEntries {
+    /// How many receipts.
+    pub receipts: u64,
+    /// How many records of distrust.
+    pub records: u64,
+}

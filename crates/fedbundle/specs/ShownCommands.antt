@@ -1,0 +1,290 @@
+-- What each command does that shows what is held, or the configuration, with a sink for what it
+-- complains of: `config`, `diff`, `migrate` and `reseed` here, and the others by `Shown`.
+use Rattle.std.specs.Prelude.{◌≡◌, ◌≢◌, ◌↔◌, ◌⊎◌, ℕ, List, Bool, true, false, Option, Some, None}
+use Rattle.std.specs.Prelude.{Result, Ok, Err, IfOk, IsTrue, if◌then◌else◌}
+use Rattle.byte_lines.specs.Device.{TakesUpTo}
+use Rattle.config_view.specs.ConfigJson.{IsConfigJson}
+use Rattle.config_view.specs.ConfigText.{IsConfigDifference, IsConfigText}
+use Rattle.fed_config.specs.Configuration.{Configuration, config_id_of}
+use Rattle.fed_config.specs.Reading.{IsConfig, RefusesConfigBytes}
+use Rattle.fed_config.specs.declared.error.ConfigError.{ConfigError}
+use Rattle.migration.specs.declared.carrying.Choice.{Choice}
+use Rattle.migration.specs.declared.carrying.Choice.TheVariants.{All, RecordsOnly as OnlyRecords}
+use Rattle.receipt_core.specs.Acceptance.{Meaning}
+use Rattle.replica_core.specs.declared.error.SyncError.{SyncError}
+use Rattle.replica_core.specs.declared.error.SyncError.TheVariants.{Io as StreamFailed}
+use Rattle.replica_texts.specs.Snapshots.{IsSnapshot, RefusesSnapshot}
+use Rattle.replica_view.specs.HeldTexts.{HoldSame, IsHeldDifference}
+use Rattle.reseeding.specs.Reseeding.{Reseeds}
+use Rattle.reseeding.specs.declared.starting_anew.Reseeded.{Reseeded}
+use Rattle.reseeding.specs.declared.starting_anew.Reseeded.TheVariants.{NewConfig, Refusals}
+use Rattle.spiffe_name.specs.TrustDomain.{RefusesDomain}
+use Rattle.command_line.specs.OptionTexts.{SaysFlag, SaysNoOutputForm, SaysOutputForm, option_said}
+use Rattle.command_line.specs.declared.command_name.CommandName.{CommandName}
+use Rattle.command_line.specs.declared.command_name.CommandName.TheVariants as command
+use Rattle.command_line.specs.declared.command_name.OptionName.{OptionName}
+use Rattle.command_line.specs.declared.command_name.OptionName.TheVariants.{Allow, Format, To, With}
+use Rattle.command_line.specs.declared.command_name.OptionName.TheVariants.{RecordsOnly}
+use Rattle.command_line.specs.declared.option_texts.OutputForm.{OutputForm}
+use Rattle.command_line.specs.declared.option_texts.OutputForm.TheVariants as output
+use Rattle.fedbundle.specs.CommandRun.{CommandRun, CutsOff, DeviceRun, HasFailed, IsReadOut}
+use Rattle.fedbundle.specs.CommandRun.{PrintsText}
+use Rattle.fedbundle.specs.Migrate.{Move, RunsMigrate, move_to}
+use Rattle.fedbundle.specs.SaidValues.{EndsAtName, EndsWithout}
+use Rattle.fedbundle.specs.Shown.{IsUntouched, RefusesUnread, RefusesUnwritten, RunsWriter}
+use Rattle.fedbundle.specs.Shown.{SaysChosen, ShownCall, ShowsBy, exit_if_done, shown_said}
+use Rattle.fedbundle.specs.declared.error.CommandError.{CommandError}
+use Rattle.fedbundle.specs.declared.error.CommandError.TheVariants.{Config, Io, NoMemory, Sync}
+use Rattle.fedbundle.specs.declared.exits.Exit.{Exit}
+use Rattle.fedbundle.specs.declared.exits.Exit.TheVariants.{Refused, Usage}
+
+-- ---- a configuration, out of a source
+
+-- The source was read to its end, and of its bytes this is so.
+pub record ReadsAll (Is : List ℕ → Type 0) (source : DeviceRun) : Type 0 where
+  pub bytes : List ℕ
+  pub read : TakesUpTo source.before source.after 18446744073709551615 bytes
+  pub is : Is bytes
+
+-- By the answer: the bytes are this configuration; they are none, for this cause; the source
+-- failed; memory ran out for the bytes. There is no other error.
+abbrev pub ReadsConfig : DeviceRun → Result Configuration CommandError → Type 0
+ReadsConfig source (Ok c) = ReadsAll (λ bytes. IsConfig bytes c) source
+ReadsConfig source (Err (Config why)) = ReadsAll (λ bytes. RefusesConfigBytes bytes why) source
+ReadsConfig source (Err Io) = HasFailed source
+ReadsConfig source (Err NoMemory) = Unit {0}
+ReadsConfig source (Err _) = ⊥
+
+-- There is none, and nothing was written.
+pub record EndsAtConfig (run : CommandRun) (result : Result ℕ Exit) : Type 0 where
+  pub why : CommandError
+  pub reads : ReadsConfig run.source (Err why)
+  pub is : result ≡ Err (Refused why)
+  pub unwritten : IsUntouched run.sink
+
+-- ---- comparing
+
+-- If two are the same the exit status is 0, and else 1.
+abbrev pub exit_if_same : Result Bool CommandError → Result ℕ Exit
+exit_if_same (Ok same) = Ok (if same then 0 else 1)
+exit_if_same (Err e) = Err (Refused e)
+
+-- Such a text was written, and the exit status says whether the two are the same.
+pub record Compares (Is : List ℕ → Type 0) (Same : Type 0) (sink : DeviceRun)
+    (result : Result ℕ Exit) : Type 0 where
+  pub answer : Result Bool CommandError
+  pub runs : RunsWriter Is sink answer
+  pub same : IfOk answer (λ is_same. IsTrue is_same ↔ Same)
+  pub is : result ≡ exit_if_same answer
+
+-- ---- `config`
+
+abbrev pub IsConfigIn : OutputForm → Configuration → List ℕ → Type 0
+IsConfigIn output.Text c text = IsConfigText c text
+IsConfigIn output.Json c text = IsConfigJson c text
+
+-- what the configuration says, in this form
+pub record ShowsOneConfig (form : OutputForm) (c : Configuration) (sink : DeviceRun)
+    (result : Result ℕ Exit) : Type 0 where
+  pub answer : Result (Unit {0}) CommandError
+  pub runs : RunsWriter (IsConfigIn form c) sink answer
+  pub is : result ≡ exit_if_done answer
+
+-- where it differs from the one that was read
+pub record ComparesRead (c : Configuration) (run : CommandRun)
+    (result : Result ℕ Exit) : Type 0 where
+  pub other : Configuration
+  pub reads : ReadsConfig run.source (Ok other)
+  pub compares : Compares (IsConfigDifference c other) (config_id_of c ≡ config_id_of other)
+      run.sink result
+
+abbrev pub ComparesConfigs : Configuration → CommandRun → Result ℕ Exit → Type 0
+ComparesConfigs c run result = EndsAtConfig run result ⊎ ComparesRead c run result
+
+-- There is no JSON of two configurations.
+abbrev pub ComparesConfigsIn : OutputForm → Configuration → CommandRun → Result ℕ Exit → Type 0
+ComparesConfigsIn output.Text c run result = ComparesConfigs c run result
+ComparesConfigsIn output.Json c run result = RefusesUnread (λ exit. exit ≡ Usage) run result
+
+-- by the option `--with`
+abbrev pub ShowsConfigIn : (with : Option (List ℕ)) → OutputForm → Configuration → CommandRun
+    → Result ℕ Exit → Type 0
+ShowsConfigIn None form c run result = ShowsOneConfig form c run.sink result
+    × IsUntouched run.source
+ShowsConfigIn (Some path) form c run result = ComparesConfigsIn form c run result
+
+-- the words of a call, and the configuration
+pub record ConfigCall : Type 0 where
+  pub name : CommandName
+  pub texts : List (Option (List ℕ))
+  pub config : Configuration
+
+abbrev pub config_call : CommandName → List (Option (List ℕ)) → Configuration → ConfigCall
+config_call name texts config = record { name = name; texts = texts; config = config }
+
+abbrev pub config_said : ConfigCall → OptionName → Option (List ℕ)
+config_said call option = option_said call.name call.texts option
+
+-- in the form that the words say
+pub record ShowsConfigSaid (call : ConfigCall) (run : CommandRun)
+    (result : Result ℕ Exit) : Type 0 where
+  pub form : OutputForm
+  pub is_form : SaysOutputForm (config_said call Format) form
+  pub shows : ShowsConfigIn (config_said call With) form call.config run result
+
+-- They say no form.
+abbrev pub EndsAtForm : ConfigCall → Exit → Type 0
+EndsAtForm call exit = (exit ≡ Usage) × SaysNoOutputForm (config_said call Format)
+
+abbrev pub ShowsConfig : ConfigCall → CommandRun → Result ℕ Exit → Type 0
+ShowsConfig call run result = RefusesUnread (EndsAtForm call) run result
+    ⊎ ShowsConfigSaid call run result
+
+-- ---- `diff`
+
+-- what only one of two holds
+abbrev pub ComparesSides : (one other : Meaning) → DeviceRun → Result ℕ Exit → Type 0
+ComparesSides one other sink result =
+    Compares (IsHeldDifference one other) (HoldSame one other) sink result
+
+-- The source has no snapshot of the configuration, and nothing was written.
+pub record EndsAtSnapshot (m : Meaning) (run : CommandRun)
+    (result : Result ℕ Exit) : Type 0 where
+  pub why : SyncError
+  pub cause : RefusesSnapshot m.config run.source.before why
+  pub fault : why ≡ StreamFailed → HasFailed run.source
+  pub is : result ≡ Err (Refused (Sync why))
+  pub unwritten : IsUntouched run.sink
+
+-- The other side is what the snapshot holds that was read.
+pub record ComparesSnapshot (m : Meaning) (run : CommandRun)
+    (result : Result ℕ Exit) : Type 0 where
+  pub other : Meaning
+  pub snapshot : IsSnapshot m.config run.source.before other
+  pub read : IsReadOut run.source
+  pub compares : ComparesSides m other run.sink result
+
+abbrev pub ComparesHeld : Meaning → CommandRun → Result ℕ Exit → Type 0
+ComparesHeld m run result = EndsAtSnapshot m run result ⊎ ComparesSnapshot m run result
+
+-- The words may leave the other side out.
+abbrev pub ShowsDifference : ShownCall → CommandRun → Result ℕ Exit → Type 0
+ShowsDifference call run result = RefusesUnread (EndsWithout With call.name call.texts) run result
+    ⊎ ComparesHeld call.meaning run result
+
+-- ---- `migrate`
+
+-- by the flag for records
+abbrev pub SaysChoice : Option (List ℕ) → Choice → Type 0
+SaysChoice text OnlyRecords = SaysFlag text true
+SaysChoice text All = SaysFlag text false
+
+-- If nothing was left out the exit status is 0, and else 1.
+abbrev pub EndsMove : Result ℕ CommandError → Result ℕ Exit → Type 0
+EndsMove (Ok n) result = ((n ≡ 0) × (result ≡ Ok 0)) ⊎ ((n ≢ 0) × (result ≡ Ok 1))
+EndsMove (Err e) result = result ≡ Err (Refused e)
+
+-- what goes along, and lines of what does not
+pub record ShowsMove (move : Move) (sink complaints : DeviceRun)
+    (result : Result ℕ Exit) : Type 0 where
+  pub answer : Result ℕ CommandError
+  pub runs : RunsMigrate move sink complaints answer
+  pub is : EndsMove answer result
+
+-- to the configuration that was read
+pub record MovesToOther (choice : Choice) (m : Meaning) (run : CommandRun) (complaints : DeviceRun)
+    (result : Result ℕ Exit) : Type 0 where
+  pub to : Configuration
+  pub reads : ReadsConfig run.source (Ok to)
+  pub moves : ShowsMove (move_to choice to m) run.sink complaints result
+
+abbrev pub MovesToRead : Choice → Meaning → CommandRun → DeviceRun → Result ℕ Exit → Type 0
+MovesToRead choice m run complaints result =
+    (EndsAtConfig run result × IsUntouched complaints) ⊎ MovesToOther choice m run complaints result
+
+-- Without `--to` it stays under its configuration.
+abbrev pub MovesTo : Option (List ℕ) → Choice → Meaning → CommandRun → DeviceRun
+    → Result ℕ Exit → Type 0
+MovesTo None choice m run complaints result =
+    ShowsMove (move_to choice m.config m) run.sink complaints result × IsUntouched run.source
+MovesTo (Some path) choice m run complaints result =
+    MovesToRead choice m run complaints result
+
+pub record ShowsMigration (call : ShownCall) (run : CommandRun) (complaints : DeviceRun)
+    (result : Result ℕ Exit) : Type 0 where
+  pub choice : Choice
+  pub is_choice : SaysChoice (shown_said call RecordsOnly) choice
+  pub moves : MovesTo (shown_said call To) choice call.meaning run complaints result
+
+-- ---- `reseed`
+
+abbrev pub allowed_said : CommandName → List (Option (List ℕ)) → Option (List ℕ)
+allowed_said name texts = option_said name texts Allow
+
+-- The domain that the words allow is not a name.
+abbrev pub EndsAtAllowed : CommandName → List (Option (List ℕ)) → Exit → Type 0
+EndsAtAllowed name texts exit = EndsAtName RefusesDomain Allow name texts exit
+
+-- By the answer: all of the text was written, and this is the exit status; the device failed after
+-- a beginning of it. There is no other end.
+abbrev pub PrintsWhole : (text : List ℕ) (status : ℕ) → DeviceRun → Result ℕ Exit → Type 0
+PrintsWhole text status device (Ok ended) = (ended ≡ status) × PrintsText device text
+PrintsWhole text status device (Err (Refused Io)) = CutsOff device text
+PrintsWhole text status device (Err _) = ⊥
+
+-- the new configuration on the one device, or the lines of refused domains on the other
+abbrev pub PrintsReseeded : Reseeded → (sink complaints : DeviceRun) → Result ℕ Exit → Type 0
+PrintsReseeded (NewConfig text) sink complaints result = PrintsWhole text.items 0 sink result
+    × IsUntouched complaints
+PrintsReseeded (Refusals lines) sink complaints result =
+    PrintsWhole lines.items 1 complaints result × IsUntouched sink
+
+-- What comes of a start anew was printed.
+pub record PrintsReseed (m : Meaning) (allowed : Option (List ℕ)) (sink complaints : DeviceRun)
+    (result : Result ℕ Exit) : Type 0 where
+  pub outcome : Reseeded
+  pub reseeds : Reseeds m allowed outcome
+  pub prints : PrintsReseeded outcome sink complaints result
+
+-- Memory ran out before anything was written.
+pub record LacksReseed (sink complaints : DeviceRun) (result : Result ℕ Exit) : Type 0 where
+  pub is : result ≡ Err (Refused NoMemory)
+  pub unwritten : IsUntouched sink
+  pub silent : IsUntouched complaints
+
+abbrev pub ReseedsInto : Meaning → Option (List ℕ) → (sink complaints : DeviceRun)
+    → Result ℕ Exit → Type 0
+ReseedsInto m allowed sink complaints result = LacksReseed sink complaints result
+    ⊎ PrintsReseed m allowed sink complaints result
+
+-- in spite of what stands against the domain that the words allow, if they allow one
+pub record ReseedsSaid (call : ShownCall) (sink complaints : DeviceRun)
+    (result : Result ℕ Exit) : Type 0 where
+  pub allowed : Option (List ℕ)
+  pub is_allowed : SaysChosen (allowed_said call.name call.texts) allowed
+  pub reseeds : ReseedsInto call.meaning allowed sink complaints result
+
+abbrev pub ShowsReseed : ShownCall → (sink complaints : DeviceRun) → Result ℕ Exit → Type 0
+ShowsReseed call sink complaints result =
+    (RefusesUnwritten (EndsAtAllowed call.name call.texts) sink result × IsUntouched complaints)
+    ⊎ ReseedsSaid call sink complaints result
+
+-- ---- each command
+
+-- Only `migrate` and `reseed` complain of anything beside how they end.
+abbrev pub ShowsNamed : CommandName → ShownCall → CommandRun → DeviceRun → Result ℕ Exit → Type 0
+ShowsNamed command.Config call run complaints result =
+    ShowsConfig (config_call call.name call.texts call.meaning.config) run result
+    × IsUntouched complaints
+ShowsNamed command.Diff call run complaints result =
+    ShowsDifference call run result × IsUntouched complaints
+ShowsNamed command.Migrate call run complaints result =
+    ShowsMigration call run complaints result
+ShowsNamed command.Reseed call run complaints result =
+    ShowsReseed call run.sink complaints result × IsUntouched run.source
+ShowsNamed name call run complaints result = ShowsBy name call run result
+    × IsUntouched complaints
+
+-- What a command does that shows what is held.
+abbrev pub RunsShown : ShownCall → CommandRun → DeviceRun → Result ℕ Exit → Type 0
+RunsShown call run complaints result = ShowsNamed call.name call run complaints result

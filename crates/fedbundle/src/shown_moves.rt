@@ -1,0 +1,155 @@
+//! What goes along to another configuration, and a configuration for a start anew, by what the
+//! words of `migrate` and of `reseed` say. Both write on two sinks.
+ghost use Rattle.std.specs.Prelude.{IfErr, IfOk, Ok, option_copied, option_map};
+ghost use Rattle.fedbundle.specs.CommandRun.{device_run, run_of};
+ghost use Rattle.fedbundle.specs.Migrate.{move_to};
+ghost use Rattle.fedbundle.specs.SaidValues.{texts_of_call};
+ghost use Rattle.fedbundle.specs.Shown.{SaysChosen, shown_call};
+ghost use Rattle.fedbundle.specs.ShownCommands.{EndsAtAllowed, EndsMove, MovesToRead};
+ghost use Rattle.fedbundle.specs.ShownCommands.{PrintsWhole};
+ghost use Rattle.fedbundle.specs.ShownCommands.{ReseedsInto, SaysChoice, ShowsMigration, ShowsMove};
+ghost use Rattle.fedbundle.specs.ShownCommands.{ShowsReseed, allowed_said};
+
+use crate::config_source::read_config;
+use crate::error::CommandError;
+use crate::exits::Exit;
+use crate::migrate::run_migrate;
+use crate::said_values::read_domain;
+use crate::shown::Shown;
+use byte_lines::{Sink, Source, write_all};
+use closure_core::Closure;
+use command_line::{Call, OptionName, given, is_flag_given};
+use fed_config::Config;
+use migration::Choice;
+use reseeding::{Reseeded, reseed};
+use spiffe_name::TrustDomain;
+use std::alloc::Global;
+
+/// Writes the snapshot of what goes along to the configuration that the source has, or under the
+/// same one without `--to`, and on `complaints` a line for each that is left out, which makes the
+/// exit status 1.
+pub(crate) fn migrate<C: Closure, R: Source, W: Sink, E: Sink>(
+    alloc: Global,
+    closure: &C,
+    shown: Shown<'_, '_, '_>,
+    source: &mut R,
+    sink: &mut W,
+    complaints: &mut E,
+) -> Result<u8, Exit>
+    ensures { ShowsMigration (shown_call shown.entry (C.state closure.now).meaning)
+        (run_of (device_run R.remaining R.has_failed source.old source.new)
+        (device_run W.contents W.has_failed sink.old sink.new))
+        (device_run E.contents E.has_failed complaints.old complaints.new) result }
+{
+    let choice = choice_of(given(shown.call, OptionName::RecordsOnly));
+    match given(shown.call, OptionName::To) {
+        Some(_) => migrate_to_read(alloc, closure, choice, source, sink, complaints),
+        None => migrate_to(alloc, closure, closure.config(), choice, sink, complaints),
+    }
+}
+
+fn choice_of(text: Option<&str>) -> Choice
+    ensures { SaysChoice (option_map (λ t. t.now) text.entry) result }
+{
+    if is_flag_given(text) {
+        Choice::RecordsOnly
+    } else {
+        Choice::All
+    }
+}
+
+// The source has the other configuration.
+fn migrate_to_read<C: Closure, R: Source, W: Sink, E: Sink>(
+    alloc: Global,
+    closure: &C,
+    choice: Choice,
+    source: &mut R,
+    sink: &mut W,
+    complaints: &mut E,
+) -> Result<u8, Exit>
+    ensures { MovesToRead choice (C.state closure.now).meaning
+        (run_of (device_run R.remaining R.has_failed source.old source.new)
+        (device_run W.contents W.has_failed sink.old sink.new))
+        (device_run E.contents E.has_failed complaints.old complaints.new) result }
+{
+    let to = read_config(alloc, source)?;
+    migrate_to(alloc, closure, &to, choice, sink, complaints)
+}
+
+fn migrate_to<C: Closure, W: Sink, E: Sink>(
+    alloc: Global,
+    closure: &C,
+    to: &Config,
+    choice: Choice,
+    sink: &mut W,
+    complaints: &mut E,
+) -> Result<u8, Exit>
+    ensures { ShowsMove (move_to choice to.now (C.state closure.now).meaning)
+        (device_run W.contents W.has_failed sink.old sink.new)
+        (device_run E.contents E.has_failed complaints.old complaints.new) result }
+{
+    let count = run_migrate(alloc, closure, to, choice, sink, complaints)?;
+    Ok(status_of_left(count))
+}
+
+// The exit status, by how many were left out.
+fn status_of_left(count: u64) -> u8
+    ensures { EndsMove (Ok count) (Ok result) }
+{
+    if count == 0 { 0 } else { 1 }
+}
+
+/// Writes the configuration for a start anew; or, on `complaints`, the lines of the domains that
+/// are refused, which make the exit status 1.
+pub(crate) fn reseed_of<C: Closure, W: Sink, E: Sink>(
+    alloc: Global,
+    closure: &C,
+    shown: Shown<'_, '_, '_>,
+    sink: &mut W,
+    complaints: &mut E,
+) -> Result<u8, Exit>
+    ensures { ShowsReseed (shown_call shown.entry (C.state closure.now).meaning)
+        (device_run W.contents W.has_failed sink.old sink.new)
+        (device_run E.contents E.has_failed complaints.old complaints.new) result }
+{
+    let allowed = allowed_domain(alloc, shown.call)?;
+    reseed_into(alloc, closure, allowed.as_ref(), sink, complaints)
+}
+
+fn allowed_domain(alloc: Global, call: &Call<'_>) -> Result<Option<TrustDomain>, Exit>
+    ensures ok { IfOk result (SaysChosen (allowed_said call.now.name (texts_of_call call.now))) }
+    ensures refused { IfErr result (EndsAtAllowed call.now.name (texts_of_call call.now)) }
+{
+    match given(call, OptionName::Allow) {
+        Some(text) => Ok(Some(read_domain(alloc, text)?)),
+        None => Ok(None),
+    }
+}
+
+fn reseed_into<C: Closure, W: Sink, E: Sink>(
+    alloc: Global,
+    closure: &C,
+    allowed: Option<&TrustDomain>,
+    sink: &mut W,
+    complaints: &mut E,
+) -> Result<u8, Exit>
+    ensures { ReseedsInto (C.state closure.now).meaning (option_copied allowed.entry)
+        (device_run W.contents W.has_failed sink.old sink.new)
+        (device_run E.contents E.has_failed complaints.old complaints.new) result }
+{
+    match reseed(alloc, closure, allowed)? {
+        Reseeded::NewConfig(text) => print(text.as_slice(), 0, sink),
+        Reseeded::Refusals(lines) => print(lines.as_slice(), 1, complaints),
+    }
+}
+
+// Writes all of the text, and returns the status.
+fn print<W: Sink>(text: &[u8], status: u8, sink: &mut W) -> Result<u8, Exit>
+    ensures { PrintsWhole text.now status
+        (device_run W.contents W.has_failed sink.old sink.new) result }
+{
+    match write_all(sink, text) {
+        Ok(()) => Ok(status),
+        Err(_) => Err(Exit::Refused(CommandError::Io)),
+    }
+}

@@ -1,0 +1,239 @@
+//! The audit file of a running replica: a line for each change, which is on the disk before the
+//! journal's lines of that change.
+use crate::access::owner_only;
+use crate::file_names::sync_folder;
+use crate::named_files::{foreign_file, is_named, is_plain_file};
+use change_view::{
+    AUDIT_BEGINNING, AuditLine, NewEntries, holds_line, push_start_line, read_audit_line,
+};
+use closure_core::Closure;
+use fedbundle::FileFault;
+use memchr::memrchr;
+use replica_core::SyncError;
+use state_steps::{AppendStep, Appending};
+use std::alloc::{AllocError, Global};
+use std::fs::{File, Files};
+use std::io::Write;
+use std::os::unix::fs::FileExt;
+
+/// How many bytes of the end of the file are read at once. A line has fewer.
+const READ_BYTES: usize = 65_536;
+
+/// The system's number for a file that was replaced (`ESTALE`).
+const REPLACED_FILE: i32 = 116;
+
+/// The audit file, to which lines are appended. After a fault nothing is appended any more.
+#[derive(Drop)]
+pub struct AuditFile {
+    file: File,
+    name: String,
+    appending: Appending,
+}
+
+// The last line of the first bytes of the file, as far as it has one.
+#[derive(Drop)]
+struct FoundLine {
+    // At which byte it begins.
+    begin: u64,
+    bytes: Vec<u8>,
+    // Whether it has its line feed, which is not among the bytes.
+    is_whole: bool,
+}
+
+impl AuditFile {
+    /// The audit file at the path, which is made if it is not there, and how many lines of it were
+    /// cut off. The last lines are cut off if their changes are not held: a kill came after they
+    /// were written, and before the journal's lines were. A line that says what is held is at its
+    /// end then, and all of it is on the disk.
+    ///
+    /// # Errors
+    /// - [`SyncError::Io`]: the system refused a step, or something else than an audit file has the
+    ///   path, which stays as it is,
+    /// - [`SyncError::NoMemory`]: memory ran out.
+    pub fn begin<C: Closure, R: Files<File = File>>(
+        files: &R,
+        alloc: Global,
+        closure: &C,
+        path: &str,
+        moment: u64,
+    ) -> Result<(AuditFile, u64), FileFault> {
+        let file = open_audit(files, path)?;
+        let cut = cut_unheld(alloc, closure, &file)?;
+        let mut audit = AuditFile {
+            file,
+            name: String::from_str(alloc, path)?,
+            appending: Appending::begin(),
+        };
+        audit.append(files, start_text(alloc, closure, moment)?.as_slice())?;
+        sync_folder(files, path)?;
+        Ok((audit, cut))
+    }
+
+    /// Appends the lines, has the system write them to the disk, and looks whether the file still
+    /// has its name. Only then the journal may get the lines of their changes.
+    ///
+    /// # Errors
+    /// `NoMemory` if the system says that memory ran out, and else `Io`; `Io` also if an earlier
+    /// call failed, or if the name leads to another file.
+    pub fn append<R: Files>(&mut self, files: &R, lines: &[u8]) -> Result<(), FileFault> {
+        if lines.is_empty() {
+            return Ok(());
+        }
+        self.appending.add();
+        for _ in 0..STEPS {
+            let Some(step) = self.appending.next() else {
+                break;
+            };
+            if let Err(fault) = self.do_step(files, lines, step) {
+                self.appending.failed();
+                return Err(fault);
+            }
+            self.appending.done();
+        }
+        if self.appending.is_done() {
+            Ok(())
+        } else {
+            Err(FileFault::from(SyncError::Io))
+        }
+    }
+
+    fn do_step<R: Files>(
+        &mut self,
+        files: &R,
+        lines: &[u8],
+        step: AppendStep,
+    ) -> Result<(), FileFault> {
+        match step {
+            AppendStep::WriteLines => Ok(self.file.write_all(lines)?),
+            AppendStep::SyncLines => Ok(self.file.sync_data()?),
+            AppendStep::SeeNames if is_named(files, &self.file, self.name.as_str())? => Ok(()),
+            AppendStep::SeeNames => Err(FileFault {
+                why: SyncError::Io,
+                code: Some(REPLACED_FILE),
+            }),
+        }
+    }
+}
+
+/// How many steps an append has.
+const STEPS: u32 = 3;
+
+fn open_audit<R: Files<File = File>>(files: &R, path: &str) -> Result<File, FileFault> {
+    let mut options = owner_only();
+    options.read(true).append(true);
+    if !is_plain_file(files, path)? {
+        options.create_new(true);
+    }
+    Ok(options.open(files, path)?)
+}
+
+fn start_text<C: Closure>(alloc: Global, closure: &C, moment: u64) -> Result<Vec<u8>, AllocError> {
+    let mut line = Vec::new(alloc);
+    // What is lent tells the form of what is held.
+    let _config = closure.config();
+    let held = NewEntries {
+        receipts: closure.receipt_count() as u64,
+        records: closure.distrusts().count() as u64,
+    };
+    push_start_line(&mut line, moment, held)?;
+    Ok(line)
+}
+
+// Cuts off the last lines whose changes are not held. Returns how many.
+fn cut_unheld<C: Closure>(alloc: Global, closure: &C, file: &File) -> Result<u64, FileFault> {
+    let mut bytes = file.metadata()?.len();
+    let mut cut = 0u64;
+    for _ in 0..u64::MAX {
+        let Some(line) = last_line(alloc, file, bytes)? else {
+            break;
+        };
+        if is_kept(alloc, closure, &line)? {
+            break;
+        }
+        bytes = line.begin;
+        cut = cut.saturating_add(1);
+    }
+    if cut > 0 {
+        file.set_len(bytes)?;
+        file.sync_all()?;
+    }
+    Ok(cut)
+}
+
+// Whether the line is of a change that is held, or of a start. What is no line of an audit file,
+// and no beginning of one, is refused.
+fn is_kept<C: Closure>(alloc: Global, closure: &C, line: &FoundLine) -> Result<bool, FileFault> {
+    let bytes = line.bytes.as_slice();
+    if !line.is_whole {
+        return if is_torn(bytes) {
+            Ok(false)
+        } else {
+            Err(foreign_file())
+        };
+    }
+    match read_audit_line(bytes) {
+        Some(AuditLine::Start) => Ok(true),
+        Some(AuditLine::Change(last)) => Ok(holds_line(alloc, closure, &last)?),
+        None => Err(foreign_file()),
+    }
+}
+
+// Whether a kill or a cut of power may have left this of a line.
+fn is_torn(bytes: &[u8]) -> bool {
+    bytes.starts_with(AUDIT_BEGINNING)
+        || AUDIT_BEGINNING.starts_with(bytes)
+        || bytes.iter().all(|byte| *byte == 0)
+}
+
+// The last line of the first so many bytes of the file. One that is longer than any of an audit
+// file comes without its beginning.
+fn last_line(alloc: Global, file: &File, bytes: u64) -> Result<Option<FoundLine>, FileFault> {
+    if bytes == 0 {
+        return Ok(None);
+    }
+    let from = bytes.saturating_sub(READ_BYTES as u64);
+    let mut buffer = Vec::from_elem(alloc, 0, READ_BYTES)?;
+    let room = usize::try_from(bytes - from)
+        .unwrap_or(READ_BYTES)
+        .min(READ_BYTES);
+    read_whole(file, &mut buffer[..room], from)?;
+    let read = &buffer[..room];
+    let is_whole = read.ends_with(b"\n");
+    let text = read.strip_suffix(b"\n").unwrap_or(read);
+    let line = after_line_feed(text);
+    let begin = text.len().saturating_sub(line.len());
+    Ok(Some(FoundLine {
+        begin: from.saturating_add(begin as u64),
+        bytes: Vec::from_slice(alloc, line)?,
+        is_whole,
+    }))
+}
+
+// What comes after the last line feed, or all where there is none.
+fn after_line_feed(text: &[u8]) -> &[u8] {
+    match memrchr(b'\n', text) {
+        Some(end) => &text[end + 1..],
+        None => text,
+    }
+}
+
+// Reads until the buffer is full.
+fn read_whole(file: &File, buffer: &mut [u8], from: u64) -> Result<(), FileFault> {
+    let mut read = 0usize;
+    for _ in 0..READ_BYTES {
+        if read >= buffer.len() {
+            return Ok(());
+        }
+        let room = buffer.len() - read;
+        let count = file.read_at(&mut buffer[read..], from.saturating_add(read as u64))?;
+        if count == 0 {
+            break;
+        }
+        read += count.min(room);
+    }
+    if read >= buffer.len() {
+        Ok(())
+    } else {
+        Err(FileFault::from(SyncError::Io))
+    }
+}
