@@ -16,7 +16,8 @@ pub(crate) enum Topology {
     Ring,
     /// The first one pulls from all others, and they from it.
     Star,
-    /// Each pulls from four that are drawn.
+    /// Each pulls from the one before it, and from three that are drawn. If all four were drawn,
+    /// some replicas would be asked by nobody.
     Random,
     /// Each pulls from the one above it and the fifteen below it.
     Tree,
@@ -47,11 +48,11 @@ impl Topology {
         match self {
             Topology::Mesh => push_mesh(count, replica, &mut peers)?,
             Topology::Ring => {
-                peers.push(replica.checked_sub(1).unwrap_or(count.saturating_sub(1)))?;
+                peers.push(before(count, replica))?;
                 peers.push(replica.saturating_add(1).checked_rem(count).unwrap_or(0))?;
             }
             Topology::Star => push_star(count, replica, &mut peers)?,
-            Topology::Random => push_drawn(chance, count, &mut peers)?,
+            Topology::Random => push_drawn(chance, count, replica, &mut peers)?,
             Topology::Tree => push_tree(replica, &mut peers)?,
         }
         Ok(peers)
@@ -95,11 +96,25 @@ fn push_star(count: usize, replica: usize, peers: &mut Vec<usize>) -> Result<(),
     Ok(())
 }
 
-fn push_drawn(chance: &mut Chance, count: usize, peers: &mut Vec<usize>) -> Result<(), AllocError> {
-    for _ in 0..4 {
+fn push_drawn(
+    chance: &mut Chance,
+    count: usize,
+    replica: usize,
+    peers: &mut Vec<usize>,
+) -> Result<(), AllocError> {
+    peers.push(before(count, replica))?;
+    for _ in 0..3 {
         peers.push(chance.below(count))?;
     }
     Ok(())
+}
+
+// The one before a replica; the last one, if it is the first.
+fn before(count: usize, replica: usize) -> usize {
+    match replica.checked_sub(1) {
+        Some(before) => before,
+        None => count.saturating_sub(1),
+    }
 }
 
 fn push_tree(replica: usize, peers: &mut Vec<usize>) -> Result<(), AllocError> {
