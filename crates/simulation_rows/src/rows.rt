@@ -1,0 +1,123 @@
+//! The rows.
+use crate::chance::Chance;
+use crate::corpus::{Corpus, make_corpus};
+use crate::fleet::Setting;
+use crate::model::Sight;
+use crate::scale::{tell_agreement, tell_scale};
+use crate::search::{Failed, search};
+use crate::stop::Stop;
+use crate::topology::Topology;
+use crate::universe::make_universe;
+use crate::world::Stage;
+use std::alloc::{AllocError, Global};
+use trust_closure::ExchangeClosure;
+
+/// Tells what comes of a row.
+pub(crate) fn tell(
+    alloc: Global,
+    verb: &str,
+    words: &str,
+    answer: &mut String,
+) -> Result<(), Stop> {
+    match verb {
+        "search" => tell_search(alloc, words, answer),
+        "scale" => tell_fleet(alloc, words, answer),
+        "agree" => tell_same(alloc, words, answer),
+        _ => Err(Stop::Verb),
+    }
+}
+
+// `search SIGHT SEED COUNT`
+fn tell_search(alloc: Global, words: &str, answer: &mut String) -> Result<(), Stop> {
+    let sight = sight(word(words, 0)?)?;
+    let seed = number(words, 1)?;
+    let count = size(words, 2)?;
+    match searched(alloc, sight, seed, count)? {
+        Some(failed) => Ok(tell_failed(&failed, answer)?),
+        None => Ok(writeln!(answer, "{count} schedules agree with the model")?),
+    }
+}
+
+// `scale TOPOLOGY calm SEED REPLICAS DOMAINS LENGTH`, or `rough` in place of `calm`
+fn tell_fleet(alloc: Global, words: &str, answer: &mut String) -> Result<(), Stop> {
+    let corpus = make_named(alloc, words)?;
+    tell_scale::<ExchangeClosure>(alloc, read_setting(words, &corpus)?, &corpus, answer)
+}
+
+// `agree` and the words of `scale`
+fn tell_same(alloc: Global, words: &str, answer: &mut String) -> Result<(), Stop> {
+    let corpus = make_named(alloc, words)?;
+    tell_agreement::<ExchangeClosure>(alloc, read_setting(words, &corpus)?, &corpus, answer)
+}
+
+fn make_named(alloc: Global, words: &str) -> Result<Corpus, Stop> {
+    make_corpus(alloc, size(words, 4)?, size(words, 5)?)
+}
+
+fn read_setting(words: &str, corpus: &Corpus) -> Result<Setting, Stop> {
+    let receipts = corpus.receipts.len();
+    Ok(Setting {
+        topology: Topology::named(word(words, 0)?)?,
+        is_rough: word(words, 1)? == "rough",
+        seed: number(words, 2)?,
+        replicas: size(words, 3)?,
+        room: receipts.saturating_mul(800).saturating_add(65_536),
+    })
+}
+
+fn searched(alloc: Global, sight: Sight, seed: u64, count: usize) -> Result<Option<Failed>, Stop> {
+    let universe = make_universe(alloc, seed)?;
+    let stage = Stage {
+        alloc,
+        universe: &universe,
+        sight,
+    };
+    search::<ExchangeClosure>(stage, &mut Chance::new(seed), count)
+}
+
+fn tell_failed(failed: &Failed, answer: &mut String) -> Result<(), AllocError> {
+    let Failed {
+        after,
+        replicas,
+        failure,
+        ..
+    } = failed;
+    writeln!(
+        answer,
+        "after {after} schedules, {replicas} replicas: {failure}"
+    )?;
+    for step in failed.steps.as_slice() {
+        writeln!(answer, "{step}")?;
+    }
+    Ok(())
+}
+
+fn sight(word: &str) -> Result<Sight, Stop> {
+    match word {
+        "all" => Ok(Sight::All),
+        "no-distrust" => Ok(Sight::NoDistrust),
+        "no-loss" => Ok(Sight::NoLoss),
+        "no-records" => Ok(Sight::NoRecords),
+        _ => Err(Stop::Word),
+    }
+}
+
+/// The word at this place of several with one space between them.
+pub(crate) fn word(words: &str, place: usize) -> Result<&str, Stop> {
+    words.split(' ').nth(place).ok_or(Stop::Word)
+}
+
+/// The number at this place.
+pub(crate) fn number(words: &str, place: usize) -> Result<u64, Stop> {
+    match word(words, place)?.parse::<u64>() {
+        Ok(number) => Ok(number),
+        Err(_) => Err(Stop::Word),
+    }
+}
+
+fn size(words: &str, place: usize) -> Result<usize, Stop> {
+    match usize::try_from(number(words, place)?) {
+        Ok(size) => Ok(size),
+        Err(_) => Err(Stop::Word),
+    }
+}
