@@ -10,5 +10,5 @@ mod progress;
 mod receipt_count;
 mod watched;
 
-pub use progress::{ProgressMode, WorkProgress};
+pub use progress::{LongWork, ProgressMode, WorkProgress};
 pub use watched::{WatchedReader, WatchedWriter};

@@ -22,13 +22,43 @@ pub enum ProgressMode {
     Shown,
 }
 
+/// What long work does.
+#[derive(Clone, Copy, Debug, PartialEq, Eq)]
+pub enum LongWork {
+    /// It reads the state file and its journal.
+    ReadingState,
+    /// It reads the state file of another replica.
+    ReadingOtherState,
+    /// It writes the state file.
+    WritingState,
+    /// It writes what goes along to another configuration.
+    WritingMigratedState,
+    /// It takes what another replica has.
+    Pulling,
+    /// It gives other replicas what it has.
+    Serving,
+}
+
+impl LongWork {
+    fn text<'a>(self) -> &'a str {
+        match self {
+            LongWork::ReadingState => "reading the state",
+            LongWork::ReadingOtherState => "reading the other state",
+            LongWork::WritingState => "writing the state",
+            LongWork::WritingMigratedState => "writing the migrated state",
+            LongWork::Pulling => "pulling",
+            LongWork::Serving => "serving",
+        }
+    }
+}
+
 /// Counts what a piece of work has read or written, and says it. That it cannot be said, or that
 /// the clock fails, changes nothing.
 #[derive(Drop)]
 pub struct WorkProgress<'a, R> {
     rt: &'a R,
     alloc: Global,
-    work: &'static str,
+    work: LongWork,
     // When the work began; none if nothing is to be said.
     begun: Option<Instant>,
     // After how many seconds the next line comes.
@@ -38,11 +68,11 @@ pub struct WorkProgress<'a, R> {
 }
 
 impl<'a, R: Clock + Eprint> WorkProgress<'a, R> {
-    /// Work that begins now. `work` names it, as `reading the state`.
+    /// Work that begins now.
     pub fn begin(
         rt: &'a R,
         alloc: Global,
-        work: &'static str,
+        work: LongWork,
         mode: ProgressMode,
     ) -> WorkProgress<'a, R> {
         WorkProgress {
@@ -76,7 +106,7 @@ impl<'a, R: Clock + Eprint> WorkProgress<'a, R> {
     }
 
     fn say(&self) {
-        let work = self.work;
+        let work = self.work.text();
         let receipts = self.receipts.count();
         let megabytes = self.bytes / MEGABYTE;
         let line = format!(in self.alloc;

@@ -5,7 +5,7 @@ use byte_lines::FromRead;
 use closure_core::Closure;
 use fed_config::Config;
 use fedbundle::{CommandError, FileFault};
-use progress_line::{ProgressMode, WatchedReader, WorkProgress};
+use progress_line::{LongWork, ProgressMode, WatchedReader, WorkProgress};
 use replica_journal::read_journal;
 use std::alloc::Global;
 use std::fs::Files;
@@ -36,7 +36,7 @@ pub fn load_state<C: Closure, R: Files + Clock + Eprint>(
     path: &str,
     mode: ProgressMode,
 ) -> Result<C, CommandError> {
-    let mut progress = WorkProgress::begin(rt, alloc, "reading the state", mode);
+    let mut progress = WorkProgress::begin(rt, alloc, LongWork::ReadingState, mode);
     load_files(rt, alloc, config, path, &mut progress)
 }
 

@@ -4,7 +4,7 @@ use crate::named_files::{found, remove_own};
 use byte_lines::FromWrite;
 use closure_core::Closure;
 use fedbundle::FileFault;
-use progress_line::{ProgressMode, WatchedWriter, WorkProgress};
+use progress_line::{LongWork, ProgressMode, WatchedWriter, WorkProgress};
 use replica_core::SyncError;
 use replica_sync::write_snapshot;
 use std::alloc::Global;
@@ -56,7 +56,7 @@ pub(crate) fn write_closure<C: Closure, R: Clock + Eprint>(
     mode: ProgressMode,
 ) -> Result<(), FileFault> {
     let mut noting = NotingFile { file, code: None };
-    let mut progress = WorkProgress::begin(rt, alloc, "writing the state", mode);
+    let mut progress = WorkProgress::begin(rt, alloc, LongWork::WritingState, mode);
     let watched = WatchedWriter::new(&mut noting, &mut progress);
     match write_into(alloc, closure, watched) {
         Ok(()) => Ok(()),

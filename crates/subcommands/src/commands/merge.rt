@@ -6,7 +6,7 @@ use byte_lines::FromRead;
 use command_streams::progress_mode;
 use fed_config::Config;
 use fedbundle::{Call, CommandError, Exit};
-use progress_line::{WatchedReader, WorkProgress};
+use progress_line::{LongWork, WatchedReader, WorkProgress};
 use replica_sync::read_snapshot;
 use std::io::Read;
 use trust_closure::IndexedClosure;
@@ -33,7 +33,7 @@ fn read_watched<R: Read>(
     config: &Config,
     reader: &mut R,
 ) -> Result<IndexedClosure, CommandError> {
-    let work = "reading the other state";
+    let work = LongWork::ReadingOtherState;
     let mut progress = WorkProgress::begin(rt, rt.alloc(), work, progress_mode(rt));
     read_from(rt, config, &mut WatchedReader::new(reader, &mut progress))
 }

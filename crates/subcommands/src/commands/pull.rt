@@ -8,7 +8,7 @@ use command_faults::status_of;
 use command_streams::{options, output_line, progress_mode};
 use fed_config::Config;
 use fedbundle::{Call, CommandError, Exit, OptionName, Step, run_pull, wanted};
-use progress_line::{WatchedReader, WorkProgress};
+use progress_line::{LongWork, WatchedReader, WorkProgress};
 use state_files::{SeenState, has_journal, see_state};
 use std::io::Read;
 use trust_closure::{Closure, ExchangeClosure};
@@ -73,7 +73,7 @@ fn pull_watched<R: Read>(
     answers: &mut R,
     connection: &Connection,
 ) -> Result<(), CommandError> {
-    let mut progress = WorkProgress::begin(rt, rt.alloc(), "pulling", progress_mode(rt));
+    let mut progress = WorkProgress::begin(rt, rt.alloc(), LongWork::Pulling, progress_mode(rt));
     let mut watched = WatchedReader::new(answers, &mut progress);
     pull_on(rt, closure, &mut watched, connection)
 }

@@ -9,7 +9,7 @@ use command_streams::{
 };
 use fed_config::Config;
 use fedbundle::{Call, CommandError, Exit, OptionName, run_serve, wanted, write_served};
-use progress_line::{WatchedWriter, WorkProgress};
+use progress_line::{LongWork, WatchedWriter, WorkProgress};
 use std::io::Write;
 use std::net::{SocketAddr, TcpListener};
 use trust_closure::ExchangeClosure;
@@ -92,7 +92,7 @@ fn serve_on(
     closure: &ExchangeClosure,
     connection: &Connection,
 ) -> Result<u64, CommandError> {
-    let mut progress = WorkProgress::begin(rt, rt.alloc(), "serving", progress_mode(rt));
+    let mut progress = WorkProgress::begin(rt, rt.alloc(), LongWork::Serving, progress_mode(rt));
     let answers = WatchedWriter::new(connection.direction(rt), &mut progress);
     let mut source = FromRead::new(connection.direction(rt));
     let mut sink = FromWrite::new(answers);

@@ -6,7 +6,7 @@ use byte_lines::{FromWrite, Source};
 use command_streams::{complaints, input, options, output_progress_mode};
 use fed_config::Config;
 use fedbundle::{Call, CommandName, Exit, OptionName, Shown, given, run_shown};
-use progress_line::{ProgressMode, WatchedWriter, WorkProgress};
+use progress_line::{LongWork, ProgressMode, WatchedWriter, WorkProgress};
 use std::rt::Clock;
 use trust_closure::IndexedClosure;
 
@@ -56,7 +56,7 @@ fn show_from<R: Source>(
         moment: unix_second(rt),
     };
     let mode = progress_mode_of(rt, call);
-    let mut progress = WorkProgress::begin(rt, rt.alloc(), "writing the migrated state", mode);
+    let mut progress = WorkProgress::begin(rt, rt.alloc(), LongWork::WritingMigratedState, mode);
     let output = WatchedWriter::new(rt.stdout(), &mut progress);
     run_shown(
         rt.alloc(),
