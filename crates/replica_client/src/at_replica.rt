@@ -1,10 +1,12 @@
 //! The commands with `--at`: a running replica carries them out.
 use crate::client::{AskFault, LocalRequest, ask_replica};
+use crate::distrust_at::ask_with;
 use byte_lines::{Source, read_up_to};
 use command_streams::{input, options};
 use fedbundle::{Call, CommandError, CommandName, Exit, OptionName, Step, given};
 use local_answers::{MOST_INPUT, request_words};
 use state_files::{has_journal, state_bytes};
+use std::alloc::{AllocError, Global};
 use std::fs;
 use std::io::Write;
 use std::os::unix::fs::FileTypeExt;
@@ -112,15 +114,16 @@ fn is_socket(rt: &HostRuntime, path: &str) -> bool {
 
 // What the other replica carries over to its own configuration.
 fn snapshot_at(rt: &HostRuntime, path: &str, wait_seconds: u64) -> Result<AskInput, Exit> {
-    let request = LocalRequest {
-        path,
-        words: &[CommandName::Migrate.text()],
-        input: &[],
-        wait_seconds,
-    };
+    let words = migrate_words(rt.alloc())?;
     let mut snapshot = Vec::new(rt.alloc());
-    match ask_for(rt, &request, &mut snapshot)? {
+    match ask_with(rt, words.as_slice(), path, wait_seconds, &mut snapshot)? {
         0 => Ok(AskInput::Bytes(snapshot)),
         status => Ok(AskInput::Ended(status)),
     }
+}
+
+fn migrate_words(alloc: Global) -> Result<Vec<String>, AllocError> {
+    let mut words = Vec::new(alloc);
+    words.push(String::from_str(alloc, CommandName::Migrate.text())?)?;
+    Ok(words)
 }

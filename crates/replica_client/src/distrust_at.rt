@@ -103,7 +103,7 @@ fn ask_for_one(
 }
 
 // Asks without an input.
-fn ask_with<W: Write>(
+pub(crate) fn ask_with<W: Write>(
     rt: &HostRuntime,
     words: &[String],
     path: &str,
