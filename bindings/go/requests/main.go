@@ -53,16 +53,19 @@ var calls = map[string]call{
 	"snapshot": func(ctx context.Context, c *client.Client, l *line) (any, error) { return c.Snapshot(ctx) },
 	"migrate": func(ctx context.Context, c *client.Client, l *line) (any, error) {
 		snapshot, leftOut, err := c.Migrate(ctx, l.Input)
-		return map[string]any{"snapshot": snapshot, "left_out": leftOut}, err
+		return map[string]any{"snapshot": snapshot, "left_out": append([]string{}, leftOut...)}, err
 	},
 	"migrate_records": func(ctx context.Context, c *client.Client, l *line) (any, error) {
 		snapshot, leftOut, err := c.MigrateRecords(ctx, l.Input)
-		return map[string]any{"snapshot": snapshot, "left_out": leftOut}, err
+		return map[string]any{"snapshot": snapshot, "left_out": append([]string{}, leftOut...)}, err
 	},
 	"reseed": func(ctx context.Context, c *client.Client, l *line) (any, error) {
 		return c.Reseed(ctx, l.Texts[0])
 	},
-	"diff": func(ctx context.Context, c *client.Client, l *line) (any, error) { return c.Diff(ctx, l.Input) },
+	"diff": func(ctx context.Context, c *client.Client, l *line) (any, error) {
+		lines, err := c.Diff(ctx, l.Input)
+		return append([]string{}, lines...), err
+	},
 	"bundle": func(ctx context.Context, c *client.Client, l *line) (any, error) {
 		return c.Bundle(ctx, l.Texts[0])
 	},
