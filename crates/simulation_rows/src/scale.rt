@@ -1,4 +1,4 @@
-//! Large simulations, and what is told of them.
+//! Large simulations, and what is printed of them.
 use crate::corpus::Corpus;
 use crate::fleet::{EVERY, Fleet, Setting};
 use crate::play::report_of;
