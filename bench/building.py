@@ -48,7 +48,7 @@ def earlier_programs():
 
 def build_ours(name, *crates, words=(), text=b"", top=TOP):
     """Builds the program programs/NAME.rt.txt of a checkout, with the files of programs/NAME/ if there are any, over the
-    crates and all that they stand on, runs it once on the words and the text, and returns where it is."""
+    crates and all that they use, runs it once on the arguments and the text, and returns where it is."""
     repo = OUT / ("repo" if top == TOP else "repo-before")
     program = repo / "crates" / f"{name}_bench"
     shutil.rmtree(program / "src", ignore_errors=True)
@@ -73,8 +73,8 @@ def build_ours(name, *crates, words=(), text=b"", top=TOP):
 
 
 def build_with_earlier(name, *crates):
-    """Our program, and where $FEDBUNDLE_BEFORE_AT names the checkout of an earlier commit that one's: it is measured in
-    the same turns."""
+    """Our program, and that of an earlier commit if $FEDBUNDLE_BEFORE_AT names its checkout: it is measured in the
+    same turns."""
     earlier = os.environ.get("FEDBUNDLE_BEFORE_AT")
     if earlier is not None and not Path(earlier, "crates.txt").is_file():
         stop(f"{earlier} is no checkout: $FEDBUNDLE_BEFORE_AT names it")
@@ -83,13 +83,13 @@ def build_with_earlier(name, *crates):
 
 
 def own_rows(programs):
-    """The places of our programs among all, and the word before their rows: today's stands first, the peer second, and the
-    program of an earlier commit third, where there is one."""
+    """The places of our programs among all, and the word before their rows: today's comes first, the peer second, and the
+    program of an earlier commit third, if there is one."""
     return [(0, ""), (2, "before")][: len(programs) - 1]
 
 
 def below(lines, crates):
-    """The crates and those of the repository that they stand on, each once."""
+    """The crates and those of the repository that they use, each once."""
     found = list(crates)
     for at in found:
         for other in lines[at].split(":")[1].split():
@@ -110,14 +110,14 @@ def copy_crate(source, target):
 
 def built_at(crate):
     """When the crate's library was proved and built, or 0. Its stamp tells `rt` of which files, so that it proves and
-    builds the library again where they are not those that lie there."""
+    builds the library again if they are not those that lie there."""
     stamp = crate / "out/rlib/stamp"
     return stamp.stat().st_mtime if stamp.is_file() else 0
 
 
 def build_peer(name, soft=False, cpu=None):
     """Builds the peer in plain Rust, and returns where it is. `soft` has it compute digests without the processor's own
-    instructions; `cpu` names the processors that it is built for, where these are not all of the kind."""
+    instructions; `cpu` names the processors that it is built for, if these are not all of the kind."""
     missing = [package for crate, package in PACKAGES.items() if not list(REGISTRY.glob(f"{crate}-[0-9]*"))]
     if missing:
         stop("these packages are missing: " + " ".join(missing))
@@ -138,7 +138,7 @@ def build_peer(name, soft=False, cpu=None):
 
 
 def run_timed(command, path, sink=subprocess.PIPE):
-    """Runs the command on a file, and returns what it printed, where that goes to no sink, the seconds that it used of
+    """Runs the command on a file, and returns what it printed, if that goes to no sink, the seconds that it used of
     processors, and the most memory that it held, in bytes: as `time` tells it, whose own process is small. A process that
     starts another hands its own most on to it."""
     if not os.access(TIME, os.X_OK):

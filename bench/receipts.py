@@ -79,7 +79,7 @@ def write_config(folder):
 
 
 def write_receipts(folder, kind, count):
-    """The configuration, and so many receipts."""
+    """The configuration, and this many receipts."""
     path = folder / f"{kind}-{count}"
     if not path.exists():
         with path.open("w") as file:

@@ -4,7 +4,7 @@ import json
 
 
 def url_text(random_, count):
-    """So many random bytes, as base64url without padding."""
+    """This many random bytes, as base64url without padding."""
     return base64.urlsafe_b64encode(random_.randbytes(count)).rstrip(b"=").decode()
 
 

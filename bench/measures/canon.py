@@ -1,11 +1,11 @@
-"""Measures `fedbundle canon` beside a plain Rust program that does the same.
+"""Measures `fedbundle canon` and a plain Rust program that does the same.
 
 It makes bundles of several sizes, always the same ones, checks that both programs print the same bytes for each, and
 measures whole processes: start, reading standard input, and writing the answer. The runs of the two programs take turns,
-so that what else the machine does falls on both. Where $FEDBUNDLE_BEFORE names the program of an earlier commit, that one
-runs in the same turns, and the last two columns have fedbundle's time over its.
+so other work of the machine affects both. If $FEDBUNDLE_BEFORE names the program of an earlier commit, that one runs in
+the same turns, and the last two columns have fedbundle's time over its.
 
-words: [RUNS]      RUNS is the number of timed runs of each program on each bundle, 31 if left out
+arguments: [RUNS]      RUNS is the number of timed runs of each program on each bundle, 31 if left out
 """
 import base64
 import json
@@ -69,7 +69,7 @@ def small_element(random_, _earlier):
 
 
 def bundle(size, next_element, indent):
-    """A bundle of at most `size` bytes, and nearly so many, written with this indentation."""
+    """A bundle of at most `size` bytes, and nearly as large, written with this indentation."""
     random_ = random.Random(size)
     separators = (",", ":") if indent is None else None
     keys, room = [], size - 200
@@ -145,7 +145,7 @@ def row(made_of, name, size, count, ours, plain, *earlier):
 
 
 def growth(points):
-    """The time of each further byte from one size to the next, in ns: about the same where the time is linear."""
+    """The time of each further byte from one size to the next, in ns: about the same if the time is linear."""
     steps = zip(points, points[1:])
     return ", ".join(f"{(later[1] - sooner[1]) * 1e9 / (later[0] - sooner[0]):.1f}" for sooner, later in steps)
 

@@ -1,6 +1,6 @@
-"""Measures `trust_closure` beside plain Rust that gives the same answers, both built here, run in turn.
+"""Measures `trust_closure` and plain Rust that gives the same answers, both built here, run in turn.
 
-words: [TURNS [PART..]]    TURNS is how often each program takes each set; 5 if left out
+arguments: [TURNS [PART..]]    TURNS is how often each program takes each set; 5 if left out
                            PART is one of: takes double merges singly alike whole; all but the last if left out
 """
 import base64

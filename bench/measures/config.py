@@ -1,6 +1,6 @@
-"""Measures `fed_config` beside plain Rust that reads the same configurations, both built here, run in turn.
+"""Measures `fed_config` and plain Rust that reads the same configurations, both built here, run in turn.
 
-words: [RUNS]      RUNS is the number of timed readings of each configuration in each of five turns, 5 if left out
+arguments: [RUNS]      RUNS is the number of timed readings of each configuration in each of five turns, 5 if left out
 """
 import base64
 import json
@@ -23,7 +23,7 @@ def element(random_):
 
 
 def configuration(count):
-    """So many relationships with four seeds each, written in no order."""
+    """This many relationships with four seeds each, written in no order."""
     random_ = random.Random(count)
     relationships, seeds = [], []
     for number in range(count):

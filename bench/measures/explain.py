@@ -1,6 +1,6 @@
-"""Measures `explain` of `bundle_view` beside plain Rust that searches the same receipts, both built here and run in turn.
+"""Measures `explain` of `bundle_view` and plain Rust that searches the same receipts, both built here and run in turn.
 
-words: [RUNS]      RUNS is the number of timed explanations in each of five turns, 5 if left out
+arguments: [RUNS]      RUNS is the number of timed explanations in each of five turns, 5 if left out
 """
 import base64
 import hashlib
@@ -18,7 +18,7 @@ ENDPOINT = f"spiffe://{DOMAIN}/bundle"
 
 
 class Document:
-    """A document with so many X.509 authorities, whose certificates are random bytes."""
+    """A document with this many X.509 authorities, whose certificates are random bytes."""
 
     def __init__(self, random_, sequence, keys):
         certificates = [random_.randbytes(48) for _ in range(keys)]

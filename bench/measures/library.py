@@ -1,10 +1,10 @@
-"""Measures the library for C in a process of its own, beside the command `report` and plain Rust.
+"""Measures the library for C in a process of its own, next to the command `report` and plain Rust.
 
 A program in C opens a replica, takes the receipts of a file one by one, and makes the report some times. Plain Rust does
 the same in its own process. The command is run whole: its start, reading the input and one report are in its time. All
 three have to write the same report.
 
-words: [RUNS [SIZE..]]      RUNS is the number of runs of each program on each stream, 5 if left out; the sizes are 4096 and
+arguments: [RUNS [SIZE..]]      RUNS is the number of runs of each program on each stream, 5 if left out; the sizes are 4096 and
                             16384 receipts, if none is given. $FEDBUNDLE_PREFIX has what tools/library made, which else is
                             made below bench/out.
 """
@@ -22,7 +22,7 @@ ROW = "{:<10} {:<14} {:>8} | {:>9} {:>9} {:>6} | {:>10} {:>10} {:>6} | {:>9}"
 
 
 def built_library():
-    """Where the library lies."""
+    """The place of the library."""
     prefix = os.environ.get("FEDBUNDLE_PREFIX")
     if not prefix:
         prefix = OUT / "library"

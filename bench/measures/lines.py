@@ -1,6 +1,6 @@
-"""Measures `receipt_core` beside plain Rust that reads the same receipts' lines, both built here, run in turn.
+"""Measures `receipt_core` and plain Rust that reads the same receipts' lines, both built here, run in turn.
 
-words: [TURNS]      TURNS is how often each program reads each file, of which the least times count; 3 if left out
+arguments: [TURNS]      TURNS is how often each program reads each file, of which the least times count; 3 if left out
 """
 import base64
 import random
@@ -44,7 +44,7 @@ def line(random_, authorities, sequence):
 
 
 def few(random_, make, keys, count):
-    """Lines of so many authorities each, out of a pool."""
+    """Lines of this many authorities each, out of a pool."""
     pool = [make(random_) for _ in range(POOL)]
     for number in range(count):
         yield line(random_, random_.sample(pool, keys), number)

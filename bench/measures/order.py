@@ -1,6 +1,6 @@
-"""Measures `sorted_order` beside one sorted vector in plain Rust, both built here and run in turn.
+"""Measures `sorted_order` and one sorted vector in plain Rust, both built here and run in turn.
 
-words: [RUNS]      RUNS is the number of runs of each program, of which the one with the least time of the insertions
+arguments: [RUNS]      RUNS is the number of runs of each program, of which the one with the least time of the insertions
                    counts; 5 if left out
 """
 from building import build_ours, build_peer, run, stop

@@ -1,6 +1,6 @@
-"""Measures the index `wait_index` beside the same net in plain Rust, both built here and run in turn.
+"""Measures the index `wait_index` and the same net in plain Rust, both built here and run in turn.
 
-words: [RUNS]      RUNS is the number of runs of each program on each net, of which the least times count; 7 if left out
+arguments: [RUNS]      RUNS is the number of runs of each program on each net, of which the least times count; 7 if left out
 """
 from building import build_ours, build_peer, run, stop
 

@@ -5,7 +5,7 @@ Each client speaks to the socket itself, one connection for each request, so tha
 disk is that of the temporary folder. The bundles that are observed list the key of the last one that is held, so any of
 them vouches for the next one.
 
-words: [COUNT [REQUESTS]]   how many usual receipts are held at first, 61440 if left out, and how often each request is
+arguments: [COUNT [REQUESTS]]   how many usual receipts are held at first, 61440 if left out, and how often each request is
                             made, 1000 if left out; a replica holds 65,536 at most
 """
 import base64
@@ -113,7 +113,7 @@ def sync_times(folder, count):
 
 
 def observed_a_second(held, path, clients, each):
-    """How many bundles so many clients have acknowledged in a second."""
+    """How many bundles this many clients have acknowledged in a second."""
     bundles = [[held.next_bundle() for _ in range(each)] for _ in range(clients)]
 
     def run(own):

@@ -1,14 +1,14 @@
-"""Measures `fedbundle report` beside a plain Rust program that does the same.
+"""Measures `fedbundle report` and a plain Rust program that does the same.
 
 It makes streams of receipts of several shapes and sizes, always the same ones, checks that both programs print the same
 report for each, and measures whole processes: start, reading the configuration and standard input, and writing the
 report. The runs of the two programs take turns, so that what else the machine does falls on both.
 
-Plain Rust is built twice: as it comes, where its digests are those of the processor where that has them, and with digests
-in plain code, as fedbundle's are. Where $FEDBUNDLE_BEFORE names the program of an earlier commit, that one runs in the
-same turns, and its figures stand last.
+Plain Rust is built twice: as it comes, with the processor's own digests if it has them, and with digests in plain code,
+as fedbundle's are. If $FEDBUNDLE_BEFORE names the program of an earlier commit, that one runs in the same turns, and
+its figures come last.
 
-words: [RUNS [SIZE..]]      RUNS is the number of timed runs of each program on each stream, 5 if left out; the
+arguments: [RUNS [SIZE..]]      RUNS is the number of timed runs of each program on each stream, 5 if left out; the
                             sizes are 4096, 16384 and 65536 receipts, if none is given
 """
 import base64
@@ -99,7 +99,7 @@ MAKES = {
     "rolled": (Rolled, lambda r: [rsa(r, 256, 880)]),
     "apart": (Apart, lambda r: [rsa(r, 256, 880), ec(r, 500)]),
 }
-# Those that stand in these shapes alone.
+# Those that are only in these shapes.
 FEW_SHAPES = {"forty keys": ["chain", "tree shuffled"], "rolled": ["chain"], "apart": ["chain", "tree shuffled"]}
 
 

@@ -93,7 +93,7 @@ class Browser:
         self.call("Page.navigate", url=address)
 
     def becomes(self, code, seconds=20):
-        """Whether the expression is true within so many seconds."""
+        """Whether the expression is true within this many seconds."""
         end = time.monotonic() + seconds
         while time.monotonic() < end:
             try:

@@ -72,8 +72,8 @@ def read_head(stream, until):
 
 
 class StandIn:
-    """An address of health for a replica that runs in `folder`, with these names of its files there. A peer may be quiet for so
-    many seconds."""
+    """An address of health for a replica that runs in `folder`, with these names of its files there. A peer may be quiet for
+    this many seconds."""
 
     def __init__(self, program, folder, config="config", state="state", path="socket", port=0, quiet=600):
         self.program, self.folder, self.quiet, self.began = program, folder, quiet, time.time()

@@ -2,7 +2,7 @@
 
 A line has seven words, in the order of crates and edits:
 - the crate, and the edit's name
-- a digest of what its verdict rests on (see `Grounds`); where it is another one now, the edit is due
+- a digest of what its verdict rests on (see `Grounds`); if it is another one now, the edit is due
 - the kit's logic, as `rt version` names it, and the day
 - the verdict, with `_` between its words
 - a sum of the words before, so that a line that was changed by hand is found
@@ -45,7 +45,8 @@ class Line:
 
 
 def read(path):
-    """The lines of the ledger by crate and edit, and what is wrong with those that are no lines of it."""
+    """The lines of the ledger by crate and edit, and what is wrong with those that are not lines of
+    it."""
     lines, faults = {}, []
     for number, text in enumerate(path.read_text().splitlines() if path.exists() else [], 1):
         words = text.split(" ")
@@ -81,7 +82,7 @@ def locked(path):
 
 def change(path, turn):
     """Writes what `turn` makes of the lines that the ledger has now, since another run or a merge may have written it meanwhile.
-    Returns its lines then, and what is wrong with it: where something is, it is not written."""
+    Returns its lines then, and what is wrong with it: if something is, it is not written."""
     with locked(path):
         lines, faults = read(path)
         if not faults:
@@ -91,7 +92,7 @@ def change(path, turn):
 
 
 def code_of(path):
-    """The lines of a source, a definition or a proof that are no comment and not empty."""
+    """The lines of a source, a definition or a proof that are neither comments nor empty."""
     comment = "--" if path.suffix == ".antt" else "//"
     return [line for line in path.read_text().splitlines() if line.strip() and not line.lstrip().startswith(comment)]
 
@@ -126,8 +127,9 @@ def contracts_of(lines):
 class Grounds:
     """What verdicts rest on, in the repository at `top`, whose crates use one another as `used` has it.
 
-    Of the edit's crate that is src/, specs/ and proofs/, and its line of crates.txt. Of each crate below it is specs/, and
-    src/ without the bodies of functions and without private functions. Comments on lines of their own are left out."""
+    For the edit's crate these are src/, specs/ and proofs/, and its line of crates.txt. For each crate below they are
+    specs/, and src/ without the bodies of functions and without private functions. Comments on lines of their own are left
+    out."""
 
     def __init__(self, top, used):
         self.top, self.used = top, used

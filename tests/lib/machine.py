@@ -63,15 +63,16 @@ class Machine:
             subprocess.run(["mount", "--bind", f"/dev/{device}", self.root / "dev" / device], check=True)
 
     def enter(self):
-        """The words before a command that runs there."""
+        """The arguments before a command that runs there."""
         return ["chroot", self.root]
 
     def path(self, name):
-        """Where a file of it is to be found from outside."""
+        """The path of a file of it from outside."""
         return self.root / str(name).lstrip("/")
 
     def words(self, command, folder=None):
-        """The words that run a line of a shell there: in this folder, or else in the repository, or in / without one."""
+        """The arguments that run a line of a shell there: in this folder, or else in the repository, or in / without
+        one."""
         place = f"cd {shlex.quote(str(folder))} &&" if folder else f"cd {shlex.quote(str(TOP))} 2>/dev/null || cd /;"
         return [*self.enter(), "bash", "-c", f"{place} {command}"]
 

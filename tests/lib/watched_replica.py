@@ -20,8 +20,8 @@ def has_health(program):
 
 
 class WatchedReplica:
-    """A replica in a folder of its own, with this configuration and these receipts. It runs from its start to its stop, or
-    to the end of its holder. Where it has a stand-in, that one answers at its address of health. A peer may be quiet for so many
+    """A replica in a folder of its own, with this configuration and these receipts. It runs from its start to its stop, or to
+    the end of its holder. If it has a stand-in, that one answers at its address of health. A peer may be quiet for this many
     seconds."""
 
     def __init__(self, program, folder, config, receipts=(), words=(), has_stand_in=False, quiet=600):

@@ -1,7 +1,7 @@
 #!/usr/bin/env python3
 """Prints what `fedbundle canon --domain DOMAIN` prints for the bundle on standard input.
 
-It is written from the rules alone, with Python's own json, base64 and hashlib, and shares nothing with the program.
+It is written only from the rules, with Python's own json, base64 and hashlib, and shares nothing with the program.
 It takes bundles that are well formed, and refuses nothing in the program's way.
 
 usage: canon.py DOMAIN <BUNDLE.json
@@ -40,7 +40,7 @@ def member_is_right(name, value):
 
 
 def authority(element):
-    """The members that count of an element of `keys`, or None where it is to be passed over."""
+    """The members that count of an element of `keys`, or None if it is to be passed over."""
     if not isinstance(element, dict):
         return None
     use, kty = element.get("use"), element.get("kty")

@@ -1,8 +1,8 @@
 #!/usr/bin/env python3
 """Prints what `fedbundle config --config CONFIG [--with CONFIG]` prints.
 
-It is written from the rules alone, with Python's own json and hashlib and with canon.py and report.py, and shares
-nothing with the program. It takes configurations that are well formed, and refuses nothing. The exit status is 1 where
+It is written only from the rules, with Python's own json and hashlib and with canon.py and report.py, and shares
+nothing with the program. It takes configurations that are well formed, and refuses nothing. The exit status is 1 if
 two configurations have two digests.
 
 usage: config_view.py CONFIG [CONFIG]

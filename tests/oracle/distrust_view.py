@@ -1,7 +1,7 @@
 #!/usr/bin/env python3
 """Prints what `fedbundle distrust --dry-run` prints for a configuration, a state file, a domain and a key id.
 
-It is written from the rules alone, with Python's own json and hashlib and with canon.py and report.py, and shares
+It is written only from the rules, with Python's own json and hashlib and with canon.py and report.py, and shares
 nothing with the program. It takes files that are well formed, and refuses nothing. A state file that is not there holds
 nothing.
 
@@ -20,7 +20,7 @@ def domains_of(config):
 
 
 def by_domain(config, receipts, distrusted):
-    """The accepted documents of each domain, rising."""
+    """The accepted documents of each domain, sorted."""
     accepted, _ = accepted_of(config, receipts, distrusted)
     return {of: sorted((d for d in accepted if d.domain == of), key=Document.order) for of in domains_of(config)}
 

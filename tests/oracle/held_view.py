@@ -1,12 +1,12 @@
 #!/usr/bin/env python3
 """Prints what `fedbundle list` and `diff` print for state files under a configuration.
 
-It is written from the rules alone, with Python's own json and hashlib and with canon.py and report.py, and shares nothing
-with the program. It takes files that are well formed, and refuses nothing. The lines of a state file may stand in any
-order, and without the first and the last one.
+It is written only from the rules, with Python's own json and hashlib and with canon.py and report.py, and shares nothing
+with the program. It takes files that are well formed, and refuses nothing. The lines of a state file may be in any order,
+and without the first and the last one.
 
 usage: held_view.py list CONFIG STATE [DOMAIN]
-       held_view.py diff CONFIG STATE OTHER_STATE     the exit status is 1 where they hold different things
+       held_view.py diff CONFIG STATE OTHER_STATE     the exit status is 1 if they hold different things
 """
 import hashlib
 import json

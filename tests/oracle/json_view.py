@@ -1,15 +1,15 @@
 #!/usr/bin/env python3
 """Prints the compact JSON of `fedbundle` and its graph, for files that are well formed.
 
-It is written from the rules alone, with Python's own json and hashlib and with the other scripts of this folder, and shares
-nothing with the program. It refuses nothing. A state file's lines may stand in any order, and without the first and the
-last one.
+It is written only from the rules, with Python's own json and hashlib and with the other scripts of this folder, and shares
+nothing with the program. It refuses nothing. A state file's lines may be in any order, and without the first and the last
+one.
 
 usage: json_view.py config CONFIG
        json_view.py list CONFIG STATE [DOMAIN]
        json_view.py report CONFIG STATE
        json_view.py canon DOMAIN <BUNDLE.json
-       json_view.py explain CONFIG STATE DOMAIN <BUNDLE.json     the exit status is 1 where it is not accepted
+       json_view.py explain CONFIG STATE DOMAIN <BUNDLE.json     the exit status is 1 if it is not accepted
        json_view.py polls CONFIG STATE SECONDS <POLLS
        json_view.py graph CONFIG STATE [DOMAIN]
        json_view.py rows <crates/view_rows/stdin     what the program of rows prints of these
@@ -37,7 +37,7 @@ def endpoint_domain(value):
 
 
 def seeds_of(config):
-    """The configured documents, each once, rising by domain and then by canonical text."""
+    """The configured documents, each once, sorted by domain and then by canonical text."""
     documents = [Document(seed["domain"], seed["bundle"]) for seed in config["seeds"]]
     seeds = {(d.domain.encode(), d.text.encode()): d for d in documents}
     return [seeds[key] for key in sorted(seeds)]
@@ -116,7 +116,7 @@ def document_json(domain, value):
 
 
 def explain_json(config, held, domain, value):
-    """By a search from the configured documents on, a round for each length: the text, or None where it is not accepted."""
+    """By a search from the configured documents on, a round for each length: the text, or None if it is not accepted."""
     wanted = Document(domain, value)
     reached = {(d.domain, d.id): (d, []) for d in seeds_of(config)}
     grown = True
@@ -138,12 +138,12 @@ def explain_json(config, held, domain, value):
                     "receipts": [receipt_members(line, held.values[line]) for line in chain]})
 
 
-# The last second that there is a moment for.
+# The last second that a time may have.
 LAST_SECOND = 253402207200
 
 
 def next_poll(polls, hint, now):
-    """Whether a poll is due, and else at which second the next one is, None where there is no such moment."""
+    """Whether a poll is due, and if not, at which second the next one is; None if there is no such time."""
     if not polls:
         return True, None
     interval = 300 if hint is None else max(60, min(hint, 86400))
@@ -209,7 +209,7 @@ def expanded(template, texts):
 
 
 def row_lines(verb, words, text, texts):
-    """What comes of a row, or None where it is another program's."""
+    """What comes of a row, or None if it is another program's."""
     if verb == "config-json":
         return [config_json(json.loads(text))]
     if verb == "canon-json":

@@ -1,11 +1,11 @@
 #!/usr/bin/env python3
 """Prints what `fedbundle migrate` prints for a state file and another configuration.
 
-It is written from the rules alone, with Python's own json and hashlib, and shares nothing with the program. It takes
+It is written only from the rules, with Python's own json and hashlib, and shares nothing with the program. It takes
 files that are well formed, and configurations whose URLs and bundles are spelt in their canonical form.
 
 usage: migrate.py STATE NEW_CONFIG [--records-only]     what is left out goes to standard error; the exit status is 1
-                                                        where something is
+                                                        if something is
 """
 import hashlib
 import json

@@ -1,14 +1,14 @@
 #!/usr/bin/env python3
 """Prints what `fedbundle status` prints for a configuration and a state file, in one of its three formats; or with
-`--at`, where the bytes of the two files are given, and for each peer `ADDRESS,ENDED,CODE,RECEIPTS`, a hyphen for none.
-A word `BEGAN:MOMENT` before the peers says when the replica began and when it is asked, in Unix seconds: else both are 0.
+`--at`, if the bytes of the two files are given, and for each peer `ADDRESS,ENDED,CODE,RECEIPTS`, a hyphen for none. An
+argument `BEGAN:MOMENT` before the peers says when the replica began and when it is asked, in Unix seconds: else both are
+0.
 
-It is written from the rules alone, with Python's own json and hashlib and with canon.py and report.py, and shares
-nothing with the program. It takes files that are well formed, and refuses nothing. A state file that is not there holds
-nothing.
+It is written only from the rules, with Python's own json and hashlib and with canon.py and report.py, and shares nothing
+with the program. It takes files that are well formed, and refuses nothing. A state file that is not there holds nothing.
 
 usage: status_view.py CONFIG STATE [text|json|prometheus [SNAPSHOT JOURNAL [BEGAN:MOMENT] [PEER..]]]
-                                            the exit status is 1 where there is a warning
+                                            the exit status is 1 if there is a warning
 """
 import base64
 import calendar
@@ -59,7 +59,7 @@ def domain_of(domain, accepted, distrusted):
 
 
 def keyless_of(config):
-    """The configured bundles without an X.509 authority, each once, rising by domain and then by canonical text."""
+    """The configured bundles without an X.509 authority, each once, sorted by domain and then by canonical text."""
     seeds = {(s["domain"], d.text): d for s in config["seeds"] for d in [Document(s["domain"], s["bundle"])]}
     return [{"domain": d.domain, "id": d.id} for _, d in sorted(seeds.items()) if not d.keys]
 
@@ -106,7 +106,8 @@ def element_at(der, place=0):
 
 
 def field_at(der, number):
-    """The bytes of the field that follows so many others, the version aside, in a certificate; and its content."""
+    """The bytes of the field that follows this many others in a certificate, without the version; and its
+    content."""
     fields = element_at(element_at(der)[1])[1]
     place = element_at(fields)[2] if fields[0] == 160 else 0
     for _ in range(number):
@@ -367,7 +368,7 @@ def lines_in(stands, shape, running=None, wrong=None, ends=()):
 
 
 def clock_of(words):
-    """When the replica began and when it is asked, and the words that follow."""
+    """When the replica began and when it is asked, and the arguments that follow."""
     if words and words[0].replace(":", "").isdigit() and words[0].count(":") == 1:
         began, moment = words[0].split(":")
         return (int(began), int(moment)), words[1:]

@@ -1,4 +1,4 @@
-//! What a replica accepts: an index of nodes, labels and edges as in `bin/reach.rs`, found by hash maps, beside sets of the
+//! What a replica accepts: an index of nodes, labels and edges as in `bin/reach.rs`, found by hash maps, and sets of the
 //! standard library for what is lent in order.
 use crate::document::{read_document, Document, Id};
 use crate::receipt::{offers_of, Receipt, Triple};
@@ -267,7 +267,7 @@ impl Closure {
     }
 
     /// Takes all records and receipts of a closure of the same configuration, and says how many receipts are new. The
-    /// labels of all records are closed at once.
+    /// labels of all records are closed together.
     pub fn merge(&mut self, other: &Closure) -> Result<usize, TakeError> {
         if self.relationships != other.relationships || self.domains != other.domains {
             return Err(TakeError::ConfigDiffers);
@@ -383,7 +383,8 @@ impl Closure {
         }
     }
 
-    /// Closes the labels at once: what rests on any of them is taken back, and then what is reached otherwise follows.
+    /// Closes the labels together: what depends on any of them is taken back, and then what is reached otherwise
+    /// follows.
     fn close(&mut self, labels: &[usize]) {
         for &label in labels {
             self.touch(label);

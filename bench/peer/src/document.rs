@@ -1,4 +1,4 @@
-//! Bundle documents: read from a tree, made anew of what they say, with their ids.
+//! Bundle documents: read from a tree, made again of what they say, with their ids.
 use serde_json::{Map, Value};
 use sha2::{Digest, Sha256};
 use std::collections::{BTreeMap, BTreeSet};
@@ -20,7 +20,7 @@ pub enum Authority {
     Jwt { kid: String, key: PublicKey },
 }
 
-/// The authorities stand in the order of their canonical texts.
+/// The authorities are in the order of their canonical texts.
 #[derive(Clone)]
 pub struct Document {
     pub authorities: Vec<Authority>,
@@ -40,7 +40,7 @@ impl Document {
 }
 
 impl Authority {
-    /// Of an X.509 authority. One for JWTs has none.
+    /// For an X.509 authority. One for JWTs has none.
     pub fn key_id(&self) -> Option<Id> {
         match self {
             Authority::X509 { der, .. } => Some(Sha256::digest(der).into()),

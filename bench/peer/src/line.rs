@@ -1,4 +1,5 @@
-//! Receipts' lines, read by pieces where they are spelt as such a line, and else through a tree; and written.
+//! Receipts' lines, read by pieces if they are spelt as such a line, and otherwise through a tree; and
+//! written.
 use crate::document::{is_url_text, Authority, Document, Id, PublicKey, MAX_DOCUMENT_BYTES};
 use crate::names::{domain_of, is_domain};
 use crate::receipt::{self, Receipt};

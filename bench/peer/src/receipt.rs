@@ -1,4 +1,4 @@
-//! Receipts and their lines: a line is parsed, made anew of what it says, and compared.
+//! Receipts and their lines: a line is parsed, made again of what it says, and compared.
 use crate::document::{read_document, take_text, Document, Id};
 use crate::line::write_form;
 use crate::names::{domain_of, is_domain};
@@ -66,7 +66,7 @@ impl Receipt {
         Receipt { domain, endpoint, document, voucher, key, id: OnceCell::new(), need, offers }
     }
 
-    /// The digest of the line, computed where it is first asked for.
+    /// The digest of the line, computed when it is first asked for.
     pub fn id(&self) -> &Id {
         self.id.get_or_init(|| {
             let mut hasher = Sha256::new();

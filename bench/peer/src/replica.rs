@@ -92,7 +92,7 @@ impl Replica {
         Ok(())
     }
 
-    /// The ids of a bucket's receipts, rising.
+    /// The ids of a bucket's receipts, sorted.
     pub fn ids_of(&self, bucket: u8) -> Vec<Id> {
         let mut ids: Vec<Id> = self.closure.receipts_of(bucket).map(|receipt| *receipt.id()).collect();
         ids.sort_unstable();

@@ -53,7 +53,7 @@ impl<R: BufRead> Lines<R> {
     }
 }
 
-/// Which lines may stand at a place.
+/// Which lines may be at a place.
 #[derive(Clone, Copy, PartialEq)]
 pub enum Wanted {
     Records,

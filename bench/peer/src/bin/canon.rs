@@ -1,5 +1,6 @@
 //! `fedbundle canon --domain DOMAIN` in plain Rust, to measure against: it reads a bundle on standard input, and prints
-//! its canonical text, its document id, and the key id of each X.509 authority. Only the domain is given as a word.
+//! its canonical text, its document id, and the key id of each X.509 authority. Only the domain is given as an
+//! argument.
 use peer::document::{read_document, Authority, Document, MAX_DOCUMENT_BYTES};
 use std::error::Error;
 use std::io::{Read, Write};

@@ -1,7 +1,7 @@
 //! Takes the receipts on standard input into a closure in plain Rust, and then the records of distrust, to measure
 //! `trust_closure` against. The first line is the configuration. It prints what the takes and each record took, in
-//! nanoseconds, and numbers that tell what is held and accepted. With the word `merge` another closure has the records,
-//! and is merged. With the word `hold` it only holds the receipts.
+//! nanoseconds, and numbers that tell what is held and accepted. With the argument `merge` another closure has the
+//! records, and is merged. With `hold` it only holds the receipts.
 use peer::closure::{Closure, Taken};
 use peer::document::Id;
 use peer::receipt::{read_line, Receipt};

@@ -1,5 +1,5 @@
 //! Reading a configuration in plain Rust, to measure `fed_config` against: it reads the configuration on standard input
-//! so many times, and prints the least time in nanoseconds and the id.
+//! this many times, and prints the least time in nanoseconds and the id.
 use peer::document::read_document;
 use peer::names::{domain_of, is_domain};
 use serde_json::{Map, Value};
@@ -67,7 +67,7 @@ fn read_config(bytes: &[u8]) -> Result<Config, Box<dyn Error>> {
     Ok(Config { relationships, seeds, domains, id })
 }
 
-/// The members of an object that has so many.
+/// The members of an object, which has this many.
 fn members_of(value: Value, count: usize) -> Result<Map<String, Value>, &'static str> {
     match value {
         Value::Object(members) if members.len() == count => Ok(members),

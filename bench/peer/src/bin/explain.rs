@@ -1,6 +1,6 @@
 //! Explaining documents in plain Rust, to measure `explain` of `bundle_view` against: a breadth-first search over receipts
 //! that are sorted by what they need. It reads a configuration with one document, a domain, the document that is sought,
-//! and receipts, a line each, from standard input, explains the document so many times, and prints the least time in
+//! and receipts, a line each, from standard input, explains the document this many times, and prints the least time in
 //! nanoseconds, how many receipts the chain has, and the first one's id.
 use peer::document::{read_document, Authority, PublicKey};
 use peer::receipt::{offers_of, read_line, Receipt, Triple};
@@ -58,7 +58,7 @@ fn authority_bytes(authority: &Authority) -> usize {
     }
 }
 
-/// A shortest chain of receipts to the document, where there is one.
+/// A shortest chain of receipts to the document, if there is one.
 fn explain(seed: &[Triple], receipts: &[Receipt], domain: &str, canonical: &str) -> Option<Vec<Receipt>> {
     let mut waiting: Vec<&Receipt> = receipts.iter().collect();
     waiting.sort_unstable_by(|one, other| one.need.cmp(&other.need));

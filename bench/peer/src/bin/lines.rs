@@ -1,6 +1,6 @@
-//! Reading receipts' lines in plain Rust, to measure `receipt_core` against: it reads the lines on standard input so many
-//! times, keeping the receipts, and prints the least time in nanoseconds, how many receipts there are, and a sum over
-//! their ids, needs and offers.
+//! Reading receipts' lines in plain Rust, to measure `receipt_core` against: it reads the lines on standard input this
+//! many times, keeping the receipts, and prints the least time in nanoseconds, how many receipts there are, and a sum
+//! over their ids, needs and offers.
 use peer::document::Id;
 use peer::receipt::{read_line, Receipt, Triple};
 use std::error::Error;

@@ -1,8 +1,8 @@
 //! `fedbundle report --config CONFIG` in plain Rust, to measure against: it reads receipts on standard input, follows
 //! from the configured documents what each accepted one vouches for, with hash maps and a work list, and prints the
-//! report. The configuration is given as a word. Of its URLs nothing is asked. With a second word, which is a number, it
-//! makes that many reports of what it took of a file that is the third, prints the last one, and on standard error the
-//! nanoseconds of processors for all takes and for all reports.
+//! report. The configuration is given as an argument. Its URLs are not checked. With a second argument, which is a
+//! number, it makes that many reports of what it took of a file that is the third, prints the last one, and on standard
+//! error the nanoseconds of processors for all takes and for all reports.
 use peer::document::{read_document, Document, Id};
 use serde_json::Value;
 use sha2::{Digest, Sha256};
@@ -14,7 +14,7 @@ use std::io::{BufRead, Write as _};
 /// The trust domain, the document's id and the key's id by which something is vouched for.
 type Triple = (String, Id, Id);
 
-/// Documents of a domain, rising by sequence and then by canonical text.
+/// Documents of a domain, sorted by sequence and then by canonical text.
 type Accepted<'a> = BTreeMap<(Option<u64>, &'a str), (Id, usize)>;
 
 /// What is asked of a document. Its certificates are not kept.

@@ -36,7 +36,7 @@ fn read_input() -> std::io::Result<String> {
     Ok(text)
 }
 
-/// A replica that took so many of the receipts.
+/// A replica that took this many of the receipts.
 fn holding(input: &str, count: usize) -> Result<Replica, Box<dyn Error>> {
     let mut lines = input.lines();
     let mut replica = Replica::new(lines.next().ok_or("no configuration")?).ok_or("no configuration")?;
@@ -67,7 +67,7 @@ fn snapshots(input: &str) -> Answer {
     Ok(())
 }
 
-/// A session between one who holds so many of the receipts and one who holds all.
+/// A session between one who holds this many of the receipts and one who holds all.
 fn sessions(input: &str, count: usize) -> Answer {
     let mut asker = holding(input, count)?;
     let answerer = holding(input, usize::MAX)?;
