@@ -44,8 +44,8 @@ impl Attempt {
     }
 }
 
-/// Makes the calls of a row, and refuses each allocation inside each of them. The lines that are
-/// held then, where the row changes them.
+/// Makes the calls of a row, and refuses each allocation inside each of them. Returns the lines
+/// that are held then, if the row changes them.
 pub(crate) fn refuse_each(
     rt: &HostRuntime,
     asked: Asked<'_>,
@@ -104,7 +104,7 @@ fn refuse_in_others(
     }
 }
 
-// Of a call that no closure is given to.
+// For a call that takes no closure.
 fn refuse_alone(
     rt: &HostRuntime,
     asked: Asked<'_>,

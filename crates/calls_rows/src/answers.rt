@@ -8,7 +8,7 @@ use replica_sync::{Give, Have, write_have};
 use std::alloc::{AllocError, Global};
 use std::fmt::Display;
 
-/// What a call answered, and how much memory it asked for, where that was counted.
+/// What a call answered, and how much memory it asked for, if that was counted.
 #[derive(Drop)]
 pub(crate) struct Made {
     pub(crate) answer: String,

@@ -5,8 +5,7 @@ use jwk_set::KeyId;
 use row_script::Script;
 use std::alloc::Global;
 
-/// What a row asks: a call, its words, the text that its template stands for, and what the replicas
-/// hold.
+/// What a row asks: a call, its words, the text of its template, and what the replicas hold.
 #[derive(Clone, Copy)]
 pub(crate) struct Asked<'a> {
     pub(crate) alloc: Global,
@@ -17,13 +16,13 @@ pub(crate) struct Asked<'a> {
     /// The configuration here, and the lines of what is held.
     pub(crate) config_text: &'a [u8],
     pub(crate) lines: &'a [u8],
-    /// The same of the replica beside.
+    /// The same of the replica `beside`.
     pub(crate) config_beside: &'a [u8],
     pub(crate) lines_beside: &'a [u8],
 }
 
 impl<'a> Asked<'a> {
-    /// The word at this place, where the first one is at 0.
+    /// The word at this place; the first one is at 0.
     pub(crate) fn word(&self, place: usize) -> Result<&'a str, Stop> {
         word_of(self.words, place)
     }
@@ -38,7 +37,7 @@ impl<'a> Asked<'a> {
         self.script.text(name).ok_or(Stop::Name)
     }
 
-    /// The key whose id the text says that is named by the word at this place.
+    /// The key whose id is the text that the word at this place names.
     pub(crate) fn key(&self, place: usize) -> Result<KeyId, Stop> {
         Ok(KeyId(digits_of(self.named(place)?)?))
     }
@@ -48,7 +47,7 @@ impl<'a> Asked<'a> {
         Ok(Config::read(self.alloc, self.config_text)?)
     }
 
-    /// The same where the first word names the configuration, and the second one, if `is_held`, the
+    /// The same if the first word names the configuration, and the second one, if `is_held`, the
     /// lines of what is held.
     pub(crate) fn over_named(self, is_held: bool) -> Result<Asked<'a>, Stop> {
         let lines: &'a [u8] = if is_held { self.named(1)? } else { b"" };

@@ -26,7 +26,7 @@ pub(crate) fn take<C: Closure>(
     Ok(made)
 }
 
-/// `take = RECEIPT`, where there is room for it.
+/// `take = RECEIPT`, if there is room for it.
 pub(crate) fn take_within_room<C: Closure>(
     asked: Asked<'_>,
     refusal: Refusal<'_>,
@@ -59,7 +59,7 @@ pub(crate) fn leak<C: Closure>(
     Ok(made)
 }
 
-// Where the second call is out of memory, the first one stays.
+// If the second call is out of memory, the first one stays.
 fn take_and_ask<C: Closure>(
     alloc: Global,
     closure: &mut C,
@@ -113,7 +113,7 @@ pub(crate) fn distrust<C: Closure>(
     Ok(made)
 }
 
-/// `merge`: the replica here takes what the one beside it holds.
+/// `merge`: the replica here takes what the other one holds.
 pub(crate) fn merge<C: Closure>(
     asked: Asked<'_>,
     refusal: Refusal<'_>,

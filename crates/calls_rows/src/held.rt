@@ -36,7 +36,7 @@ impl Held {
     }
 }
 
-/// The replica on which rows act, and the one beside it.
+/// The replica on which rows act, and the other one.
 #[derive(Drop)]
 pub(crate) struct World {
     pub(crate) here: Held,
@@ -53,7 +53,7 @@ impl World {
         })
     }
 
-    /// What is beside comes here, and the other way round.
+    /// Swaps the two replicas.
     pub(crate) fn swap(&mut self) {
         std::mem::swap(&mut self.here, &mut self.beside);
     }

@@ -1,7 +1,7 @@
 //! Makes calls of the library again and again, with one allocation refused or one device that
 //! fails, and prints what comes of each time.
 //!
-//! It reads a script from standard input. Of each row it makes the call in a replica that holds
+//! It reads a script from standard input. For each row it makes the call in a replica that holds
 //! what the rows before left, and prints the answer. A row is one of `closure_rows`,
 //! `exchange_rows`, `floor_rows`, `receipt_rows` or `command_rows`, and what it does not know it
 //! passes over. So the scripts of those are scripts of this program too.
@@ -103,7 +103,7 @@ fn answer_row(
     }
 }
 
-/// The lines that are held then, where the row changes them.
+/// Returns the lines that are held then, if the row changes them.
 fn make_calls(
     rt: &HostRuntime,
     asked: Asked<'_>,

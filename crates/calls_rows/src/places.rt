@@ -5,7 +5,7 @@ use std::alloc::{AllocError, Global};
 /// In how many pieces a text comes at most.
 const MAX_PIECES: usize = 65_536;
 
-/// A source of the text in pieces of `size` bytes, or more where these were too many.
+/// A source of the text in pieces of `size` bytes, or larger ones if there were too many.
 pub(crate) fn in_pieces(alloc: Global, text: &[u8], size: usize) -> Result<MemSource, AllocError> {
     let cuts = cuts(alloc, text.len(), size.max(text.len() / MAX_PIECES))?;
     Ok(MemSource::new(Vec::from_slice(alloc, text)?, cuts))

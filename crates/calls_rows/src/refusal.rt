@@ -1,7 +1,7 @@
-//! Where the allocations of a call are refused.
+//! Which allocations of a call are refused.
 use std::rt::Env;
 
-/// Which allocation inside a call is refused. What stands between `begin` and `end` is the call.
+/// Which allocation inside a call is refused. What is between `begin` and `end` is the call.
 ///
 /// Both look up a name in the environment. The library that `tests/system/calls` preloads knows
 /// these names; without it they are not there.

@@ -23,8 +23,8 @@ impl<'a> Runs<'a> {
         }
     }
 
-    /// Takes what came at the next place. Where that differs from what came before, the places
-    /// before are reported.
+    /// Takes what came at the next place. If that differs from what came before, the places before
+    /// are reported.
     pub(crate) fn add(
         &mut self,
         place: usize,

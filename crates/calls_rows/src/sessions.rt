@@ -184,8 +184,8 @@ fn tell_cut_pull<C: Closure>(
     Ok(())
 }
 
-// Of the answers, one after each whole question that was written, the receipts and records of the
-// whole lines that were given, up to a line that is none.
+// Gives the closure the receipts and records of the answers' whole lines, up to a line that is
+// neither. There is one answer for each whole question that was written.
 fn give_whole_lines<C: Closure>(
     asked: Asked<'_>,
     closure: &mut C,

@@ -11,7 +11,7 @@ use std::fmt;
 /// Why a row comes to nothing.
 #[derive(Clone, Copy, Debug, PartialEq, Eq)]
 pub(crate) enum Stop {
-    /// A word is missing, or is none that should stand there.
+    /// A word is missing, or should not be there.
     Word,
     /// No text has the name.
     Name,

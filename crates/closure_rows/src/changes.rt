@@ -11,7 +11,7 @@ use spiffe_name::{SpiffeId, TrustDomain};
 use std::alloc::{AllocError, Global};
 
 /// What a closure answers to a receipt or a record of distrust: how many documents are accepted
-/// now, or no longer, nothing where it held it, or why it refuses it.
+/// now, or no longer, nothing if it held it, or why it refuses it.
 pub(crate) type Answer = Result<Option<usize>, TakeError>;
 
 /// What the closure answers to a receipt.
@@ -74,7 +74,7 @@ pub(crate) fn distrust<C: Closure>(
     Ok(())
 }
 
-/// `merge`: the replica here takes what the one beside it holds.
+/// `merge`: the replica here takes what the other one holds.
 pub(crate) fn merge<C: Closure>(pair: &mut Pair<C>, out: &mut String) -> Result<(), RowFault> {
     match pair.here.merge(&pair.beside) {
         Ok(new) => writeln!(out, "{new} new")?,

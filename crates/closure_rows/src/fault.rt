@@ -8,14 +8,14 @@ use spiffe_name::NameError;
 use std::alloc::AllocError;
 use thiserror::Error;
 
-/// Why a row comes to nothing: a text that its call does not read, or a word that is none of its
+/// Why a row comes to nothing: a text that its call does not read, or a word that is not one of its
 /// own.
 #[derive(Clone, Copy, Debug, Error)]
 pub(crate) enum RowFault {
-    /// The verb is none of this program.
+    /// The verb is not one of this program.
     #[error("unknown verb")]
     UnknownVerb,
-    /// A word is none that the verb takes, or names no text.
+    /// A word is not one that the verb takes, or names no text.
     #[error("unknown word")]
     UnknownWord,
     /// Memory ran out.

@@ -11,8 +11,8 @@ use row_script::{Row, Script};
 use spiffe_name::{SpiffeId, TrustDomain};
 use std::alloc::{AllocError, Global};
 
-/// What the receipts of a chain have in common. In the text of the documents a sign `%` stands for
-/// the number.
+/// What the receipts of a chain have in common. In the text of the documents a sign `%` is replaced
+/// by the number.
 #[derive(Drop)]
 struct Chain<'a> {
     domain: TrustDomain,
@@ -41,7 +41,7 @@ impl Chain<'_> {
     }
 }
 
-/// The chain that a row names by `DOMAIN ENDPOINT KEY`, and what stands after these words.
+/// The chain that a row names by `DOMAIN ENDPOINT KEY`, and what comes after these words.
 fn chain_of<'a>(
     alloc: Global,
     script: &Script,
@@ -64,7 +64,7 @@ fn chain_of<'a>(
     Ok((chain, words))
 }
 
-/// What stands before the sign `%` in a text, and after it.
+/// What comes before the sign `%` in a text, and after it.
 fn halves(text: &[u8]) -> Result<(&str, &str), RowFault> {
     match str::from_utf8(text) {
         Ok(text) => text.split_once('%').ok_or(RowFault::UnknownWord),
@@ -188,8 +188,8 @@ pub(crate) fn prepared<C: Closure>(
 }
 
 /// `reserved DOMAIN ENDPOINT KEY FIRST LAST = DOCUMENT`: the same, and then takes these receipts
-/// and distrusts a hundred keys that nothing has. Behind the reservation it asks for no memory but
-/// for what it tells.
+/// and distrusts a hundred keys that nothing has. After the reservation it asks for memory only for
+/// what it tells.
 pub(crate) fn reserved<C: Closure>(
     alloc: Global,
     script: &Script,

@@ -8,21 +8,21 @@
 //!
 //! Rows that change the replica:
 //! - `replica both CONFIG`: a new one of the configuration of this name, or with `index` in place
-//!   of `both` one over an index alone, with ids and without,
-//! - `swap`: the replica beside takes the place of the one that rows are given to,
+//!   of `both` one over an index only, with ids and without,
+//! - `swap`: the other replica takes the place of the one that rows are given to,
 //! - `take = RECEIPT`, `distrust = RECORD`: what it answers to a line, and how many receipts it
 //!   holds,
-//! - `merge`: the same for all that the replica beside holds,
+//! - `merge`: the same for all that the other replica holds,
 //! - `observe DOMAIN ENDPOINT KEY = DOCUMENT`: the receipt of what an endpoint served under the key
 //!   of this name,
 //! - `links DOMAIN ENDPOINT KEY FIRST LAST = DOCUMENT`: takes a chain of receipts, whose documents
 //!   have these numbers for `%`,
 //! - `prepared ..`: makes such a chain, and room for it,
-//! - `reserved ..`: takes it besides, and distrusts a hundred keys,
+//! - `reserved ..`: takes it too, and distrusts a hundred keys,
 //! - `reserve RECEIPTS OFFERS`: makes room.
 //!
 //! Rows that look at it:
-//! - `room RECEIPTS OFFERS`: whether there is so much,
+//! - `room RECEIPTS OFFERS`: whether there is room for these,
 //! - `accepted DOMAIN`, `is_accepted DOMAIN = DOCUMENT`: the accepted documents,
 //! - `receipts`, `receipts_of BYTE`, `distrusts`: what is held,
 //! - `report`, `current DOMAIN`, `conflicts`, `explain DOMAIN = DOCUMENT`: what is shown,

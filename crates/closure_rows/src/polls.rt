@@ -140,8 +140,8 @@ fn say_moment(
     }
 }
 
-/// `fuse CONFIG READS = LINES`: what comes of the lines where the source fails after this many
-/// reads of 7 bytes.
+/// `fuse CONFIG READS = LINES`: what comes of the lines if the source fails after this many reads
+/// of 7 bytes.
 pub(crate) fn fuse(
     alloc: Global,
     script: &Script,

@@ -7,7 +7,7 @@ use poll_log::PollLog;
 use row_script::Script;
 use std::alloc::{AllocError, Global};
 
-/// The replica that rows act on, and the one beside it.
+/// The replica that rows act on, and the other one.
 #[derive(Drop)]
 pub(crate) struct Pair<C> {
     pub(crate) here: C,
@@ -24,7 +24,7 @@ pub(crate) struct World<I, E, P> {
     pub(crate) exchanging: Pair<E>,
     pub(crate) plain: Pair<P>,
     pub(crate) log: PollLog,
-    /// Whether rows act on the index alone.
+    /// Whether rows act only on the index.
     pub(crate) index_only: bool,
 }
 
@@ -66,7 +66,7 @@ pub(crate) fn make<C: Closure>(
     Ok(())
 }
 
-/// What is beside comes here, and the other way round.
+/// Swaps the two replicas.
 pub(crate) fn swap<C: Closure>(pair: &mut Pair<C>) {
     std::mem::swap(&mut pair.here, &mut pair.beside);
 }

@@ -9,8 +9,8 @@ use std::alloc::{AllocError, Global};
 /// More bytes than any report of a row has.
 const AMPLE_ROOM: usize = 100_000;
 
-/// `report`: the lines of the report, and a line more where a sink that just has room for it does
-/// not get it.
+/// `report`: the lines of the report, and a line more if a sink that just has room for it does not
+/// get it.
 pub(crate) fn report<C: Closure>(
     alloc: Global,
     script: &Script,

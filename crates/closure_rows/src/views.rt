@@ -169,7 +169,7 @@ fn say_chain(
     Ok(())
 }
 
-/// `room RECEIPTS OFFERS`: whether there is so much room.
+/// `room RECEIPTS OFFERS`: whether there is room for these.
 pub(crate) fn room<C: Closure>(here: &C, words: &str, out: &mut String) -> Result<(), RowFault> {
     let (receipts, offers) = first_word(words);
     let (receipts, offers) = (count(receipts)?, count(offers)?);

@@ -34,7 +34,7 @@ pub(crate) fn hint(word: &str) -> Result<Option<u64>, RowFault> {
     }
 }
 
-/// A moment in seconds since the Unix epoch, or `last`, which is later than each second.
+/// A time in seconds since the Unix epoch, or `last`, which is later than each second.
 pub(crate) fn moment(word: &str) -> Result<Timestamp, RowFault> {
     if word == "last" {
         return Ok(Timestamp::MAX);

@@ -1,7 +1,7 @@
-//! What the program does for the words of a command line, with texts of the script in place of
+//! What the program does for the arguments of a command line, with texts of the script in place of
 //! files.
 //!
-//! A file's name is the name of a text; where no text has the name, the file is not there.
+//! A file's name is the name of a text; if no text has the name, the file is not there.
 use crate::devices::{AMPLE_ROOM, Devices};
 use crate::shown_forms::{
     canon, domain_of, explain, graph_held, list_held, polls, print_config, report_held, usage,
@@ -34,13 +34,13 @@ use std::alloc::Global;
 pub(crate) struct Case<'a> {
     pub(crate) alloc: Global,
     pub(crate) script: &'a Script,
-    /// The words of the command line, each after a zero byte.
+    /// The arguments of the command line, each after a zero byte.
     pub(crate) words: &'a str,
     /// The bytes of standard input, or what the other replica of a session sends.
     pub(crate) input: &'a [u8],
     /// Whether `report` is to choose the closure itself.
     pub(crate) is_report_own: bool,
-    /// Whether the words are sent to a running replica alone.
+    /// Whether the arguments are sent only to a running replica.
     pub(crate) is_request: bool,
 }
 
@@ -58,7 +58,7 @@ struct Asked<'a> {
     given: &'a [Option<&'a str>],
 }
 
-/// Carries out what the words ask for, over the devices.
+/// Carries out what the arguments ask for, over the devices.
 pub(crate) fn carry_out<C: Closure>(case: &Case<'_>, devices: &mut Devices) {
     if let Err(error) = read_and_do::<C>(case, devices) {
         let is_told = write_fault(&error, &mut devices.errors).is_ok();
@@ -66,7 +66,7 @@ pub(crate) fn carry_out<C: Closure>(case: &Case<'_>, devices: &mut Devices) {
     }
 }
 
-// Ends with the exit status, or with 3 where that is greater and standard error failed.
+// Ends with the exit status, or with 3 if that is greater and standard error failed.
 fn end(ended: u8, is_told: bool, devices: &mut Devices) {
     devices.status = if is_told { ended } else { ended.max(3) };
 }
@@ -326,7 +326,7 @@ fn do_asked<C: Closure>(
     }
 }
 
-// Of what the state file holds.
+// The status of what the state file holds.
 // A warning makes the exit status 1.
 fn status_of<C: Closure>(
     case: &Case<'_>,
@@ -479,14 +479,14 @@ fn observe_of<C: Closure>(
     run_observe(case.alloc, closure, domain, &verdict, input, output)
 }
 
-// A key of zeros where the text is none.
+// A key of zeros if the text is not a key.
 fn key_of(text: &str) -> KeyId {
     let mut id = [0; 32];
     let _ = hex::decode_to_slice(text, &mut id);
     KeyId(id)
 }
 
-// With the flag for more, what changes stands on standard error, as far as that takes it.
+// With the flag for more, what changes is printed on standard error, as far as that takes it.
 fn distrust<C: Closure>(
     case: &Case<'_>,
     closure: &mut C,

@@ -1,4 +1,4 @@
-//! The devices of a command, in memory: where its input comes from, and where what it says goes.
+//! The devices of a command, in memory: the source of its input, and the sinks of what it says.
 use byte_lines::{FuseSource, MemSink, MemSource, Sink, Source};
 use row_script::Script;
 use std::alloc::{AllocError, Global};
@@ -16,9 +16,9 @@ pub(crate) struct Limits {
     pub(crate) piece: usize,
     /// The input fails after this many reads.
     pub(crate) reads: u64,
-    /// The bytes that fit where a command writes, and a session where it sends.
+    /// The bytes that fit into a command's output, or into what a session sends.
     pub(crate) room: usize,
-    /// The bytes that fit where complaints go.
+    /// The bytes that fit into standard error.
     pub(crate) error_room: usize,
 }
 
@@ -41,7 +41,7 @@ pub(crate) struct Devices {
     /// What a session sends to the other replica.
     pub(crate) sent: MemSink,
     pub(crate) output: MemSink,
-    /// What stands on standard error.
+    /// What is on standard error.
     pub(crate) errors: MemSink,
     /// The snapshot of what is held at the end.
     pub(crate) state: MemSink,
@@ -74,9 +74,8 @@ impl Devices {
         })
     }
 
-    /// Appends a line for each thing that is there: what was sent, the output, what stands on
-    /// standard error, the state where it is another one than before, each device that failed, and
-    /// the exit status.
+    /// Appends a line for each thing that is there: what was sent, the output, what is on standard
+    /// error, the state if it has changed, each device that failed, and the exit status.
     pub(crate) fn show(&self, script: &Script, answer: &mut String) -> Result<(), AllocError> {
         show_text(script, "sent", self.sent.as_bytes(), answer)?;
         show_text(script, "output", self.output.as_bytes(), answer)?;

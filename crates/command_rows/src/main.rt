@@ -1,9 +1,9 @@
 //! Runs the calls of the commands on the rows of a script, and prints what comes of each.
 //!
-//! The head of the script says what rows there are. A row in which the words of a command stand is
-//! run over both closures, with the input in pieces of several sizes, and its lines are printed
-//! once where they are the same each time. Words that a running replica answers too are sent to one
-//! as a request, and have to come to the same.
+//! The head of the script says what rows there are. A row with the arguments of a command is run
+//! over both closures, with the input in pieces of several sizes, and its lines are printed once if
+//! they are the same each time. Arguments that a running replica answers too are sent to one as a
+//! request, and must have the same outcome.
 #![tactic(auto)]
 
 mod commands;
@@ -34,7 +34,7 @@ impl Rows for CommandRows {
     ) -> Result<(), AllocError> {
         let alloc = self.alloc;
         match row.verb {
-            // These are for the built program alone.
+            // These are only for the built program.
             "built" => Ok(()),
             "run" | "session" => answer_run(alloc, script, row, answer),
             "asked" => answer_asked(alloc, script, row, answer),

@@ -18,7 +18,7 @@ const SHORT_ROOM: usize = 14;
 /// Room for a whole line.
 const LINE_ROOM: usize = 300;
 
-/// Tells of the refusal that the words name its exit status, its line, and what of that reaches a
+/// Tells the exit status of the refusal that the words name, its line, and what of it reaches a
 /// sink of 14 bytes.
 pub(crate) fn answer_refusal(
     alloc: Global,
@@ -171,7 +171,7 @@ fn sync_of(words: &str) -> Option<SyncError> {
     }
 }
 
-// First how many receipts were taken, and then the fault.
+// First how many receipts were taken, and then the error.
 fn pull_of(words: &str) -> Option<PullFault> {
     let (number, rest) = halves(words);
     Some(PullFault {

@@ -1,4 +1,4 @@
-//! The same words as a request to a running replica, which has the configuration and the state
+//! The same arguments as a request to a running replica, which has the configuration and the state
 //! itself. What is held afterwards is read back from the state and the lines of the journal.
 use crate::commands::Case;
 use crate::devices::{AMPLE_ROOM, Devices};
@@ -22,8 +22,8 @@ struct Running<'a> {
     file: Option<&'a [u8]>,
 }
 
-/// Asks a running replica where it can be asked so, and returns whether it was. What it replied is
-/// in the devices then.
+/// Asks a running replica if it can be asked so, and returns whether it was. What it replied is in
+/// the devices then.
 pub(crate) fn ask<C: Closure>(
     case: &Case<'_>,
     devices: &mut Devices,
@@ -94,7 +94,7 @@ fn ask_under<C: Closure>(
     file: Option<&[u8]>,
     devices: &mut Devices,
 ) -> Result<bool, CommandError> {
-    // A replica does not start where either is refused.
+    // A replica does not start if either is refused.
     let Ok(config) = Config::read(case.alloc, config) else {
         return Ok(false);
     };

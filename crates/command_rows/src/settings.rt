@@ -16,15 +16,15 @@ pub(crate) enum Trial {
     Full,
     /// The input fails after this many reads of 100 bytes.
     Broken,
-    /// Complaints have room for this many bytes.
+    /// Standard error has room for this many bytes.
     Untold,
 }
 
 /// A longer input does not come in small pieces.
 const MAX_CUT_BYTES: usize = 100_000;
 
-/// Runs a row's words over both closures, with its text as the input: in pieces of 1, 7 and 65,536
-/// bytes; if it is long, of 65,537; and once if there is none.
+/// Runs a row's command over both closures, with its text as the input: in pieces of 1, 7 and
+/// 65,536 bytes; if it is long, of 65,537; and once if there is none.
 pub(crate) fn answer_run(
     alloc: Global,
     script: &Script,
@@ -61,7 +61,7 @@ fn answer_pieces(case: &Case<'_>, pieces: &[usize], answer: &mut String) -> Resu
     answers.write(answer)
 }
 
-/// Sends a row's words to a running replica alone.
+/// Sends a row's command only to a running replica.
 pub(crate) fn answer_asked(
     alloc: Global,
     script: &Script,
@@ -83,7 +83,7 @@ pub(crate) fn answer_asked(
     answers.write(answer)
 }
 
-/// The same words sent to a running replica, where it answers such.
+/// The same command sent to a running replica, if it answers such.
 fn add_request<C: Closure>(
     case: &Case<'_>,
     setting: &str,
@@ -108,7 +108,7 @@ fn add_own(case: &Case<'_>, answers: &mut Answers) -> Result<(), AllocError> {
     add::<PlainClosure>(&own, "own closure", Limits::in_pieces(65_536), answers)
 }
 
-/// Runs a row's words over both closures, where the first word says how far a device goes before it
+/// Runs a row's command over both closures. The first word says how far a device goes before it
 /// fails.
 pub(crate) fn answer_trial(
     alloc: Global,

@@ -1,12 +1,12 @@
-//! The words of a command line, as a row has them, and what is made of them.
+//! The arguments of a command line, as a row has them, and what is made of them.
 use clap::Error;
 use fedbundle::{Call, WordsError, read_words};
 use row_script::{Row, Script};
 use std::alloc::{AllocError, Global};
 use std::str;
 
-/// The words of a row's head, each after a zero byte. In a word `$` and a name stand for the text
-/// of this name.
+/// The arguments in a row's head, each after a zero byte. `$` and a name in one is replaced by the
+/// text of this name.
 pub(crate) fn head_words(alloc: Global, script: &Script, head: &str) -> Result<String, AllocError> {
     let mut words = String::new(alloc);
     for word in head.split(' ') {
@@ -23,7 +23,7 @@ fn push_word(script: &Script, word: &str, words: &mut String) -> Result<(), Allo
     words.push_str("\0")
 }
 
-/// The words after which zero bytes stand.
+/// The arguments that have a zero byte after them.
 pub(crate) fn split_words<'a>(alloc: Global, words: &'a str) -> Result<Vec<&'a str>, AllocError> {
     words
         .split_terminator('\0')
@@ -31,8 +31,8 @@ pub(crate) fn split_words<'a>(alloc: Global, words: &'a str) -> Result<Vec<&'a s
         .collect(alloc)
 }
 
-/// Tells what the words ask for, on a line: the subcommand and the texts of its options, `-` for
-/// one that is left out; or that it is not said whole, or that the words are refused.
+/// Tells what the arguments ask for, on a line: the subcommand and the texts of its options, `-`
+/// for one that is left out; or that something is missing, or that they are refused.
 pub(crate) fn answer_words(
     alloc: Global,
     script: &Script,
@@ -62,8 +62,8 @@ fn show_call(call: &Call<'_>, answer: &mut String) -> Result<(), AllocError> {
     answer.push_str("\n")
 }
 
-/// Tells whether what the program prints for words that it does not take holds each piece of the
-/// row's text, between which `|` stands, and each piece that it lacks.
+/// Tells whether what the program prints for arguments that it does not take holds each piece of
+/// the row's text, and each piece that it lacks. `|` separates the pieces.
 pub(crate) fn answer_shown(
     alloc: Global,
     script: &Script,

@@ -9,9 +9,9 @@ use fed_config::ConfigId;
 use receipt_core::{Distrust, Receipt};
 use replica_sync::{Give, SyncError, absorb, write_snapshot};
 
-/// Tells what comes of an answer that has the records and receipts of the text's lines, and tells,
-/// by the third word, of which digest its sender's configuration is, when it comes first and when
-/// it comes again. Writes what is held then.
+/// Tells what comes of an answer that has the records and receipts of the text's lines and the
+/// configuration's digest of the third word, when it comes first and when it comes again. Writes
+/// what is held then.
 pub(crate) fn tell_absorbed<C: Closure, W: Sink>(
     row: RowCall<'_>,
     closure: &mut C,

@@ -10,8 +10,8 @@ use trust_closure::ExchangeClosure;
 /// The most bytes of a snapshot or a report.
 const MOST_BYTES: usize = 65_536;
 
-/// Tells what each replica holds after the events of the text's lines, where the second word tells
-/// how many there are.
+/// Tells what each replica holds after the events of the text's lines. The second word is the
+/// number of replicas.
 pub(crate) fn tell_world(row: RowCall<'_>, answer: &mut String) -> Result<(), Stop> {
     let replicas = world_of(row)?;
     tell_replicas(row, &replicas, answer)

@@ -10,7 +10,7 @@ use std::alloc::{AllocError, Global};
 /// More messages than any row has.
 const AMPLE_COUNT: u32 = 1_000;
 
-/// Reads message after message up to the first fault, and writes each.
+/// Reads message after message up to the first error, and writes each.
 pub(crate) fn tell_messages<R: Source, W: Sink>(
     row: RowCall<'_>,
     source: &mut R,
@@ -89,8 +89,8 @@ fn write_receipt<W: Sink>(alloc: Global, receipt: &Receipt, sink: &mut W) -> Res
     Ok(write_all(sink, b"\n")?)
 }
 
-/// Tells the have about the bucket of the first word, of the configuration whose digest is the
-/// second, that has the ids of the text's lines.
+/// Tells the have about the bucket of the first word, with the configuration's digest of the second
+/// one and the ids of the text's lines.
 pub(crate) fn tell_made(row: RowCall<'_>, answer: &mut String) -> Result<(), Stop> {
     let bucket = bucket_of(row.number(0)?)?;
     let config = config_id(row.word(1)?.as_bytes())?;

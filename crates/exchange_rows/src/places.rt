@@ -23,7 +23,7 @@ pub(crate) enum Device {
 struct Trial<'a> {
     row: RowCall<'a>,
     device: Device,
-    /// What is written where nothing fails.
+    /// What is written if nothing fails.
     wanted: &'a [u8],
     /// How many bytes lie between two places, or come with one read.
     step: usize,
@@ -32,7 +32,7 @@ struct Trial<'a> {
 /// More bytes than any row writes.
 pub(crate) const AMPLE_ROOM: usize = 1_048_576;
 
-/// Tells what comes at each place. The last two words are the name of what is written where nothing
+/// Tells what comes at each place. The last two words are the name of what is written if nothing
 /// fails, and how many bytes lie between two places, or come with one read.
 pub(crate) fn tell_places<C: Closure>(
     row: RowCall<'_>,

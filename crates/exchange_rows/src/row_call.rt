@@ -4,7 +4,7 @@ use fed_config::Config;
 use row_script::Script;
 use std::alloc::Global;
 
-/// What a row asks: a call, its words, and the text that its template stands for.
+/// What a row asks: a call, its words, and the text of its template.
 #[derive(Clone, Copy)]
 pub(crate) struct RowCall<'a> {
     pub(crate) alloc: Global,
@@ -15,7 +15,7 @@ pub(crate) struct RowCall<'a> {
 }
 
 impl<'a> RowCall<'a> {
-    /// The word at this place, where the first one is at 0.
+    /// The word at this place; the first one is at 0.
     pub(crate) fn word(&self, place: usize) -> Result<&'a str, Stop> {
         word_of(self.words, place)
     }

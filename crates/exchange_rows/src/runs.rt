@@ -19,8 +19,8 @@ impl Runs {
         }
     }
 
-    /// Takes what came at the next place. Where that differs from what came before, the places
-    /// before are reported.
+    /// Takes what came at the next place. If that differs from what came before, the places before
+    /// are reported.
     pub(crate) fn add(
         &mut self,
         place: usize,

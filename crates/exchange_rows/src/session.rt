@@ -9,9 +9,9 @@ use closure_core::Closure;
 use replica_sync::{SyncError, have, pull, serve_one, write_have, write_snapshot};
 use std::alloc::Global;
 
-/// Lets two replicas, of which the second and the third word name what they hold, pull from one
-/// another: the first one, then the other, and the first one again. Tells of the sessions, and
-/// writes what each replica holds then.
+/// Lets two replicas pull from one another: the first one, then the other, and the first one again.
+/// The second and the third word name what they hold. Tells of the sessions, and writes what each
+/// replica holds then.
 pub(crate) fn tell_session<C: Closure, W: Sink>(
     row: RowCall<'_>,
     closure: &mut C,

@@ -10,13 +10,13 @@ use std::fmt;
 pub(crate) enum Stop {
     /// The row has a verb that means nothing.
     Verb,
-    /// A word is missing, or is no number where one should stand.
+    /// A word is missing, or is not a number although one is needed.
     Word,
     /// No text has the name.
     Name,
-    /// A text is no configuration.
+    /// A text is not a configuration.
     Config,
-    /// A line is none of a receipt, a record or an event, or is refused.
+    /// A line is not that of a receipt, a record or an event, or is refused.
     Line,
     /// Memory ran out.
     NoMemory,

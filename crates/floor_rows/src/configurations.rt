@@ -8,7 +8,7 @@ use std::alloc::{AllocError, Global};
 // The most relationships that are shown, and the most seeds.
 const MOST_TOLD: usize = 3;
 
-/// Tells the configuration that the bytes say, or why they are none.
+/// Tells the configuration that the bytes say, or why they are not one.
 pub(crate) fn read(alloc: Global, bytes: &[u8], answer: &mut String) -> Result<(), AllocError> {
     match Config::read(alloc, bytes) {
         Ok(config) => tell_config(alloc, &config, answer),
@@ -73,7 +73,7 @@ fn tell_seed(seed: &Seed, told: &mut String) -> Result<(), AllocError> {
     write!(told, "seed {domain} {id}\n")
 }
 
-/// Tells where the domain stands in the configuration, and the relationship with it.
+/// Tells the domain's place in the configuration, and the relationship with it.
 pub(crate) fn look_up(
     alloc: Global,
     domain: &str,

@@ -8,7 +8,7 @@ use serde_json::Value;
 use spiffe_name::TrustDomain;
 use std::alloc::{AllocError, Global};
 
-/// Tells the document of the domain that the bytes say, or why they are none.
+/// Tells the document of the domain that the bytes say, or why they are not one.
 pub(crate) fn read(
     alloc: Global,
     script: &Script,
@@ -37,7 +37,7 @@ pub(crate) fn read_directly(
     }
 }
 
-/// Tells the document that a JSON value says, or why it is none.
+/// Tells the document that a JSON value says, or why it is not one.
 pub(crate) fn read_value(
     alloc: Global,
     script: &Script,

@@ -1,11 +1,11 @@
-//! Where what was refused is at fault.
+//! What is wrong in what was refused, and where.
 use fault_view::{find_flaw, is_ignored, json_fault, push_quoted};
 use fed_config::Config;
 use serde_json::Value;
 use std::alloc::{AllocError, Global};
 use std::str;
 
-/// The first part at fault of a configuration that is refused.
+/// The first wrong part of a configuration that is refused.
 pub(crate) fn find(alloc: Global, text: &[u8], answer: &mut String) -> Result<(), AllocError> {
     let Err(cause) = Config::read(alloc, text) else {
         return answer.push_str("no fault\n");
@@ -19,7 +19,7 @@ pub(crate) fn find(alloc: Global, text: &[u8], answer: &mut String) -> Result<()
     }
 }
 
-/// Where the bytes stop being JSON.
+/// The place at which the bytes stop being JSON.
 pub(crate) fn place(alloc: Global, text: &[u8], answer: &mut String) -> Result<(), AllocError> {
     match json_fault(alloc, text) {
         Some(fault) => write!(answer, "line {} column {}\n", fault.line, fault.column),

@@ -25,7 +25,7 @@ pub(crate) fn read_name(alloc: Global, der: &[u8], answer: &mut String) -> Resul
     }
 }
 
-/// Tells the text of a moment, which is given in seconds.
+/// Tells the text of a time, which is given in seconds.
 pub(crate) fn read_moment(
     alloc: Global,
     seconds: &str,

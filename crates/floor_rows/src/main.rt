@@ -1,5 +1,5 @@
 //! The program `floor_rows`: it reads rows from standard input, makes the calls that read names,
-//! elements, documents and configurations, or that find where one is at fault, and prints what came
+//! elements, documents and configurations, or that find what is wrong in one, and prints what came
 //! of each.
 #![tactic(auto)]
 

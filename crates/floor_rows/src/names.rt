@@ -7,7 +7,7 @@ use std::cmp::Ordering;
 use std::collections::{BTreeSet, HashSet};
 use std::hash::Hash;
 
-/// Tells the name that the text is, or why it is none.
+/// Tells the name that the text is, or why it is not one.
 pub(crate) fn read_domain(
     alloc: Global,
     script: &Script,
@@ -20,7 +20,7 @@ pub(crate) fn read_domain(
     }
 }
 
-/// Tells the ID that the text is, with its parts, or why it is none.
+/// Tells the ID that the text is, with its parts, or why it is not one.
 pub(crate) fn read_id(
     alloc: Global,
     script: &Script,
@@ -50,8 +50,8 @@ fn show_line(
     answer.push_str("\n")
 }
 
-/// Tells how the first name stands to the second, and which of its copy and the second are found in
-/// sets of it.
+/// Tells how the first name compares with the second, and which of its copy and the second are
+/// found in sets of it.
 pub(crate) fn domains_in_sets(
     alloc: Global,
     first: &str,

@@ -27,7 +27,7 @@ index_within Less = omega arith
 index_within Equal = omega arith
 index_within Greater = omega arith
 
--- Of two numbers the greater one never comes before what is sought where the smaller one does not.
+-- The greater of two numbers never comes before what is sought if the smaller one does not.
 pub size_keeps : (n x y : ℕ) → ltb x y ≡ true → ordering_index (nat_cmp x n) ≤ ordering_index (nat_cmp y n)
 size_keeps n x y h =
     let order : x < y = ltb-true x y h in
@@ -36,7 +36,7 @@ size_keeps n x y h =
       | inr high ↦ rw (greater_is y n (omega arith)) (index_within (nat_cmp x n))
     ]
 
--- And back: where the comparison returns `Less`, the number is smaller.
+-- And back: if the comparison returns `Less`, the number is smaller.
 less_from : (x n : ℕ) → nat_cmp x n ≡ Less → x < n
 less_from x n h =
     elim (cases_lt x n) [
@@ -60,11 +60,11 @@ greater_from x n h =
           ]
     ]
 
--- Rising numbers rise towards whatever is sought, so a search may halve them.
+-- Sorted numbers rise towards whatever is sought, so a search may halve them.
 pub sizes_rise : (items : List ℕ) (n : ℕ) → AllPairs (λ x y. ltb x y ≡ true) items → IsRising (λ item. nat_cmp item n) items
 sizes_rise items n all = order_rises_lem ltb (λ item. nat_cmp item n) items all (size_keeps n)
 
--- A number that is inserted where it was missing leaves them rising.
+-- A number that is inserted where it was missing leaves them sorted.
 pub sizes_insert : (items : List ℕ) (at n : ℕ) → AllPairs (λ x y. ltb x y ≡ true) items → IsMissing (λ item. nat_cmp item n) items at
     → AllPairs (λ x y. ltb x y ≡ true) (insert items at n)
 sizes_insert items at n all missing =

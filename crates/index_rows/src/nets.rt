@@ -1,4 +1,4 @@
-//! Nets of nodes and labels. Each helper tests what its call requires, and tells where it does not
+//! Nets of nodes and labels. Each helper tests what its call requires, and tells if it does not
 //! hold.
 use row_script::Row;
 use std::alloc::AllocError;
@@ -77,7 +77,7 @@ fn add_closed_label(reach: &mut Reach, answer: &mut String) -> Result<(), AllocE
     write!(answer, "label {label}\n")
 }
 
-// The edges stand as `0-1`, each a node and a label that it offers.
+// The edges are written as `0-1`, each a node and a label that it offers.
 fn add_offers(reach: &mut Reach, edges: &str, answer: &mut String) -> Result<(), AllocError> {
     for edge in edges.split(' ') {
         let (node, label) = halves(edge, '-');
@@ -96,7 +96,7 @@ fn offer(reach: &mut Reach, node: usize, label: usize) -> bool {
     true
 }
 
-// The edges stand as `0-1`, each a label and a node that awaits it.
+// The edges are written as `0-1`, each a label and a node that awaits it.
 fn add_waits(reach: &mut Reach, edges: &str, answer: &mut String) -> Result<(), AllocError> {
     for edge in edges.split(' ') {
         let (label, node) = halves(edge, '-');
@@ -118,7 +118,7 @@ fn wait(reach: &mut Reach, label: usize, node: usize) -> bool {
     true
 }
 
-// So many nodes, each of which awaits what the one after it offers: the last one is the root, and
+// This many nodes, each of which awaits what the one after it offers: the last one is the root, and
 // each edge comes before the edge that leads to it.
 fn add_chain(reach: &mut Reach, count: usize, answer: &mut String) -> Result<(), AllocError> {
     let last = count.saturating_sub(1);
@@ -150,7 +150,7 @@ fn close(reach: &mut Reach, label: usize, answer: &mut String) -> Result<(), All
     write!(answer, "turns {turns}\n")
 }
 
-// The marked nodes and the open labels, rising, and the turns so far.
+// The marked nodes and the open labels, sorted, and the turns so far.
 fn tell_state(reach: &Reach, answer: &mut String) -> Result<(), AllocError> {
     answer.push_str("marked")?;
     for node in 0..reach.counts().0 {

@@ -1,4 +1,4 @@
-//! A sequence of numbers in the order that its caller gives, beside a plain vector.
+//! A sequence of numbers in the order that its caller gives, and a plain vector to compare it with.
 ghost use Rattle.std.specs.Prelude.{◌≤◌};
 
 use crate::nets::number;

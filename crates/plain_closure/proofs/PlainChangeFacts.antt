@@ -112,9 +112,9 @@ module _ (h new : HeldReceipts) (p q : DocumentTableView) (offers : List Triple)
       (plain-tells h p offers released i) (plain-tells new q offers others j) kept-carry
       (λ k x e f at. pairs-carry k x at) n count flag-sizes
 
--- ---- flags raised anew
+-- ---- flags raised again
 
--- Flags that are computed anew for the receipts and for the documents settle the closure.
+-- Flags that are computed again for the receipts and for the documents settle the closure.
 pub settled-from : (h : HeldReceipts) (p q : DocumentTableView) (offers : List Triple) (old released : List Bool) → IsSet h p offers old
     → length released ≡ length old → AreReleased (meaning_of h) h.arrived released
     → q.numbers ≡ p.numbers → q.heads ≡ p.heads → length q.counts ≡ length p.counts
@@ -149,7 +149,7 @@ heads-within h p offers released s k d l =
 
 -- ---- one more receipt
 
--- What is kept besides the flags is right after one more receipt.
+-- What is kept apart from the flags is right after one more receipt.
 pub set-more : (h new : HeldReceipts) (p q : DocumentTableView) (offers : List Triple) (released : List Bool) (r : Receipt)
     → IsSet h p offers released → IsReceipt r → (Contains h.held r → ⊥) → new ≡ with_arrival h r
     → IsMeaning (meaning_of new)
@@ -196,7 +196,7 @@ sound-push h new p offers released r i form is place s at raised =
 
 -- ---- one more record of distrust
 
--- What is kept besides the flags is right after more records of distrust.
+-- What is kept apart from the flags is right after more records of distrust.
 pub set-closed : (old new : HeldReceipts) (xs : List Distrust) (p : DocumentTableView) (offers : List Triple)
     (released lowered : List Bool) → IsSet old p offers released → IsBefore old xs new
     → IsMeaning (meaning_of new) → length lowered ≡ length released → IsSet new p offers lowered
@@ -251,7 +251,7 @@ settled-roomier h new p q offers released i is r =
 
 -- ---- what is gained and lost
 
--- Each node's first number has a count, also where as many other counts stand for these.
+-- Each node's first number has a count, also if these are replaced by as many other counts.
 pub heads-lowered : (h : HeldReceipts) (p low : DocumentTableView) (offers : List Triple) (released : List Bool)
     → IsSet h p offers released → low.heads ≡ p.heads → length low.counts ≡ length p.counts
     → All (λ f. f < length low.counts) low.heads

@@ -28,23 +28,23 @@ use Rattle.closure_parts.proofs.VouchingFacts.{vouches-from_offer, offer-from_vo
 
 -- ---- an item is among others
 
--- Of two tests of which one passes, the first or the second does.
+-- If one of two tests passes, the first or the second does.
 or_split : (b c : Bool) → (b || c) ≡ true → (b ≡ true) ⊎ (c ≡ true)
 or_split true c e = inl refl
 or_split false c e = inr e
 
--- Where the first test passes, one of both does.
+-- If the first test passes, one of both does.
 or_first : (b c : Bool) → b ≡ true → (b || c) ≡ true
 or_first true c e = refl
 or_first false c e = absurd (both_ways false refl e)
 
--- Where the second test passes, one of both does.
+-- If the second test passes, one of both does.
 or_second : (b c : Bool) → c ≡ true → (b || c) ≡ true
 or_second true c e = refl
 or_second false c e = e
 
 module _ {T : Type 0} (test : T → Bool) (t : T) where
-  -- Where a test that knows the item passes for some item of the list, the list contains it.
+  -- If a test that knows the item passes for some item of the list, the list contains it.
   pub any_has : ((x : T) → test x ≡ true → x ≡ t) → (xs : List T) → list_any test xs ≡ true → Contains xs t
   any_has exact [] e = absurd (both_ways false refl e)
   any_has exact (x ∷ xs) e = elim (or_split (test x) (list_any test xs) e) [
@@ -52,7 +52,7 @@ module _ {T : Type 0} (test : T → Bool) (t : T) where
     | inr later ↦ contains_later x xs t (any_has exact xs later)
   ]
 
-  -- Where the list contains the item, the test passes for one.
+  -- If the list contains the item, the test passes for one.
   pub has_any : test t ≡ true → (xs : List T) → Contains xs t → list_any test xs ≡ true
   has_any self [] has = absurd (contains_none t has)
   has_any self (x ∷ xs) has = elim (contains_cases x xs t has) [
@@ -73,7 +73,7 @@ module _ (arrived : List Receipt) (released : List Bool) (t : Triple) where
   pub offered-none : IsOfferedBelow arrived released t 0 → ⊥
   offered-none o = omega (arith, o.below)
 
-  -- Where no receipt before a place offers the triple, and the one there is not raised or does not
+  -- If no receipt before a place offers the triple, and the one there is not raised or does not
   -- offer it, none up to it does.
   pub offered-step : (k : ℕ) (r : Receipt) → slice_get arrived k ≡ Some r
       → (is_raised released k ≡ true → Contains (offers_of (pair_of r)) t → ⊥)
@@ -117,7 +117,7 @@ module _ (m : Meaning) (arrived : List Receipt) (seed_offers : List Triple) (off
             }
       ]
 
-  -- Where a round finds none, the flags are exactly those of the receipts that an accepted document
+  -- If a round finds none, the flags are exactly those of the receipts that an accepted document
   -- vouches for.
   pub quiet-released : (released : List Bool) → AreSound m arrived released
       → AreQuietBelow m.records seed_offers arrived released (length arrived) → AreReleased m arrived released
@@ -271,7 +271,7 @@ module _ (h : HeldReceipts) (p : DocumentTableView) (seed_offers : List Triple) 
     once = λ one other q. pairing-once (pairs_of h.config.seeds h.arrived) p i.set.pairing one other q;
   }
 
-  -- A pair's flag is raised exactly where its document is accepted.
+  -- A pair's flag is raised exactly if its document is accepted.
   pub plain-member : (q : Pair) → HasRaised (pairs_of h.config.seeds h.arrived) p q ↔ IsMember (meaning_of h) q
   plain-member q = (
     λ r. plain-tells.sound r.number q r.raised r.at,

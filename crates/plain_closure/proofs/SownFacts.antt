@@ -63,7 +63,7 @@ sown-more h seeds s p a q offers more all first none g pairing f1 f2 counts head
       offers = subst (AreSeedOffers (seeds ++ s ∷ [])) (sym whole) (offers-more seeds s offers more g.offers is);
     }
 
--- With all configured documents what is kept besides the flags is right.
+-- With all configured documents, what is kept apart from the flags is right.
 pub sown-set : (h : HeldReceipts) (p : DocumentTableView) (offers : List Triple) (seeds : List Seed) → seeds ≡ h.config.seeds
     → IsMeaning (meaning_of h) → h.held ≡ [] → h.arrived ≡ [] → IsSown h seeds p offers → IsSet h p offers []
 sown-set h p offers seeds are valid held arrived g = record {

@@ -78,7 +78,7 @@ pub record IsSet (h : HeldReceipts) (p : DocumentTableView) (seed_offers : List 
   pub pairing : IsDocumentTable (pairs_of h.config.seeds h.arrived) p
   pub size : length released ≡ length h.arrived
 
--- Besides, the flags of receipts and of different documents are those of what is accepted.
+-- In addition, the flags of receipts and of different documents are those of what is accepted.
 pub record HasPlainFlags (h : HeldReceipts) (p : DocumentTableView) (seed_offers : List Triple)
     (released : List Bool) : Type 0 where
   pub set : IsSet h p seed_offers released
@@ -94,7 +94,7 @@ pub record WasSettled (new : HeldReceipts) (p : DocumentTableView) (seed_offers 
   pub before : IsBefore old more new
   pub settled : HasPlainFlags old p seed_offers released
 
--- There is room for so many receipts more.
+-- There is room for this many receipts more.
 pub record HasFreeRoom (h : HeldReceipts) (p : DocumentTableView)
     (flags capacity spare : ℕ) : Type 0 where
   pub held : length h.arrived + spare ≤ h.capacity
@@ -102,7 +102,7 @@ pub record HasFreeRoom (h : HeldReceipts) (p : DocumentTableView)
   pub released : flags + spare ≤ capacity
   pub few : length p.heads + spare < 2 ^ 32
 
--- What one closure keeps, beside the room.
+-- What one closure keeps, and its room.
 pub record IsPlainClosure (h : HeldReceipts) (p : DocumentTableView) (seed_offers : List Triple)
     (released : List Bool) (capacity spare : ℕ) : Type 0 where
   pub settled : HasPlainFlags h p seed_offers released

@@ -158,10 +158,11 @@ fn place_receipt(
     let _valid = held.config();
 }
 
-/// Distrusts a key in a domain: the flags are lowered, and rounds raise anew those that stand.
+/// Distrusts a key in a domain: the flags are lowered, and rounds raise again those that are still
+/// vouched for.
 ///
 /// # Errors
-/// The domain is none of the configuration, or there are as many records as there may be.
+/// The domain is not one of the configuration, or there are as many records as there may be.
 pub(crate) fn retract(
     held: &mut Held,
     pairs: &mut Pairs,
@@ -191,7 +192,7 @@ pub(crate) fn retract(
 }
 
 /// Distrusts keys in domains of the configuration, as many as there may be: the flags are lowered
-/// once, and rounds raise anew those that stand.
+/// once, and rounds raise again those that are still vouched for.
 pub(crate) fn retract_all(
     held: &mut Held,
     pairs: &mut Pairs,
@@ -215,8 +216,8 @@ pub(crate) fn retract_all(
     fall(held, pairs, seed_offers, released);
 }
 
-/// Lowers all flags, raises anew those that stand without records that are new, and returns how
-/// many documents of domains were accepted and are not now.
+/// Lowers all flags, raises again those that are still vouched for without the new records, and
+/// returns how many documents of domains were accepted and are not now.
 fn fall(held: &Held, pairs: &mut Pairs, seed_offers: &[Triple], released: &mut Vec<bool>) -> usize
     requires before { WasSettled held.now pairs.old seed_offers.now released.old.items }
     ensures settled { HasPlainFlags held.now pairs.new seed_offers.now released.new.items }

@@ -5,8 +5,8 @@ ghost use Rattle.byte_lines.specs.Lines.{lines_of};
 use byte_lines::{DeviceError, Line, LineBuf, Source};
 use std::alloc::Global;
 
-/// How many line feeds end a line of what remains. It stands on what `next_line` ensures, and on
-/// nothing of the source.
+/// How many line feeds end a line of what remains. Its proof needs only what `next_line` ensures,
+/// and nothing of the source.
 pub(crate) fn count_lines<R: Source>(alloc: Global, source: &mut R) -> Result<u64, DeviceError>
     ensures { IfOk result (λ n. IfSome (R.remaining source.old)
         (λ bytes. n ≡ length (lines_of bytes).whole)) }

@@ -1,4 +1,4 @@
-//! Devices where all goes well, and at their faults.
+//! Devices that work, and devices that fail.
 use crate::streams::in_pieces;
 use crate::words::{number, tell, tell_failed, two_numbers};
 use byte_lines::{
@@ -61,7 +61,7 @@ fn tell_first_piece(
     }
 }
 
-// Tells the bytes that are read up to a limit, or the fault.
+// Tells the bytes that are read up to a limit, or the error.
 fn tell_taken<R: Source>(
     alloc: Global,
     script: &Script,

@@ -4,7 +4,7 @@ use receipt_core::{Distrust, Receipt, Triple};
 use row_script::{Answers, Script};
 use std::alloc::{AllocError, Global};
 
-/// Tells the receipt of a line, or why it is none.
+/// Tells the receipt of a line, or why it is not one.
 pub(crate) fn read(
     alloc: Global,
     script: &Script,
@@ -115,7 +115,7 @@ pub(crate) fn tell_triple(
     write!(told, "{verb} {domain} {document} {key}\n")
 }
 
-/// Tells the record of distrust of a line, or why it is none.
+/// Tells the record of distrust of a line, or why it is not one.
 pub(crate) fn read_record(
     alloc: Global,
     script: &Script,

@@ -1,4 +1,4 @@
-//! Lines of streams, wherever the pieces end in which they come.
+//! Lines of streams, in pieces that end anywhere.
 use crate::counting::count_lines;
 use crate::words::{number, tell, tell_failed};
 use byte_lines::{DeviceError, FuseSource, Line, LineBuf, MemSource, Source};
@@ -119,7 +119,7 @@ fn tell_in_pieces(
     tell_stream(alloc, script, telling, &mut source, told)
 }
 
-// Tells each line of a source up to its end or its fault.
+// Tells each line of a source up to its end or its error.
 fn tell_stream<R: Source>(
     alloc: Global,
     script: &Script,

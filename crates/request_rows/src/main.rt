@@ -6,7 +6,7 @@
 //! - `reply = LINE`: what a reply's first line says,
 //! - `head ERRORS OUTPUT STATUS`: the first line of a reply with these numbers,
 //! - `parts SIZE = BYTES`: the words and the input of a request that comes in pieces of this size,
-//! - `fault NAME`: what is replied for a fault,
+//! - `fault NAME`: what is replied for an error,
 //! - `ask SIZE = BYTES`: what a request asks for that comes in pieces of this size,
 //! - `response STATUS TYPE METHOD = BODY`: a response,
 //! - `counts BEGAN MILLIS`: the metrics of a loop.

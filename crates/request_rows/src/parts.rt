@@ -1,4 +1,4 @@
-//! The bytes of a request, in pieces, and the replies of faults.
+//! The bytes of a request, in pieces, and the replies of errors.
 use local_answers::{RequestFault, RequestParts};
 use request_lines::read_reply_head;
 use std::alloc::{AllocError, Global};
@@ -7,7 +7,7 @@ use std::str;
 /// The longest text that is printed.
 const MOST_SHOWN: usize = 100;
 
-/// Takes the bytes in pieces of this many, and tells the words and the input, or the fault.
+/// Takes the bytes in pieces of this many, and tells the words and the input, or the error.
 pub(crate) fn take(
     alloc: Global,
     size: &str,
@@ -43,7 +43,7 @@ fn show_fault(fault: RequestFault, answer: &mut String) -> Result<(), AllocError
     write!(answer, "{fault:?}\n")
 }
 
-/// Tells the reply of a fault, and whether its first line says how long the rest is.
+/// Tells the reply of an error, and whether its first line says how long the rest is.
 pub(crate) fn reply(alloc: Global, name: &str, answer: &mut String) -> Result<(), AllocError> {
     let Some(fault) = fault_of(name) else {
         return answer.push_str("unknown fault\n");

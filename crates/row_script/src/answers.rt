@@ -1,7 +1,7 @@
 //! What comes of a row in several settings.
 use std::alloc::{AllocError, Global};
 
-/// What came of a row in several settings, of which each must come to the same.
+/// What came of a row in several settings, which must all have the same outcome.
 #[derive(Drop)]
 pub struct Answers {
     setting: String,

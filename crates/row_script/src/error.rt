@@ -7,7 +7,7 @@ use std::fmt;
 pub enum ScriptError {
     /// A template names a text that no line before defined.
     UnknownText,
-    /// What stands between `${` and `}` has none of the forms, or a definition repeats a name.
+    /// What is between `${` and `}` has none of the forms, or a definition repeats a name.
     BadTemplate,
     /// The allocator refused memory.
     NoMemory,

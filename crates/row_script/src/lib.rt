@@ -4,13 +4,13 @@
 //! over. `text NAME = TEMPLATE` defines a text. Any other line is a row: `HEAD`, or
 //! `HEAD = TEMPLATE`. Its head is a verb and words with one space between them.
 //!
-//! A template is literal text to the end of the line, in which these stand for other bytes:
+//! A template is literal text to the end of the line, in which these are replaced by other bytes:
 //!
 //! | | |
 //! |---|---|
 //! | `${NAME}` | the text of that name |
 //! | `${NAME*COUNT}` | that text this many times |
-//! | `${NAME 5..9}` | that text for each number from 5 to 9, which stands there for each `%` |
+//! | `${NAME 5..9}` | that text for each number from 5 to 9, which is there for each `%` |
 //! | `${hex 0aff}` | the bytes that these digits say |
 //! | `${lf}` | a line feed |
 //!

@@ -18,13 +18,13 @@ struct NamedText {
 /// A row of a script.
 #[derive(Drop)]
 pub struct Row<'a> {
-    /// The line as it stands in the script.
+    /// The line as it is in the script.
     pub line: &'a str,
     /// The first word of its head.
     pub verb: &'a str,
     /// The rest of its head, after the first space.
     pub words: &'a str,
-    /// What its template stands for, or nothing where it has none.
+    /// The text of its template, or nothing if it has none.
     pub text: Vec<u8>,
 }
 
@@ -38,7 +38,7 @@ impl Script {
     }
 
     /// Takes the next line, without its line feed: nothing for an empty line, a comment or a
-    /// definition, which is kept, and else the row.
+    /// definition, which is kept, otherwise the row.
     ///
     /// # Errors
     /// The template names an unknown text or has none of the forms, a definition repeats a name, or
@@ -106,7 +106,7 @@ fn split_line(line: &str) -> (&str, &str) {
     }
 }
 
-// The first word, and what stands after the space after it.
+// The first word, and what comes after the space after it.
 fn split_word(head: &str) -> (&str, &str) {
     head.split_once(' ').unwrap_or((head, ""))
 }

@@ -8,10 +8,10 @@ const MAX_SHOWN_BYTES: usize = 200;
 
 impl Script {
     /// Appends a text as it is shown on one line, without a line feed after it: up to 200 bytes
-    /// byte by byte, and else as `${NAME}`, where a line of the script gave this text a name, or as
-    /// its length and its SHA-256.
+    /// byte by byte, otherwise as `${NAME}` if a line of the script gave this text a name, or else
+    /// as its length and its SHA-256.
     ///
-    /// A byte that is no printable ASCII is shown as `\xff`, a line feed as `\n`, and a backslash
+    /// A byte that is not printable ASCII is shown as `\xff`, a line feed as `\n`, and a backslash
     /// as two.
     ///
     /// # Errors
@@ -27,8 +27,7 @@ impl Script {
     }
 
     /// Appends the lines of a text, each as [`Script::show`] shows it, and a line feed after each.
-    /// Where the text does not end with a line feed, a line more says so. An empty text has no
-    /// lines.
+    /// If the text does not end with a line feed, a line more says so. An empty text has no lines.
     ///
     /// # Errors
     /// Memory ran out.

@@ -1,10 +1,10 @@
-//! What templates stand for.
+//! The texts of templates.
 use crate::error::ScriptError;
 use crate::script::Script;
 use std::alloc::{AllocError, Global};
 
 impl Script {
-    /// What a template stands for.
+    /// The text of a template.
     ///
     /// # Errors
     /// It names an unknown text or has none of the forms, or memory ran out.
@@ -25,7 +25,7 @@ impl Script {
         Ok(())
     }
 
-    // Appends what stands after a `${`, up to the next one.
+    // Appends what comes after a `${`, up to the next one.
     fn append_call(&self, piece: &str, text: &mut Vec<u8>) -> Result<(), ScriptError> {
         let Some((call, literal)) = piece.split_once('}') else {
             return Err(ScriptError::BadTemplate);

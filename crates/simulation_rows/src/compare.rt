@@ -1,4 +1,4 @@
-//! A replica beside the model.
+//! A replica compared with the model.
 use crate::failure::Failure;
 use crate::masks::{has, size};
 use crate::model::{Held, Sight};

@@ -18,7 +18,7 @@ pub(crate) struct Corpus {
     pub(crate) records: Vec<Distrust>,
 }
 
-/// Of each domain a chain of this many receipts, each under the document before it. In each tenth
+/// For each domain a chain of this many receipts, each under the document before it. In each tenth
 /// domain the last one names a voucher that nobody has. In each fiftieth one the first key of the
 /// chain is distrusted.
 pub(crate) fn make_corpus(alloc: Global, domains: usize, length: usize) -> Result<Corpus, Stop> {

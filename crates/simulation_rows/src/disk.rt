@@ -21,7 +21,7 @@ pub(crate) struct Disk {
 #[derive(Clone, Copy, Debug)]
 struct Written {
     came: Came,
-    /// Where the line ends in the journal.
+    /// The end of the line in the journal.
     end: usize,
 }
 

@@ -27,7 +27,7 @@ pub(crate) fn play<C: Closure>(stage: Stage<'_>, count: usize, steps: &[Step]) -
     }
 }
 
-// A fault of a call is a difference too.
+// An error of a call is a difference too.
 fn named(outcome: Outcome) -> Outcome {
     match outcome {
         Err(Stop::Refused(fault)) => Ok(Some(Failure::Fault(fault))),

@@ -36,7 +36,7 @@ pub(crate) enum Step {
     Sync {
         replica: usize,
     },
-    /// A replica is killed and starts again. Of its journal it finds what was on the disk, and this
+    /// A replica is killed and starts again. In its journal it finds what was on the disk, and this
     /// many bytes more at most.
     Kill {
         replica: usize,

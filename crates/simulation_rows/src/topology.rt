@@ -36,7 +36,7 @@ impl Topology {
         }
     }
 
-    /// The peers of one of so many replicas, some perhaps twice.
+    /// The peers of one of this many replicas, some perhaps twice.
     pub(crate) fn peers(
         self,
         alloc: Global,

@@ -18,7 +18,8 @@ const DOMAINS: usize = 3;
 const DOCUMENTS: usize = 5;
 /// How many keys a domain has. Each document has two that follow each other.
 const KEYS: usize = 6;
-/// How many receipts are drawn beside those that a fetcher would make. One in sixteen is kept.
+/// How many receipts are drawn in addition to those that a fetcher would make. One in sixteen is
+/// kept.
 const DRAWN: usize = 224;
 /// The most receipts.
 const MOST_RECEIPTS: usize = 40;

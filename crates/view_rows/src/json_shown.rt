@@ -17,7 +17,7 @@ use row_script::Script;
 use spiffe_name::TrustDomain;
 use std::alloc::{AllocError, Global};
 
-/// Tells what is printed of the configuration, or why the bytes are none.
+/// Tells what is printed of the configuration, or why the bytes are not one.
 pub(crate) fn config(
     alloc: Global,
     script: &Script,
@@ -33,7 +33,7 @@ pub(crate) fn config(
     show(script, written, &sink, answer)
 }
 
-/// Tells what is printed of the document, as one of this domain, or why the bytes are none.
+/// Tells what is printed of the document, as one of this domain, or why the bytes are not one.
 pub(crate) fn document(
     alloc: Global,
     script: &Script,
@@ -105,8 +105,7 @@ pub(crate) fn report<C: Closure>(
     show(script, written, &sink, answer)
 }
 
-/// Tells why it accepts a document: `CONFIG DOMAIN NAME`, where the text of the name is the
-/// document.
+/// Tells why it accepts a document: `CONFIG DOMAIN NAME`; the text of the name is the document.
 pub(crate) fn chain<C: Closure>(
     alloc: Global,
     script: &Script,
@@ -148,8 +147,8 @@ fn show_chain<C: Closure>(
     }
 }
 
-/// Tells what is printed of its next polls: `CONFIG SECONDS NAME`, where the text of the name has
-/// the polls that were made.
+/// Tells what is printed of its next polls: `CONFIG SECONDS NAME`; the text of the name has the
+/// polls that were made.
 pub(crate) fn polls<C: Closure>(
     alloc: Global,
     script: &Script,

@@ -2,14 +2,14 @@
 //! operator looks at, and prints what came of each.
 //!
 //! - `config = CONFIGURATION`: what is printed of a configuration,
-//! - `difference NAME = CONFIGURATION`: what is printed of where it differs from the one that is
-//!   the text of this name,
+//! - `difference NAME = CONFIGURATION`: what is printed of the lines in which it differs from the
+//!   text of this name,
 //! - `list CONFIG = LINES`, `list CONFIG DOMAIN = LINES`: what is printed of what a replica holds
 //!   that was given these lines of receipts and of records of distrust. The text of the name CONFIG
 //!   is its configuration.
 //! - `diff CONFIG NAME = LINES`: what is printed of what only one of two replicas holds: that one,
 //!   and another that was given the text of this name.
-//! - `status CONFIG FORMAT = LINES`: what is printed of how that replica stands, in one of the
+//! - `status CONFIG FORMAT = LINES`: what is printed of that replica's status, in one of the
 //!   formats `text`, `json` and `prometheus`, and whether there is a warning.
 //! - `running CONFIG FORMAT SNAPSHOT JOURNAL PEER.. = LINES`: the same of a running replica, whose
 //!   files have this many bytes; a peer is `ADDRESS,ENDED,FAULT,RECEIPTS`, with a hyphen for what
@@ -21,8 +21,8 @@
 //!   of the text of NAME.
 //! - `config-json = CONFIGURATION`, `canon-json DOMAIN = DOCUMENT`, `list-json CONFIG = LINES`,
 //!   `list-json CONFIG DOMAIN = LINES`, `report-json CONFIG = LINES`, `explain-json CONFIG DOMAIN
-//!   NAME = LINES` and `polls-json CONFIG SECONDS NAME = LINES`: what is printed as JSON, where the
-//!   text of NAME is a document, and the polls that were made.
+//!   NAME = LINES` and `polls-json CONFIG SECONDS NAME = LINES`: what is printed as JSON. The text
+//!   of NAME is a document, or the polls that were made.
 //! - `graph CONFIG = LINES`, `graph CONFIG DOMAIN = LINES`: which graph is printed of that replica.
 #![tactic(auto)]
 

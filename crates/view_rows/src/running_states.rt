@@ -1,4 +1,4 @@
-//! How running replicas stand.
+//! The status of running replicas.
 use crate::configurations::AMPLE_ROOM;
 use crate::states::{format_of, replica_of};
 use byte_lines::MemSink;
@@ -8,8 +8,8 @@ use row_script::Script;
 use status_view::{PeerFault, PeerStatus, RunningStatus, StatusFormat, write_running_status};
 use std::alloc::{AllocError, Global};
 
-/// Tells how a running replica stands that was given these lines: `CONFIG FORMAT SNAPSHOT JOURNAL`
-/// and peers, each as `ADDRESS,ENDED,FAULT,RECEIPTS`, where what is absent is a hyphen.
+/// Tells the status of a running replica that was given these lines: `CONFIG FORMAT SNAPSHOT
+/// JOURNAL` and peers, each as `ADDRESS,ENDED,FAULT,RECEIPTS`, with a hyphen for what is absent.
 pub(crate) fn stand<C: Closure>(
     alloc: Global,
     script: &Script,
@@ -70,7 +70,7 @@ fn number_of(word: Option<&str>) -> u64 {
     word.and_then(|word| word.parse::<u64>().ok()).unwrap_or(0)
 }
 
-// Each fault, some with a line.
+// Each error, some with a line.
 fn fault_of(word: &str) -> Option<PeerFault> {
     match word {
         "BadHeader" => Some(PeerFault::Session(SyncError::BadHeader)),

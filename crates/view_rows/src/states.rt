@@ -44,8 +44,8 @@ fn show_list<C: Closure>(
     }
 }
 
-/// Tells what only one of two replicas holds: `CONFIG NAME`, where the text of the name has the
-/// lines of the other one.
+/// Tells what only one of two replicas holds: `CONFIG NAME`; the text of the name has the lines of
+/// the other one.
 pub(crate) fn compare<C: Closure>(
     alloc: Global,
     script: &Script,
@@ -79,7 +79,7 @@ fn show_difference<C: Closure>(
     script.show_lines(sink.as_bytes(), answer)
 }
 
-/// Tells how a replica stands that was given these lines: `CONFIG FORMAT`.
+/// Tells the status of a replica that was given these lines: `CONFIG FORMAT`.
 pub(crate) fn stand<C: Closure>(
     alloc: Global,
     script: &Script,

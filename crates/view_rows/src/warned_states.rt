@@ -1,4 +1,4 @@
-//! How running replicas stand, with what is wrong with them.
+//! The status of running replicas, with their warnings.
 use crate::configurations::AMPLE_ROOM;
 use crate::running_states::peer_of;
 use crate::states::{format_of, replica_of};
@@ -17,8 +17,8 @@ struct Said {
     fetches: Vec<Fetch>,
 }
 
-/// Tells how a running replica stands that was given these lines, with its warnings: `CONFIG FORMAT
-/// MOMENT BEGAN`, and then peers, and fetches as `DOMAIN@FETCHED@WAIT`.
+/// Tells the status of a running replica that was given these lines, with its warnings: `CONFIG
+/// FORMAT MOMENT BEGAN`, and then peers, and fetches as `DOMAIN@FETCHED@WAIT`.
 pub(crate) fn stand<C: Closure>(
     alloc: Global,
     script: &Script,

@@ -1,5 +1,5 @@
--- What is raised is vouched for, and where nothing is raised, the receipts so far are vouched for
--- by none.
+-- What is raised is vouched for, and if nothing is raised, the receipts so far are vouched for by
+-- none.
 use Rattle.std.proofs.Common.{◌≡◌, ◌+◌, ◌≤◌, length}
 use Rattle.closure_core.specs.Inside.Flags.{raised_count}
 use Rattle.closure_parts.specs.Held.{meaning_of}

@@ -1,4 +1,4 @@
--- What stands without the record is raised anew.
+-- What does not depend on the distrusted key is raised again.
 use Rattle.std.proofs.Common.{◌∙◌, ◌-◌, length, arith, ap}
 use Rattle.fed_config.specs.Configuration.{Configuration}
 use Rattle.closure_core.specs.Inside.Nodes.{flags_of}
