@@ -23,8 +23,8 @@ pub extern "C" fn fedbundle_raw_version(out: &mut [u8], outcome: &mut CallOutcom
 }
 
 /// Opens a closed handle: it holds a replica of the configuration then, with what the snapshot
-/// holds, or with nothing where there are no bytes of a snapshot. Where it is refused the handle
-/// stays as it is.
+/// holds, or with nothing if there are no bytes of a snapshot. If it is refused, the handle stays
+/// as it is.
 #[unsafe(no_mangle)]
 pub extern "C" fn fedbundle_raw_open(
     alloc: Global,

@@ -85,18 +85,15 @@ impl RunningReplica {
         let now = at_step(Step::Socket, Instant::now(rt))?;
         let listeners = Listeners::open(rt, &settings.places(), now)?;
         let began = unix_seconds(rt).unwrap_or(0);
+        let begun = beginning.begin_journal(rt, alloc, closure, settings.state);
+        let journal = file_at_step(Step::Journal, begun)?;
+        // All that is held is on the disk by now, so a line that stays is of a change that is kept.
         let audit = begin_audit(rt, alloc, closure, settings.audit, began)?;
-        let journal = beginning.begin_journal(rt, alloc, closure, settings.state);
         Ok(RunningReplica {
             listeners,
             table: ConnectionTable::new(alloc, settings.most_request_bytes)?,
             peers: Peers::new(alloc, settings.peers, settings.every, now)?,
-            files: KeptFiles::new(
-                lock,
-                file_at_step(Step::Journal, journal)?,
-                audit,
-                settings.progress,
-            ),
+            files: KeptFiles::new(lock, journal, audit, settings.progress),
             events: EventCounts::new(alloc),
             now,
             began,

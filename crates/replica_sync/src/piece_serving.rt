@@ -57,11 +57,11 @@ impl Serving {
     /// are to be given again once that is written.
     ///
     /// # Errors
-    /// The answers to the haves before the fault may still be written, and nothing else ever is.
-    /// Each later call returns the same fault. Of these the first that holds:
-    /// - [`SyncError::BadHeader`]: a line is no have's, of whatever format and number of buckets,
-    ///   or its bucket is not below that number, or its ids do not rise strictly, or it has more
-    ///   than 8,388,608 bytes,
+    /// The answers to the haves before the error may still be written, and nothing else ever is.
+    /// Each later call returns the same error. The first of these that holds:
+    /// - [`SyncError::BadHeader`]: a line is not a have's, of whatever format and number of
+    ///   buckets, or its bucket is not below that number, or its ids do not rise strictly, or it
+    ///   has more than 8,388,608 bytes,
     /// - [`SyncError::ConfigDiffers`]: a have is of another configuration,
     /// - [`SyncError::VersionDiffers`]: it has another format than 2, or another number of buckets
     ///   than 256,
@@ -146,10 +146,10 @@ impl Serving {
         }
     }
 
-    /// Whether the stream may end here: no fault was found, and no beginning of a have is kept.
+    /// Whether the stream may end here: no error was found, and no beginning of a have is kept.
     ///
     /// # Errors
-    /// The fault that was found; or [`SyncError::Truncated`]: the stream ends within a have.
+    /// The error that was found; or [`SyncError::Truncated`]: the stream ends within a have.
     pub fn end(&self) -> Result<(), SyncError>
         ensures whole { OnOk result
             ((fault_of_serving self.now ≡ None) × (kept_have self.now ≡ [])) }

@@ -3,8 +3,7 @@
 //!
 //! `commands` says which file carries out a command. `state_access` is the state file as they use
 //! it, `connection` a connection with another replica, and `limited_reader` a reader with a limit.
-//! What the commands print and change is said by the contracts of `fedbundle`: proved here is
-//! safety.
+//! The contracts of `fedbundle` say what the commands print and change: only safety is proved here.
 #![tactic(auto)]
 
 mod commands;

@@ -2,7 +2,7 @@
 use std::io;
 use std::io::{ErrorKind, Read};
 
-/// A reader that gives at most so many bytes. Where there are more it fails, after it has given
+/// A reader that gives at most this many bytes. If there are more it fails, after it has given
 /// those.
 #[derive(Drop)]
 pub(crate) struct LimitedReader<R> {

@@ -95,7 +95,7 @@ fn pull_on<R: Read>(
     )
 }
 
-// The state is written before a fault of the session is reported.
+// The state is written before an error of the session is reported.
 fn end_pull(
     rt: &HostRuntime,
     call: &Call<'_>,
@@ -106,7 +106,7 @@ fn end_pull(
     status_of(rt, call, saved.map(|()| 0)).max(ended)
 }
 
-// Where another command has written the state meanwhile, or there is a journal, what was pulled is
+// If another command has written the state meanwhile, or there is a journal, what was pulled is
 // joined to that.
 fn end_saving(
     rt: &HostRuntime,

@@ -21,8 +21,8 @@ struct Service {
     is_verbose: bool,
 }
 
-/// Serves as many sessions as the words say. The fault of a session is reported at its end, and the
-/// greatest exit status of all is returned.
+/// Serves as many sessions as the arguments say. The error of a session is reported at its end, and
+/// the greatest exit status of all is returned.
 pub(crate) fn run(rt: &HostRuntime, call: &Call<'_>) -> Result<u8, Exit> {
     let sessions = options::session_count(wanted(call, OptionName::Sessions)?)?;
     let config = config_of(rt, call)?;
@@ -49,7 +49,7 @@ fn serve_at(
     let wanted = options::address(address)?;
     let listener = listen(rt, wanted)?;
     if service.is_verbose || wanted.port() == 0 {
-        // Where the system does not say which port it chose, nothing else is known of it.
+        // If the system does not say which port it chose, nothing else is known of it.
         say_listening(rt, listener.local_addr().unwrap_or(wanted));
     }
     Ok(serve_all(rt, closure, &listener, service))
@@ -99,7 +99,7 @@ fn serve_on(
     run_serve(rt.alloc(), closure, &mut source, &mut sink)
 }
 
-// In these three, that it cannot be said changes nothing.
+// In these three, a line that cannot be written changes nothing.
 fn say_listening(rt: &HostRuntime, address: SocketAddr) {
     let _ = writeln!(error_lines(rt), "fedbundle: listens at {address}");
     warn_of_anywhere(rt, address);
@@ -116,7 +116,7 @@ fn say_given(rt: &HostRuntime, peer: SocketAddr, answers: u64) {
     );
 }
 
-// The exit status of what was done, where a fault is reported.
+// The exit status of what was done, if an error is reported.
 fn status_of(rt: &HostRuntime, done: Result<(), Exit>) -> u8 {
     match done {
         Ok(()) => 0,
