@@ -6,3 +6,9 @@ mod LawFacts
 mod SessionFacts
 mod QuestionFacts
 mod AnswerFacts
+mod QuietFacts
+mod QuietPullFacts
+mod KeptFacts
+mod ReadFacts
+mod MarkedFacts
+mod QuietLawFacts

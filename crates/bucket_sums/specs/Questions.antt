@@ -51,6 +51,16 @@ pub record HasFeedNext (rest : List ℕ) : Type 0 where
   pub after : List ℕ
   pub feed : rest ≡ 10 ∷ after
 
+-- The bytes do not begin with the first line of a question: their first line is too long for one,
+-- or is another one.
+pub record IsPlain (config : Configuration) (bytes : List ℕ) : Type 0 where
+  pub text : List ℕ
+  pub rest : List ℕ
+  pub plain : HasNoFeed text
+  pub parts : bytes ≡ text ++ rest
+  pub cause : (longest_line < length text)
+      ⊎ (HasFeedNext rest × RefusesSoleHeader config text BadHeader)
+
 -- why the text is not read: memory ran out, or it is too long, or it is a whole line with a fault
 abbrev pub RefusesText : (List ℕ → Type 0) → Configuration → Bool → ℕ → List ℕ → List ℕ
     → SyncError → Type 0

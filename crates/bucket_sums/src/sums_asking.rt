@@ -111,6 +111,15 @@ impl SumsAsking {
         self.answer.marks()
     }
 
+    /// Whether no byte of the answer came.
+    pub fn is_unanswered(&self) -> bool
+        ensures { (config : Configuration) (came : List ℕ) → HasTakenAnswer config self.now came
+            → fault_of_answer self.now ≡ None → marks_answered self.now ≡ None
+            → (IsTrue result ↔ (came ≡ [])) }
+    {
+        self.answer.is_unbegun() && self.part.is_empty()
+    }
+
     // Whether the answer is still to come to its end.
     fn is_waiting(&self) -> bool
         ensures { IsTrue result ↔ (marks_answered self.now ≡ None) }

@@ -6,6 +6,7 @@ ghost use Rattle.replica_core.specs.declared.error.SyncError.TheVariants.{Trunca
 ghost use Rattle.replica_texts.specs.FirstLines.{RefusesHaveLine};
 ghost use Rattle.replica_texts.specs.Messages.{give_text};
 ghost use Rattle.byte_lines.specs.Limits.{line_limit};
+ghost use Rattle.byte_lines.specs.Lines.{HasNoFeed};
 ghost use Rattle.replica_sync.specs.Pieces.{longest};
 ghost use Rattle.replica_sync.specs.Inside.ServingSteps.{AnswersLine};
 
@@ -42,7 +43,9 @@ impl Serving {
 
     /// The beginning of a session.
     pub fn new(alloc: Global) -> Serving
-        ensures { HasServedPieces result [] [] }
+        ensures begins { HasServedPieces result [] [] }
+        ensures sound { fault_of_serving result ≡ None }
+        ensures idle { due_give result ≡ [] }
     {
         Serving {
             part: LinePart::new(alloc, LONGEST_HAVE),
@@ -77,6 +80,9 @@ impl Serving {
             (came ++ came_taken piece.now (C.state closure.now).meaning result ∷ []) written }
         ensures taken { IfOk result (λ used. (used ≤ length piece.now)
             × ((used ≡ length piece.now) ⊎ (0 < length (due_give self.new)))) }
+        ensures whole { due_give self.old ≡ [] → HasNoFeed piece.now
+            → IfOk result (λ used. used ≡ length piece.now) }
+        ensures quiet { due_give self.old ≡ [] → HasNoFeed piece.now → due_give self.new ≡ [] }
         ensures waits { 0 < length (due_give self.old) → self.new ≡ self.old }
         ensures fault { MatchResult result (λ _. fault_of_serving self.new ≡ None)
             (λ e. fault_of_serving self.new ≡ Some e) }
@@ -137,6 +143,7 @@ impl Serving {
             → HasServedPieces self.old came written
             → HasServedPieces self.new came (written ++ take count (due_give self.old)) }
         ensures due { due_give self.new ≡ drop count (due_give self.old) }
+        ensures fault { fault_of_serving self.new ≡ fault_of_serving self.old }
     {
         self.written += count;
         if self.written == self.answer.len() {

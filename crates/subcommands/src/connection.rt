@@ -25,6 +25,7 @@ const PAUSE_MILLIS: u64 = 100;
 pub(crate) struct Connection {
     stream: TcpStream,
     peer: SocketAddr,
+    begun: Instant,
     deadline: Instant,
 }
 
@@ -67,6 +68,14 @@ impl Connection {
     /// The address of the other side.
     pub(crate) fn peer(&self) -> SocketAddr {
         self.peer
+    }
+
+    /// Whether it began so lately that nothing on it can have failed because no byte moved.
+    pub(crate) fn is_young(&self, rt: &HostRuntime) -> bool {
+        match Instant::now(rt) {
+            Ok(now) => now.duration_since(self.begun) < Duration::from_secs(MAX_IDLE_SECONDS),
+            Err(_) => false,
+        }
     }
 
     /// A direction of the connection; either serves for both.
@@ -159,10 +168,12 @@ fn with_timeouts(rt: &HostRuntime, stream: TcpStream, peer: SocketAddr) -> io::R
     stream.set_nodelay(true)?;
     stream.set_read_timeout(Some(idle))?;
     stream.set_write_timeout(Some(idle))?;
-    match Instant::now(rt)?.checked_add(Duration::from_secs(MAX_SESSION_SECONDS)) {
+    let begun = Instant::now(rt)?;
+    match begun.checked_add(Duration::from_secs(MAX_SESSION_SECONDS)) {
         Some(deadline) => Ok(Connection {
             stream,
             peer,
+            begun,
             deadline,
         }),
         None => Err(io::Error::from(ErrorKind::TimedOut)),
