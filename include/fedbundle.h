@@ -122,7 +122,7 @@ static inline int64_t fedbundle_open(fedbundle_replica *replica, const void *con
 }
 
 /* Takes the receipt of a line, without its line feed. Counts the bundles that are accepted now and were not.
- * FEDBUNDLE_ALREADY where the receipt was held; L1 to L3, G1 to G4. */
+ * FEDBUNDLE_ALREADY where the receipt was held; L1 to L3, G1 to G4, G6. */
 static inline int64_t fedbundle_take(fedbundle_replica *replica, const void *line, size_t line_length,
                                      fedbundle_outcome *outcome) {
     return fedbundle_raw_take(replica, fedbundle_in(line, line_length), line_length, outcome);
@@ -149,7 +149,7 @@ static inline int64_t fedbundle_distrust(fedbundle_replica *replica, const void 
                                   fedbundle_in(key, key_length), key_length, outcome);
 }
 
-/* Takes all that another replica's snapshot has, or nothing. Counts the receipts that were not held. S1 to S10, G1 to G5,
+/* Takes all that another replica's snapshot has, or nothing. Counts the receipts that were not held. S1 to S10, G1 to G6,
  * E2. */
 static inline int64_t fedbundle_merge(fedbundle_replica *replica, const void *snapshot, size_t snapshot_length,
                                       fedbundle_outcome *outcome) {

@@ -1,14 +1,13 @@
 -- Pieces of an answer.
-use Rattle.std.proofs.Common.{◌≡◌, ◌∙◌, ℕ, inl, inr, Bool, true, false, List, [], ◌∷◌, ◌++◌, length, take, drop}
+use Rattle.std.proofs.Common.{◌≡◌, ◌∙◌, ℕ, inl, inr, Bool, true, false, List, [], ◌∷◌, ◌++◌, take, drop}
 use Rattle.std.proofs.Common.{refl, sym, ap, subst, arith, append-nil}
-use Rattle.std.specs.Prelude.{Option, Some, None}
+use Rattle.std.specs.Prelude.{None}
 use Rattle.std.proofs.lemmas.List.{take_all}
 use Rattle.fed_config.specs.Configuration.{Configuration}
 use Rattle.replica_core.specs.declared.error.SyncError.{SyncError}
 use Rattle.replica_texts.specs.Snapshots.{ended, text_of_lines}
 use Rattle.replica_texts.specs.SoleLines.{written_header}
 use Rattle.replica_sync.specs.Pieces.{EndsLine, kept_part, piece_run}
-use Rattle.bucket_sums.specs.Lines.{IsMarksLine, marks_line}
 use Rattle.bucket_sums.specs.Questions.{StopsAtLine, headed, longest_line}
 use Rattle.bucket_sums.specs.Asking.{HasAnswerLines, IsLineOfMarks}
 use Rattle.bucket_sums.specs.Inside.AnswerSteps.{FailsAnswer, RefusesLineOfAnswer, StepsAnswer, TakesAnswerWhere}

@@ -1,5 +1,5 @@
 -- What a mark that is not set says of what is held.
-use Rattle.std.proofs.Common.{◌≡◌, ◌∙◌, ℕ, zero, suc, ◌+◌, ◌*◌, ◌<◌, ◌≤◌, true, false, List, [], ◌∷◌, ◌++◌, length, map, take, drop, get_or}
+use Rattle.std.proofs.Common.{◌≡◌, ◌∙◌, ℕ, zero, suc, ◌+◌, ◌*◌, ◌<◌, true, false, List, [], ◌∷◌, ◌++◌, length, map, take, drop, get_or}
 use Rattle.std.proofs.Common.{refl, sym, ap, arith, length-append}
 use Rattle.std.specs.Prelude.{slice_index, Result, Ok, Err}
 use Rattle.std.specs.Int.{to_be_bytes, w32}
@@ -29,7 +29,7 @@ length-digest h (suc n) =
     omega (arith, four, before, both)
 
 -- A SHA-256 has 32 bytes.
-is_digest : (text : List ℕ) → IsDigest (sha256 text)
+pub is_digest : (text : List ℕ) → IsDigest (sha256 text)
 unfolding sha256
 is_digest text = record { size = length-digest _ 8; octets = digest-bytes _ 8 }
 
@@ -63,7 +63,7 @@ place-sum state first (suc count) (suc place) within =
     place-sum state (first + 1) count place (omega (arith, within)) ∙ ap (bucket_sum state) e
 
 -- There are 257 sums.
-length-sums : (state : State) → length (sums_of state) ≡ 257
+pub length-sums : (state : State) → length (sums_of state) ≡ 257
 length-sums state = let buckets = length-bucket_sums state 0 256 in omega (arith, buckets)
 
 -- What is not marked has one sum.

@@ -6,3 +6,11 @@ mod LawFacts
 mod SessionFacts
 mod QuestionFacts
 mod AnswerFacts
+mod QuietFacts
+mod QuietStepFacts
+mod QuietPullFacts
+mod KeptFacts
+mod ReadFacts
+mod MarkedFacts
+mod QuietLawFacts
+mod BothSidesFacts

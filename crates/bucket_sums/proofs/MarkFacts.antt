@@ -1,12 +1,12 @@
 -- The line of marks, from the marks and back.
-use Rattle.std.proofs.Common.{◌≡◌, ℕ, ◌<◌, ◌≤◌, ◌∙◌, Bool, true, false, inl, inr, List, [], ◌∷◌, length, map, refl, ap, sym, subst, arith}
-use Rattle.std.specs.Prelude.{Option, Some, None, MatchOption, nat_eq, nat_le}
+use Rattle.std.proofs.Common.{◌≡◌, ℕ, ◌∙◌, Bool, true, false, inl, inr, List, [], ◌∷◌, length, map, refl, ap, sym, subst, arith}
+use Rattle.std.specs.Prelude.{Option, Some, None, MatchOption, nat_eq}
 use Rattle.std.specs.List.{AllPass, AllByRecursion}
-use Rattle.std.proofs.lemmas.Bool.{and_parts, cases_lt}
+use Rattle.std.proofs.lemmas.Bool.{cases_lt}
 use Rattle.std.proofs.lemmas.Bool.Decides.{nat_tests}
 use Rattle.std.proofs.lemmas.List.{length-map}
 use Rattle.std.proofs.lemmas.List.Elements.{All-from_recursion, recursion_from_All}
-use Rattle.bucket_sums.specs.Lines.{IsMarksLine, is_part_mark, mark_of, marks_line, part_count}
+use Rattle.bucket_sums.specs.Lines.{IsMarksLine, is_part_mark, mark_of, part_count}
 
 -- the mark that a byte is
 abbrev pub marked : ℕ → Bool

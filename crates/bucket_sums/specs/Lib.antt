@@ -1,8 +1,12 @@
 -- What a caller cites.
 pub mod Sums
+pub mod Parts
+pub mod Keeping
 pub mod Sessions
 pub mod Lines
 pub mod Questions
 pub mod Serving
 pub mod Asking
+pub mod Quiet
+pub mod QuietPulls
 pub mod Inside

@@ -10,7 +10,7 @@ use Rattle.replica_core.specs.declared.error.SyncError.TheVariants.{BadHeader, N
 use Rattle.replica_core.specs.declared.error.SyncError.TheVariants.{NoMemory}
 use Rattle.replica_texts.specs.Snapshots.{ended, text_of_lines}
 use Rattle.replica_texts.specs.SoleLines.{RefusesSoleHeader, written_header}
-use Rattle.bucket_sums.specs.Lines.{IsSumLine, marks_line, sums_text}
+use Rattle.bucket_sums.specs.Lines.{marks_line, sums_text}
 
 -- ---- what is written
 
@@ -50,6 +50,16 @@ RefusesLineOf IsLine config true lines text e = IsOtherLine IsLine lines text e
 pub record HasFeedNext (rest : List ℕ) : Type 0 where
   pub after : List ℕ
   pub feed : rest ≡ 10 ∷ after
+
+-- The bytes do not begin with the first line of a question: their first line is too long for one,
+-- or is another one.
+pub record IsPlain (config : Configuration) (bytes : List ℕ) : Type 0 where
+  pub text : List ℕ
+  pub rest : List ℕ
+  pub plain : HasNoFeed text
+  pub parts : bytes ≡ text ++ rest
+  pub cause : (longest_line < length text)
+      ⊎ (HasFeedNext rest × RefusesSoleHeader config text BadHeader)
 
 -- why the text is not read: memory ran out, or it is too long, or it is a whole line with a fault
 abbrev pub RefusesText : (List ℕ → Type 0) → Configuration → Bool → ℕ → List ℕ → List ℕ

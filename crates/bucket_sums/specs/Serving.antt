@@ -1,5 +1,5 @@
 -- A question that comes in pieces.
-use Rattle.std.specs.Prelude.{◌≡◌, ℕ, ◌≤◌, Bool, true, false, List, [], ◌++◌, length, Option, None}
+use Rattle.std.specs.Prelude.{◌≡◌, ℕ, ◌≤◌, Bool, false, List, [], ◌++◌, length, Option, None}
 use Rattle.std.specs.Prelude.{Some, Result, Ok, Err, take}
 use Rattle.std.specs.List.{AllByRecursion}
 use Rattle.fed_config.specs.Configuration.{Configuration}

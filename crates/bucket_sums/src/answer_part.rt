@@ -1,5 +1,5 @@
 //! What came of an answer.
-ghost use Rattle.std.specs.Prelude.{◌≡◌, ◌⊎◌, false, IfErr, OnOk, None, Some, MatchOption};
+ghost use Rattle.std.specs.Prelude.{◌≡◌, ◌⊎◌, false, not, IfErr, OnOk, None, Some, MatchOption};
 ghost use Rattle.replica_core.specs.declared.error.SyncError.TheVariants.{NoMemory};
 ghost use Rattle.bucket_sums.specs.Questions.{IsOtherLine, long_fault};
 
@@ -36,6 +36,13 @@ impl AnswerPart {
         ensures { MatchOption result (self.now.marks ≡ None) (λ m. self.now.marks ≡ Some m.now) }
     {
         self.marks.as_ref()
+    }
+
+    /// Whether its first line has not come.
+    pub(crate) fn is_unbegun(&self) -> bool
+        ensures { result ≡ not self.now.is_begun }
+    {
+        !self.is_begun
     }
 
     /// Takes the next line.

@@ -35,7 +35,11 @@ pub fn sums_held<C: Closure>(alloc: Global, closure: &C) -> Result<Sums, AllocEr
     Ok(Sums::of_all(sums))
 }
 
-fn sum_of_bucket<C: Closure>(alloc: Global, closure: &C, bucket: u8) -> Result<Sum, AllocError>
+pub(crate) fn sum_of_bucket<C: Closure>(
+    alloc: Global,
+    closure: &C,
+    bucket: u8,
+) -> Result<Sum, AllocError>
     ensures { IfOk result
         (λ sum. sum.0 ≡ bucket_sum (state_of (C.state closure.now).meaning) bucket) }
 {
@@ -48,7 +52,7 @@ fn sum_of_bucket<C: Closure>(alloc: Global, closure: &C, bucket: u8) -> Result<S
     }
 }
 
-fn sum_of_records<C: Closure>(alloc: Global, closure: &C) -> Result<Sum, AllocError>
+pub(crate) fn sum_of_records<C: Closure>(alloc: Global, closure: &C) -> Result<Sum, AllocError>
     ensures { IfOk result (λ sum. sum.0 ≡ records_sum (state_of (C.state closure.now).meaning)) }
 {
     let text = text_of_records(alloc, closure.distrusts())?;

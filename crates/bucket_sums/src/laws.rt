@@ -1,11 +1,28 @@
 //! What is so of all sums. A call that needs a law calls its function, which does nothing, and
 //! cites what it ensures.
-ghost use Rattle.std.specs.Prelude.{◌≡◌, ◌+◌, ◌<◌, ℕ, List, true, false, slice_index_or, Contains};
+ghost use Rattle.std.specs.Prelude.{◌≡◌, ◌+◌, ◌++◌, ◌<◌, ◌≤◌, ℕ, Bool, List, [], None, Some, true};
+ghost use Rattle.std.specs.Prelude.{false, length, slice_index_or, Contains};
+ghost use Rattle.fed_config.specs.Configuration.{Configuration, config_id_of};
 ghost use Rattle.std.specs.List.{AllByRecursion};
 ghost use Rattle.receipt_core.specs.Receipt.{IsDigest, Receipt, receipt_id_of};
 ghost use Rattle.replica_core.specs.State.{State, ids_held, joined};
 ghost use Rattle.receipt_core.specs.Acceptance.{Meaning, IsMeaning};
 ghost use Rattle.replica_core.specs.Session.{state_of};
+ghost use Rattle.replica_sync.specs.PulledPieces.{AreAlone, PulledPiece, bytes_pulled};
+ghost use Rattle.replica_sync.specs.Pulling.{HasDistinctIds};
+ghost use Rattle.replica_sync.specs.PullSessions.{HasPulledAbout, IsOverPulling, due_have};
+ghost use Rattle.replica_sync.specs.PullSessions.{fault_of_pulling};
+ghost use Rattle.replica_sync.specs.ServedPieces.{Came, HasServedPieces, IsStill, bytes_came};
+ghost use Rattle.replica_sync.specs.ServedPieces.{due_give, fault_of_serving, kept_have};
+ghost use Rattle.replica_sync.specs.Serving.{ServesAll};
+ghost use Rattle.replica_sync.specs.SessionRun.{known_run};
+ghost use Rattle.replica_sync.specs.declared.piece_pulling.Pulling.{Pulling};
+ghost use Rattle.replica_sync.specs.declared.piece_serving.Serving.{Serving};
+ghost use Rattle.bucket_sums.specs.Keeping.{AreKeptSums, HasGrown};
+ghost use Rattle.bucket_sums.specs.declared.kept_sums.KeptSums.{KeptSums};
+ghost use Rattle.bucket_sums.specs.Lines.{part_count};
+ghost use Rattle.bucket_sums.specs.Quiet.{AnswersQuestion};
+ghost use Rattle.bucket_sums.specs.QuietPulls.{AsksMarked};
 ghost use Rattle.bucket_sums.specs.Sessions.{after_answers, buckets_asked};
 ghost use Rattle.bucket_sums.specs.Sums.{HasDistinctSums, ids_text, marks_between};
 
@@ -39,4 +56,69 @@ pub fn sums_sessions()
         → receipt_id_of r ≡ receipt_id_of s → r ≡ s)
         → after_answers k (state_of m) (buckets_asked (marks_between (state_of m) (state_of k)))
         ≡ joined (state_of m) (state_of k) }
+{}
+
+/// After a session over sums the asker holds what it held joined with what the other held, and
+/// nothing else, exactly as after one about all buckets: if no two lists of what both hold have
+/// one SHA-256, no two receipts of both have one id, nothing else changes what is held, the buckets
+/// that are asked about are those of the marks of both, and the haves were served.
+pub fn quiet_sessions()
+    ensures { (p : Pulling) (m k held : Meaning) (came : List PulledPiece)
+        (written replied rest : List ℕ) (count : ℕ)
+        → IsMeaning m → IsMeaning k → IsMeaning held
+        → config_id_of m.config ≡ config_id_of k.config
+        → HasDistinctSums (state_of m) (state_of k)
+        → HasDistinctIds (joined (state_of m) (state_of k))
+        → HasPulledAbout (Some (buckets_asked (marks_between (state_of m) (state_of k)))) p m came
+        written → AreAlone m came held → fault_of_pulling p ≡ None → IsOverPulling p
+        → due_have p ≡ [] → ServesAll (known_run written replied) k count
+        → bytes_pulled came ++ rest ≡ replied
+        → state_of held ≡ joined (state_of m) (state_of k) }
+{}
+
+/// What both sides of a session over sums do is one session. `written` is what the asker wrote,
+/// and `said` what the other wrote to its question; `replied` is what it wrote to the haves.
+///
+/// - `marks`: the marks that the asker got are those of what both hold.
+/// - `joins`: after the session the asker holds what it held joined with what the other held, and
+///   nothing else: if no two lists of what both hold have one SHA-256, no two receipts of both have
+///   one id, and nothing else changes what is held.
+pub fn both_sides()
+    ensures marks { (p : Pulling) (m k : Meaning) (config : Configuration) (came : List PulledPiece)
+        (asked : List Came) (written said rest left more : List ℕ)
+        → config_id_of m.config ≡ config_id_of config → (marked : AsksMarked p m came written)
+        → AnswersQuestion config asked said → IsStill k asked → bytes_came asked ++ rest ≡ written
+        → bytes_pulled marked.asked ++ left ≡ said ++ more
+        → marked.marks ≡ marks_between (state_of m) (state_of k) }
+    ensures joins { (p : Pulling) (s : Serving) (m k held : Meaning) (came : List PulledPiece)
+        (asked later : List Came) (written said replied left : List ℕ)
+        → IsMeaning m → IsMeaning k → IsMeaning held
+        → config_id_of m.config ≡ config_id_of k.config
+        → HasDistinctSums (state_of m) (state_of k)
+        → HasDistinctIds (joined (state_of m) (state_of k))
+        → AsksMarked p m came written → AreAlone m came held → fault_of_pulling p ≡ None
+        → IsOverPulling p → due_have p ≡ []
+        → AnswersQuestion k.config asked said → IsStill k asked → IsStill k later
+        → HasServedPieces s later replied → fault_of_serving s ≡ None → kept_have s ≡ []
+        → due_give s ≡ [] → bytes_came (asked ++ later) ≡ written
+        → bytes_pulled came ++ left ≡ said ++ replied
+        → state_of held ≡ joined (state_of m) (state_of k) }
+{
+    replica_sync::laws::served_pieces();
+}
+
+/// Whatever the marks are that the other side writes, at most one have for each bucket is asked:
+/// there are 256 at most, and each is about a bucket.
+pub fn asked_buckets()
+    ensures few { (marks : List Bool) → length marks ≡ part_count
+        → length (buckets_asked marks) ≤ 256 }
+    ensures each { (marks : List Bool) → length marks ≡ part_count
+        → AllByRecursion (λ b. b < 256) (buckets_asked marks) }
+{}
+
+/// Sums that are kept are those of something that is held, also when that has grown. So whoever
+/// gives [`KeptSums`](crate::KeptSums) a closure that only grows gets the sums of what it holds.
+pub fn kept_sums()
+    ensures { (kept : KeptSums) (old new : State) → AreKeptSums kept old → HasGrown old new
+        → AreKeptSums kept new }
 {}

@@ -3,19 +3,26 @@
 #![tactic(auto)]
 
 mod answer_part;
+mod first_line;
 mod held_sums;
+mod kept_sums;
 pub mod laws;
 mod part_marks;
 mod part_sums;
 mod question_lines;
+mod quiet_pulling;
+mod quiet_serving;
 mod sum;
 mod sum_lines;
 mod sums_asking;
 mod sums_serving;
 
 pub use held_sums::sums_held;
+pub use kept_sums::KeptSums;
 pub use part_marks::{Marks, PART_COUNT};
 pub use part_sums::Sums;
+pub use quiet_pulling::QuietPulling;
+pub use quiet_serving::QuietServing;
 pub use sum::Sum;
 pub use sums_asking::{SumsAsking, sums_question};
 pub use sums_serving::SumsServing;

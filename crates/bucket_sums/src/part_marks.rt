@@ -1,9 +1,10 @@
 //! Which parts differ: marks, and their line.
 ghost use Rattle.std.specs.Prelude.{◌≡◌, ◌↔◌, ◌+◌, Bool, List, length, IfOk, MatchOption};
-ghost use Rattle.std.specs.Prelude.{IsTrue, slice_index_or, true, map, nat_eq};
+ghost use Rattle.std.specs.Prelude.{IsTrue, drop, slice_index_or, true, map, nat_eq};
 ghost use Rattle.std.specs.List.{AllPass};
 ghost use Rattle.bucket_sums.specs.Lines.{IsMarksLine, is_part_mark, mark_of, marks_line};
 ghost use Rattle.bucket_sums.specs.Lines.{part_count};
+ghost use Rattle.bucket_sums.specs.Sessions.{buckets_asked, marked_from};
 
 use std::alloc::{AllocError, Global};
 use std::marker::Model;
@@ -54,6 +55,37 @@ impl Marks {
         ensures { result ≡ slice_index_or self.now (bucket + 1) true }
     {
         self.marks[usize::from(bucket) + 1]
+    }
+
+    /// About which buckets haves are asked: those that differ, in order; or bucket 0, if only the
+    /// records of distrust differ.
+    ///
+    /// # Errors
+    /// Memory ran out.
+    pub fn asked(&self, alloc: Global) -> Result<Vec<u8>, AllocError>
+        ensures { IfOk result (λ buckets. buckets.items ≡ buckets_asked self.now) }
+    {
+        let mut buckets = self.marked(alloc)?;
+        if buckets.is_empty() && self.records() {
+            buckets.push(0)?;
+        }
+        Ok(buckets)
+    }
+
+    // The buckets that differ, in order.
+    fn marked(&self, alloc: Global) -> Result<Vec<u8>, AllocError>
+        ensures buckets { IfOk result (λ buckets. buckets.items ≡ marked_from 0 (drop 1 self.now)) }
+        ensures all { length self.now ≡ part_count }
+    {
+        // The look at the field shows the prover what holds of it.
+        let _ = &self.marks;
+        let mut buckets = Vec::new(alloc);
+        'buckets: for bucket in 0..256u16 {
+            if self.bucket(bucket as u8) {
+                buckets.push(bucket as u8)?;
+            }
+        }
+        Ok(buckets)
     }
 
     /// Reads the line of marks, without its line feed: 257 bytes, `1` for a part that differs and

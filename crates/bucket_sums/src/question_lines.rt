@@ -1,5 +1,5 @@
 //! The lines of a question, taken as they come.
-ghost use Rattle.std.specs.Prelude.{◌≡◌, ◌<◌, ◌+◌, ◌⊎◌, [], false, IfErr, OnOk, length};
+ghost use Rattle.std.specs.Prelude.{◌≡◌, ◌<◌, ◌+◌, ◌⊎◌, [], true, false, IfErr, OnOk, length};
 ghost use Rattle.replica_core.specs.declared.error.SyncError.TheVariants.{NoMemory};
 ghost use Rattle.bucket_sums.specs.Lines.{IsSumLine, part_count};
 ghost use Rattle.bucket_sums.specs.Questions.{IsOtherLine, long_fault};
@@ -30,6 +30,18 @@ impl QuestionLines {
     {
         QuestionLines {
             is_begun: false,
+            sums: SumLines::new(alloc, own),
+        }
+    }
+
+    /// After the first line.
+    pub(crate) fn begun(alloc: Global, own: Sums) -> QuestionLines
+        ensures begun { result.is_begun ≡ true }
+        ensures none { marks_so_far result.sums ≡ [] }
+        ensures own { own_sums result.sums ≡ own }
+    {
+        QuestionLines {
+            is_begun: true,
             sums: SumLines::new(alloc, own),
         }
     }

@@ -45,7 +45,9 @@ impl SumsAsking {
 
     /// Before the first byte of the answer.
     pub fn new(alloc: Global) -> SumsAsking
-        ensures { (config : Configuration) → HasTakenAnswer config result [] }
+        ensures begins { (config : Configuration) → HasTakenAnswer config result [] }
+        ensures sound { fault_of_answer result ≡ None }
+        ensures waits { marks_answered result ≡ None }
     {
         SumsAsking {
             part: LinePart::new(alloc, LONGEST_LINE),
@@ -109,6 +111,15 @@ impl SumsAsking {
             (λ m. marks_answered self.now ≡ Some m.now) }
     {
         self.answer.marks()
+    }
+
+    /// Whether no byte of the answer came.
+    pub fn is_unanswered(&self) -> bool
+        ensures { (config : Configuration) (came : List ℕ) → HasTakenAnswer config self.now came
+            → fault_of_answer self.now ≡ None → marks_answered self.now ≡ None
+            → (IsTrue result ↔ (came ≡ [])) }
+    {
+        self.answer.is_unbegun() && self.part.is_empty()
     }
 
     // Whether the answer is still to come to its end.

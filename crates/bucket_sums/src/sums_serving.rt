@@ -3,6 +3,8 @@ ghost use Rattle.std.specs.Prelude.{◌≡◌, ◌↔◌, ◌≤◌, ◌⊎◌, 
 ghost use Rattle.std.specs.Prelude.{IsTrue, IfOk, IfErr, OnOk, MatchResult};
 ghost use Rattle.fed_config.specs.Configuration.{Configuration};
 ghost use Rattle.replica_core.specs.declared.error.SyncError.TheVariants.{Truncated};
+ghost use Rattle.replica_texts.specs.Snapshots.{ended};
+ghost use Rattle.replica_texts.specs.SoleLines.{written_header};
 ghost use Rattle.replica_sync.specs.Pieces.{longest};
 ghost use Rattle.bucket_sums.specs.Lines.{part_count};
 ghost use Rattle.bucket_sums.specs.Questions.{longest_line, sums_answer};
@@ -45,6 +47,20 @@ impl SumsServing {
         }
     }
 
+    /// A question whose first line came.
+    pub(crate) fn after_first_line(alloc: Global, own: Sums) -> SumsServing
+        ensures begins { (config : Configuration)
+            → HasTakenQuestion config result (ended (written_header config)) }
+        ensures own { own_sums_of result ≡ own }
+        ensures sound { fault_of_question result ≡ None }
+    {
+        SumsServing {
+            part: LinePart::new(alloc, LONGEST_LINE),
+            question: QuestionLines::begun(alloc, own),
+            fault: None,
+        }
+    }
+
     /// Takes the next bytes of the question, up to the end of a line at most, and returns how many
     /// were taken. After the question's last line it takes none.
     ///
@@ -75,6 +91,38 @@ impl SumsServing {
             Err(why) => {
                 self.fault = Some(why);
                 Err(why)
+            }
+        }
+    }
+
+    /// Takes the next bytes of the question, up to its end at most, and returns how many were
+    /// taken.
+    ///
+    /// # Errors
+    /// Those of [`SumsServing::read`].
+    pub fn read_lines(
+        &mut self,
+        alloc: Global,
+        config: &Config,
+        piece: &[u8],
+    ) -> Result<usize, SyncError>
+        ensures takes { (came : List ℕ) → HasTakenQuestion config.now self.old came
+            → HasTakenQuestion config.now self.new (came ++ bytes_taken piece.now result) }
+        ensures within { IfOk result (λ used. used ≤ length piece.now) }
+        ensures own { own_sums_of self.new ≡ own_sums_of self.old }
+        ensures fault { MatchResult result (λ _. fault_of_question self.new ≡ None)
+            (λ e. fault_of_question self.new ≡ Some e) }
+    {
+        let mut used: usize = 0;
+        'lines: loop {
+            match self.read(alloc, config, &piece[used..]) {
+                Ok(more) => {
+                    used += more;
+                    if more == 0 || used == piece.len() {
+                        return Ok(used);
+                    }
+                }
+                Err(why) => return Err(why),
             }
         }
     }

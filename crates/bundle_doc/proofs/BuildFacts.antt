@@ -47,7 +47,7 @@ module _ (es : List Entry) (rank hint : Option ℕ) (authorities : List Authorit
       b.out_is ∙ ap (λ k. k ++ numbers_text hint rank) (b.keys_are ∙ ap keys_text (sym b.authorities_are))
       ∙ sym (canonical_text-parts (bundle_of authorities rank hint))
 
-  -- it fits where what was written is within the limit
+  -- it fits if what was written is within the limit
   pub fits-built : (n : ℕ) → n ≡ length out → n ≤ document_limit → Fits (bundle_of authorities rank hint)
   fits-built n len short = subst (λ t. length t ≤ document_limit) text-built (subst (λ k. k ≤ document_limit) len short)
 
@@ -55,7 +55,7 @@ module _ (es : List Entry) (rank hint : Option ℕ) (authorities : List Authorit
   pub IsKept-built : (n : ℕ) → n ≡ length out → n ≤ document_limit → IsStoredDocument (bundle_of authorities rank hint) out
   IsKept-built n len short = record { is = IsBundle-built; text = text-built; fits = fits-built n len short }
 
-  -- a text above the limit is a fault of `build`
+  -- a text above the limit is an error of `build`
   pub too_long-built : (n : ℕ) → n ≡ length out → document_limit < n → IsBuildFault es rank hint CanonicalTooLong
   too_long-built n len long = (
     bundle_of authorities rank hint,
@@ -77,7 +77,7 @@ module _ (tree : Data) (es : List Entry) (rank hint : Option ℕ) (contents : Is
     is = is.is;
   }
 
-  -- a fault of `build` refuses the value that the contents came from
+  -- an error of `build` refuses the value that the contents came from
   pub RefusesTree-contents : (e : DocError) → IsBuildFault es rank hint e → RefusesTree tree e
   RefusesTree-contents TooLong h = absurd h
   RefusesTree-contents NotJson h = absurd h
@@ -91,7 +91,7 @@ module _ (tree : Data) (es : List Entry) (rank hint : Option ℕ) (contents : Is
 -- ---- from the contents of bytes
 
 module _ (bytes : List ℕ) (es : List Entry) (rank hint : Option ℕ) (found : IsContentsOfText bytes es rank hint) where
-  -- bytes are a document of the bundle that is built from their contents, where it fits
+  -- bytes are a document of the bundle that is built from their contents, if it fits
   pub IsDocument-contents : (b : Bundle) → IsBundleOf es rank hint b → Fits b → IsDocument bytes b
   IsDocument-contents b is fits = record {
     tree = found.tree;
@@ -101,7 +101,7 @@ module _ (bytes : List ℕ) (es : List Entry) (rank hint : Option ℕ) (found : 
     fits = fits;
   }
 
-  -- a fault of `build` refuses the bytes that the contents came from
+  -- an error of `build` refuses the bytes that the contents came from
   pub RefusesBytes-contents : (e : DocError) → IsBuildFault es rank hint e → RefusesBytes bytes e
   RefusesBytes-contents TooLong h = absurd h
   RefusesBytes-contents NotJson h = absurd h

@@ -1,4 +1,4 @@
--- A set has one rising list, an object means one bundle, and a canonical text is read as its bundle.
+-- A set has one sorted list, an object means one bundle, and a canonical text is read as it.
 use Rattle.std.proofs.Common.{◌≡◌, ℕ, ◌^◌, ◌<◌, ◌≤◌, ◌↔◌, inl, inr, List, [], ◌∷◌, true, Option, Some, None, IfSome}
 use Rattle.std.proofs.Common.{Less, Greater, codes, refl, sym, ap, ap₂, ◌∙◌, subst, arith}
 use Rattle.std.specs.Ordering.{ordering_reverse}
@@ -18,7 +18,7 @@ use Rattle.json.proofs.Printed.Utf8.{are_ascii, IsUtf8-are_ascii}
 use Rattle.bundle_doc.specs.Bundle.{Bundle, Has, authority_text, text_cmp, IsBundle, Says, HasNumberMember, HasKeys}
 use Rattle.bundle_doc.specs.Bundle.{Means, trees, with_number, document_tree, canonical_text, Fits, IsDocument}
 
--- ---- a set has one rising list
+-- ---- a set has one sorted list
 
 -- the authority is below each of these
 abbrev Below : Authority → List Authority → Type 0
@@ -38,13 +38,13 @@ not_below_itself a h = let same = tied_itself nat_list_cmp_total (authority_text
 not_both : (a b : Authority) → text_cmp a b ≡ Less → text_cmp b a ≡ Less → ⊥
 not_both a b p q = let above : text_cmp a b ≡ Greater = nat_list_cmp_total.antisymm (authority_text a) (authority_text b) ∙ ap ordering_reverse q in cc
 
--- the first of a rising list is the first of any other with the same members
+-- the first of a strictly sorted list is the first of any other with the same members
 same_first : (a b : Authority) (others more : List Authority) → Below a others → Below b more → Has (b ∷ more) a → Has (a ∷ others) b → a ≡ b
 same_first a b others more p q (inl e) there = e
 same_first a b others more p q (inr here) (inl e) = sym e
 same_first a b others more p q (inr here) (inr there) = absurd (not_both a b (below_has a b others p there) (below_has b a more q here))
 
--- an authority that is below a list is no member of it
+-- an authority that is below a list is not a member of it
 not_again : (a : Authority) (others : List Authority) → Below a others → Has others a → ⊥
 not_again a others h has = not_below_itself a (below_has a a others h has)
 
@@ -56,7 +56,7 @@ tail_has a x others more below all has = elim (all x (inr has)) [
   | inr there ↦ there
 ]
 
--- rising lists with the same members are equal
+-- strictly sorted lists with the same members are equal
 pub rising_same : (xs ys : List Authority) → IsStrictlySortedBy text_cmp xs → IsStrictlySortedBy text_cmp ys
     → ((a : Authority) → Has xs a → Has ys a) → ((a : Authority) → Has ys a → Has xs a) → xs ≡ ys
 unfolding IsStrictlySortedBy

@@ -9,7 +9,7 @@ use Rattle.jwk_set.specs.declared.authority.Authority.TheVariants.{X509, Jwt}
 use Rattle.bundle_doc.specs.Bundle.{authority_text}
 use Rattle.bundle_doc.specs.CanonicalReader.{ReadsAuthority, ReadsText}
 
--- the base64 of a certificate needs no escape where the text that was read needs none
+-- the base64 of a certificate needs no escape if the text that was read needs none
 escape_der : (d der : List ℕ) → escape d ≡ d → d ≡ encode_of standard der → escape (encode_of standard der) ≡ encode_of standard der
 escape_der d der plain is = subst (λ t. escape t ≡ t) is plain
 

@@ -23,7 +23,7 @@ use Rattle.bundle_doc.proofs.EntryFacts.{canonical_text-parts}
 own_text : (t front rest : List ℕ) → t ≡ front ++ rest → take (length t - length rest) t ≡ front
 own_text t front rest e = rw e (take_at front rest (length (front ++ rest) - length rest) (omega (arith, length-append front rest)))
 
--- an authority that was read is that of its own text alone
+-- an authority that was read is the one of its own text, without the rest
 pub ReadsAuthority-alone : (text rest own : List ℕ) (a : Authority) → ReadsAuthority text a rest
     → own ≡ take (length text - length rest) text → ReadsAuthority own a []
 ReadsAuthority-alone text rest own a reads cut = record {
@@ -67,7 +67,7 @@ push_all : (P : Authority → Type 0) (xs : List Authority) (x : Authority) → 
 push_all P [] x h p = (p, tt)
 push_all P (y ∷ xs) x h p = (h.0, push_all P xs x h.1 p)
 
--- a rising list goes on rising with an authority above all of it at the end
+-- a strictly sorted list is still so with an authority above all of it at the end
 push_rising : (xs : List Authority) (x : Authority) → IsStrictlySortedBy text_cmp xs
     → AllByRecursion (λ b. text_cmp b x ≡ Less) xs → IsStrictlySortedBy text_cmp (xs ++ x ∷ [])
 unfolding IsStrictlySortedBy

@@ -40,7 +40,7 @@ entries_at Less k v e es more is new old rest = (new, old)
 entries_at Equal k v e es more is new old rest = ((sym (same_key k e.0 is) ∙ new.0, new.1), old.1)
 entries_at Greater k v e es more is new old rest = (old.0, rest)
 
--- each entry stays under its text when one is put in
+-- each entry is still under its text when one is put in
 pub AreEntries-insert_entry : (es : List Entry) (k : String Global) (v : Authority) → IsAuthorityEntry (k, v)
     → AreEntries es → AreEntries (insert_entry string_cmp es k v)
 AreEntries-insert_entry [] k v new old = (new, tt)
@@ -90,7 +90,7 @@ items_from vs i v within is = rw (add-one, drop-cons vs i v) (ap (λ x. item (vi
 abbrev pub Gathers : List Entry → Items → Items → Type 0
 Gathers es rest all = (a : Authority) → (Has (authorities_of es) a ⊎ Says rest a) ↔ Says all a
 
--- what an element says moves from what is still to come to what was found
+-- what an element says moves from what is still to be read to what was found
 pub Gathers-step : (old new : List Entry) (element : Data) (rest all : Items) → AreEntries old
     → AddsElement old new element → Gathers old (item element rest) all → Gathers new rest all
 Gathers-step old new element rest all entries adds had a = (

@@ -1,4 +1,4 @@
--- What is refused is no document, and is refused for one cause.
+-- What is refused is not a document, and is refused for one cause.
 use Rattle.std.proofs.Common.{◌≡◌, ℕ, ◌<◌, ◌≤◌, ◌⊎◌, inl, inr, List, length, Some, None, IsSome, refl, sym, ◌∙◌, subst, arith}
 use Rattle.serde_json.specs.Data.{Data, null, boolean, number, string, array, object}
 use Rattle.serde_json.specs.Find.{as_object}
@@ -11,7 +11,7 @@ use Rattle.bundle_doc.proofs.BundleFacts.{one_meaning}
 
 -- ---- a value
 
--- a value that is no object has no keys
+-- a value that is not an object has no keys
 no_keys : (tree : Data) → as_object tree ≡ None → HasSomeKeys tree → ⊥
 no_keys null none h = let found = h.1 in cc
 no_keys (boolean x) none h = let found = h.1 in cc
@@ -99,14 +99,14 @@ cause_of bytes NoMemory h other = absurd (other refl)
 one_tree : (bytes : List ℕ) (s t : Data) → IsJson bytes s → IsJson bytes t → s ≡ t
 one_tree bytes s t p q = let same : Some s ≡ Some t = sym p.1 ∙ q.1 in cc
 
--- bytes with such a cause are no document
+-- bytes with such a cause are not a document
 none_at : (bytes : List ℕ) (e : DocError) (b : Bundle) → Cause bytes e → (e ≡ NoMemory → ⊥) → IsDocument bytes b → ⊥
 none_at bytes e b (inl h) other d = let long = h.1 in let short = d.short in omega arith
 none_at bytes e b (inr (inl h)) other d = h.2 d.tree d.json
 none_at bytes e b (inr (inr h)) other d =
     tree_none h.tree e b h.cause other (subst (λ t. Means t b) (one_tree bytes d.tree h.tree d.json h.json) d.means) d.fits
 
--- bytes that are refused, other than for memory, are no document, as `laws::documents` says
+-- bytes that are refused, other than for memory, are not a document, as `laws::documents` says
 pub refused_none : (bytes : List ℕ) (e : DocError) (b : Bundle) → RefusesBytes bytes e → (e ≡ NoMemory → ⊥) → IsDocument bytes b → ⊥
 refused_none bytes e b h other d = none_at bytes e b (cause_of bytes e h other) other d
 

@@ -1,4 +1,5 @@
--- Documents, and values that are none, said of the definitions: a slip in one of these does not check.
+-- Documents, and values that are not documents, tried on the definitions: a slip there does not
+-- check.
 use Rattle.std.proofs.Common.{◌≡◌, ◌*◌, [], ◌∷◌, inl, inr, Some, None, codes, refl}
 use Rattle.std.specs.Fmt.{digits}
 use Rattle.json.specs.Print.{escape_byte}
@@ -59,7 +60,7 @@ says_nothing : (a : Authority) → IsElement seven a → ⊥
 says_nothing (X509 key der) h = let role = h.0 in cc
 says_nothing (Jwt kid key) h = let role = h.0 in cc
 
--- an element that says nothing is passed over, and `null` is no number
+-- an element that says nothing is passed over, and `null` is not a number
 pub means_nothing : Means (document (array (item seven no_items)) null) nothing
 unfolding IsStrictlySortedBy
 means_nothing = record {
@@ -77,11 +78,11 @@ sequence = refl
 
 -- ---- refusals
 
--- an array is no document
+-- an array is not a document
 pub no_object : RefusesTree (array no_items) NotObject
 no_object = refl
 
--- an object without `keys` is no document
+-- an object without `keys` is not a document
 pub no_keys : RefusesTree (object no_members) NoKeys
 no_keys = (refl, λ h. let keys = h.1 in cc)
 
@@ -89,7 +90,7 @@ no_keys = (refl, λ h. let keys = h.1 in cc)
 pub keys_of_null : RefusesTree (document null seven) NoKeys
 keys_of_null = (refl, λ h. let keys = h.1 in cc)
 
--- a text is no number, and is not absent
+-- a text is not a number, and is not absent
 no_text : HasSomeNumber (document (array no_items) (string (codes "1"))) (codes "spiffe_sequence") → ⊥
 no_text (None, inl h) = cc
 no_text (None, inr h) = cc

@@ -1,5 +1,5 @@
--- What a bundle document says (SPIFFE Trust Domain and Bundle, section 4), and the one text that
--- stands for it.
+-- What a bundle document says (SPIFFE Trust Domain and Bundle, section 4), and its one canonical
+-- text.
 use Rattle.std.specs.Prelude.{◌≡◌, ℕ, ◌^◌, ◌<◌, ◌≤◌, ◌↔◌, ◌⊎◌, ◌++◌, List, [], ◌∷◌, length, map}
 use Rattle.std.specs.Prelude.{Any, codes, Option, Some, None, IfSome, Bool}
 use Rattle.std.specs.Str.{bytes_eq}
@@ -20,7 +20,7 @@ use Rattle.jwk_set.specs.declared.authority.KeyId.{KeyId}
 use Rattle.jwk_set.specs.declared.authority.Authority.{Authority}
 
 -- A document's meaning: a set of authorities, a rank (its sequence number) and a refresh hint in
--- seconds. The set is kept as the list of its members that rises by their texts.
+-- seconds. The set is kept as the list of its members, strictly sorted by their texts.
 pub record Bundle : Type 0 where
   pub authorities : List Authority
   pub rank : Option ℕ
@@ -112,7 +112,7 @@ pub record IsDocument (bytes : List ℕ) (b : Bundle) : Type 0 where
   pub short : length bytes ≤ document_limit
   pub fits : Fits b
 
--- a document in memory: a bundle beside its canonical text
+-- a document in memory: a bundle and its canonical text
 pub record IsStoredDocument (b : Bundle) (canonical : List ℕ) : Type 0 where
   pub is : IsBundle b
   pub text : canonical ≡ canonical_text b

@@ -12,12 +12,12 @@ use Rattle.jwk_set.specs.declared.authority.Authority.{Authority}
 use Rattle.bundle_doc.specs.Bundle.{IsBundle, authority_text, canonical_text, text_cmp, trees}
 use Rattle.bundle_doc.specs.Entries.{FitsWord, numbers_text}
 
--- the text is a front that is its own escape, and the rest
+-- the text is a front that needs no escape, and the rest
 pub record SplitsPlain (text front rest : List ℕ) : Type 0 where
   pub whole : text ≡ front ++ rest
   pub plain : escape front ≡ front
 
--- the text is a front that is its own escape, the label, and the rest
+-- the text is a front that needs no escape, the label, and the rest
 pub record ReadsText (text front label rest : List ℕ) : Type 0 where
   pub whole : text ≡ front ++ (label ++ rest)
   pub plain : escape front ≡ front

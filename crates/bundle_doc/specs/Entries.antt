@@ -35,7 +35,7 @@ pub record IsGathered (elements : Items) (es : List Entry) : Type 0 where
   pub entries : AreEntries es
   pub authorities : (a : Authority) → Has (authorities_of es) a ↔ Says elements a
 
--- a number, where there is one, has 64 bits
+-- a number, if there is one, has 64 bits
 abbrev pub FitsWord : Option ℕ → Type 0
 FitsWord o = IfSome o (λ n. n < 2 ^ 64)
 
@@ -73,7 +73,7 @@ pub record IsBundleOf (es : List Entry) (rank hint : Option ℕ) (b : Bundle) : 
 abbrev pub keys_text : List Authority → List ℕ
 keys_text authorities = codes "{\"keys\":[" ++ items_text false (trees authorities)
 
--- a number after its label, where there is one
+-- a number after its label, if there is one
 abbrev pub number_part : List ℕ → Option ℕ → List ℕ
 number_part label None = []
 number_part label (Some n) = label ++ decimal n
@@ -83,7 +83,7 @@ abbrev pub numbers_text : Option ℕ → Option ℕ → List ℕ
 numbers_text hint rank = number_part (codes ",\"spiffe_refresh_hint\":") hint
     ++ (number_part (codes ",\"spiffe_sequence\":") rank ++ codes "}")
 
--- the member is put in where there is a number
+-- the member is put in if there is a number
 abbrev pub put_some : List ℕ → Option ℕ → Members → Members
 put_some name None others = others
 put_some name (Some n) others = put name (number (unsigned n)) others

@@ -1,4 +1,4 @@
--- What hashers hold that stand behind the pieces of a message.
+-- What the hashers after each piece of a message hold.
 use Rattle.std.specs.Prelude.{⊤, ℕ, ◌++◌, List, [], ◌∷◌}
 use Rattle.sha2.specs.Hashers.{Holds256}
 use Rattle.bundle_doc.specs.declared.known_beginnings.HashedPiece.{HashedPiece}

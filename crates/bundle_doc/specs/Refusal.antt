@@ -1,4 +1,4 @@
--- When bytes or a JSON value are no document, and which refusal comes first.
+-- When bytes or a JSON value are not a document, and which refusal comes first.
 use Rattle.std.specs.Prelude.{◌≡◌, ℕ, ◌<◌, ◌≤◌, List, length, codes, Option, None, IsSome}
 use Rattle.serde_json.specs.Data.{Data, Items}
 use Rattle.serde_json.specs.Find.{as_object}
@@ -18,8 +18,8 @@ HasSomeKeys tree = (keys : Items) × HasKeys tree keys
 abbrev pub HasSomeNumber : Data → List ℕ → Type 0
 HasSomeNumber tree name = (n : Option ℕ) × HasNumberMember tree name n
 
--- Each refusal with its cause, and with what the refusals before it lacked. Memory is wanted only
--- for the authorities and the canonical text, so once the members are in their forms.
+-- Each refusal with its cause, and with what excludes the refusals before it. Memory is needed only
+-- for the authorities and the canonical text, so only when the members are in their forms.
 abbrev pub RefusesTree : Data → DocError → Type 0
 RefusesTree tree TooLong = ⊥
 RefusesTree tree NotJson = ⊥
@@ -33,14 +33,14 @@ RefusesTree tree CanonicalTooLong = (b : Bundle) × Means tree b
 RefusesTree tree NoMemory = HasSomeKeys tree × HasSomeNumber tree (codes "spiffe_sequence")
     × HasSomeNumber tree (codes "spiffe_refresh_hint")
 
--- the bytes are within the limit, and what they stand for is refused
+-- the bytes are within the limit, and their value is refused
 pub record RefusesJson (bytes : List ℕ) (e : DocError) : Type 0 where
   pub short : length bytes ≤ document_limit
   pub tree : Data
   pub json : IsJson bytes tree
   pub cause : RefusesTree tree e
 
--- the same of bytes, where memory is wanted for the tree of all that are within the limit
+-- the same of bytes; memory is needed for the tree of all that are within the limit
 abbrev pub RefusesBytes : List ℕ → DocError → Type 0
 RefusesBytes bytes TooLong = document_limit < length bytes
 RefusesBytes bytes NotJson = (length bytes ≤ document_limit)

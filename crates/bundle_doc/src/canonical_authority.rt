@@ -1,5 +1,5 @@
 //! Authorities read from their canonical texts, with no JSON tree between. Each function says which
-//! part of the text it read and what is left, on `Ok` alone.
+//! part of the text it read and what is left, only on `Ok`.
 ghost use Rattle.std.specs.Prelude.{◌≡◌, ◌++◌, IfOk, MatchOption, Ok};
 ghost use Rattle.std.specs.List.{AllPass};
 ghost use Rattle.base64.specs.Engines.{standard};
@@ -16,7 +16,7 @@ use std::alloc::{AllocError, AllocFailed, Global};
 /// Why a text is not read here.
 #[derive(Drop)]
 pub(crate) enum GivesUp {
-    /// It is no canonical text, or one of a kind that this reader leaves to the reader of JSON.
+    /// It is not a canonical text, or one that this reader leaves to the reader of JSON.
     Form,
     /// Memory ran out.
     NoMemory,
@@ -190,8 +190,8 @@ fn split_plain(text: &str) -> (&str, &str)
     }
 }
 
-/// The place of the first byte that no JSON string has as itself. Unless something stands escaped
-/// before, that is a quotation mark, and many bytes are tested for one at once.
+/// The place of the first byte that no JSON string has as itself. Unless an escape comes before,
+/// that is a quotation mark, and many bytes are tested for one together.
 fn first_stop(text: &[u8]) -> Option<usize>
     ensures { MatchOption result (AllPass is_unescaped text.now)
         (FirstFails is_unescaped text.now) }

@@ -2,7 +2,7 @@
 //! left to the reader of JSON, and so is one with an escape in a string: nothing is claimed of
 //! those.
 //!
-//! Each function says which part of the text it read and what is left, on `Ok` alone. The numbers
+//! Each function says which part of the text it read and what is left, only on `Ok`. The numbers
 //! are read without a promise, written by the writer of canonical texts, and compared.
 ghost use Rattle.std.specs.Prelude.{◌≡◌, ◌++◌, IfOk, IfSome, ◌==◌, not, vec_len};
 ghost use Rattle.serde_json.specs.Written.{comma_if};
@@ -25,7 +25,7 @@ pub(crate) struct DocumentFields {
     pub(crate) rank: Option<u64>,
 }
 
-/// The parts of a canonical text, where it is one that this reader takes.
+/// The parts of a canonical text, if it is one that this reader takes.
 pub(crate) fn read_parts(
     alloc: Global,
     text: &str,
@@ -123,7 +123,7 @@ fn read_numbers(alloc: Global, text: &str) -> Result<(Option<u64>, Option<u64>),
     Ok((hint, rank))
 }
 
-/// The number after the label, where the text begins with one, and what follows. What is read is
+/// The number after the label, if the text begins with one, and what follows. What is read is
 /// written and compared by the caller.
 fn number_behind<'a>(text: &'a str, label: &str) -> (Option<u64>, &'a str)
     ensures { FitsWord result.0 }

@@ -23,7 +23,7 @@ pub(crate) struct Contents {
 }
 
 impl Contents {
-    /// What a text says. The tree that it is read into is given up with this call.
+    /// What a text says. The tree that it is read into is freed at the end of this call.
     pub(crate) fn read(alloc: Global, bytes: &[u8]) -> Result<Contents, DocError>
         requires { length bytes.now ≤ document_limit }
         ensures { MatchResult result
@@ -37,8 +37,8 @@ impl Contents {
         }
     }
 
-    /// What a JSON value says, of which each element is given up once it is read: so its memory
-    /// serves the next authority.
+    /// What a JSON value says. Each of its elements is freed once it is read, so its memory serves
+    /// the next authority.
     fn taken(alloc: Global, value: Value) -> Result<Contents, DocError>
         ensures { MatchResult result
             (λ p. IsContents (view value) p.found.entries p.rank p.hint)

@@ -1,4 +1,4 @@
-//! A bundle document: its authorities, rank and hint, and the one text that stands for them.
+//! A bundle document: its authorities, rank and hint, and its canonical text.
 ghost use Rattle.std.specs.Prelude.{◌≡◌, ◌↔◌, IsTrue, IfOk, IfSome, MatchResult};
 ghost use Rattle.serde_json.specs.View.{view};
 ghost use Rattle.bundle_doc.specs.Bundle.{Fits, HasKeyId, IsBundle, IsDocument, IsStoredDocument};
@@ -35,20 +35,20 @@ pub struct DocId(pub [u8; 32]);
 /// which is its sequence number, and a refresh hint.
 ///
 /// A document is its meaning: two of them are equal exactly when they have the same authorities,
-/// rank and hint, whatever the order of the elements that they were read from, how often an element
-/// came, and which other members stood there. So each has one canonical text, which it keeps:
-/// compact JSON with the names of each object in the order of their bytes, with no member that says
-/// nothing, and the authorities in the order of their own texts' bytes, each once. A canonical text
-/// is read as the document that it stands for.
+/// rank and hint. The order of the elements that they were read from, repeated elements and other
+/// members count for nothing. So each has one canonical text, which it keeps: compact JSON with the
+/// names of each object in the order of their bytes, without members that say nothing, and the
+/// authorities in the order of their own texts' bytes, each once. A canonical text is read as the
+/// document that it is of.
 ///
 /// # Memory and work
 /// No clause speaks of these; the figures are measured. A document keeps its authorities and its
-/// canonical text, which is made with its length. What reading takes beside these is mostly the
-/// tree that `serde_json` builds of the whole text, with some allocations for each object in it. So
-/// a text of 1 MiB takes some 6 MB where it is one large certificate, some 20 MB where it is many
-/// small authorities, 135 MB where it is nothing but elements `{"":0}`, and 186 MB, the most that
-/// was seen, where objects nest 124 deep. Of a text each element of the tree is given up once it is
-/// read. The work grows as n log n in the number n of elements.
+/// canonical text, which is made with its length. The rest of what reading takes is mostly the tree
+/// that `serde_json` builds of the whole text, with some allocations for each object in it. So a
+/// text of 1 MiB takes some 6 MB if it is one large certificate, some 20 MB if it is many small
+/// authorities, 135 MB if it is only elements `{"":0}`, and 186 MB, the most that was seen, if
+/// objects nest 124 deep. Each element of a text's tree is freed once it is read. The work grows as
+/// n log n in the number n of elements.
 #[derive(Debug, Drop)]
 pub struct Document {
     authorities: Vec<Authority>,
@@ -75,16 +75,16 @@ impl Model for Document {
 }
 
 impl Document {
-    /// The document that a text says, in JSON (RFC 8259): of members with one name the last counts,
+    /// The document that a text says, in JSON (RFC 8259): the last of members with one name counts,
     /// and arrays and objects may nest 127 levels deep.
     ///
     /// # Errors
     /// The first that holds of
     /// - [`DocError::TooLong`]: the text has more than [`MAX_DOCUMENT_BYTES`] bytes,
-    /// - [`DocError::NotJson`]: it is no JSON text, or nests deeper,
+    /// - [`DocError::NotJson`]: it is not a JSON text, or nests deeper,
     /// - the refusals of [`Document::from_value`] for its value.
     ///
-    /// Where memory ran out it is [`DocError::NoMemory`], which never comes for a text that is too
+    /// If memory ran out it is [`DocError::NoMemory`], which never comes for a text that is too
     /// long.
     pub fn read(alloc: Global, bytes: &[u8]) -> Result<Document, DocError>
         ensures { MatchResult result (IsDocument bytes.now) (RefusesBytes bytes.now) }
@@ -98,10 +98,10 @@ impl Document {
         build(alloc, Contents::read(alloc, bytes)?)
     }
 
-    /// The document that a canonical text stands for, read with no JSON tree between, so in a
-    /// fraction of the time that the tree takes. `None` says nothing of the bytes: they may be no
-    /// canonical text, or one that only [`Document::read`] takes, as one with an escape in a
-    /// string.
+    /// The document that a canonical text is of, read with no JSON tree between, so in a fraction
+    /// of the time that the tree takes. `None` says nothing of the bytes: they may not be a
+    /// canonical text, or may be one that only [`Document::read`] takes, such as one with an escape
+    /// in a string.
     ///
     /// # Errors
     /// Memory ran out.
@@ -116,8 +116,8 @@ impl Document {
         }
     }
 
-    /// Reads a canonical text as [`Document::read_canonical`] does, where authorities are known:
-    /// one that came twice before is not read again, and the documents share it.
+    /// Reads a canonical text as [`Document::read_canonical`] does, with the authorities that are
+    /// known: one that came twice before is not read again, and the documents share it.
     ///
     /// # Errors
     /// Memory ran out.
@@ -152,16 +152,16 @@ impl Document {
     ///
     /// # Errors
     /// The first that holds of
-    /// - [`DocError::NotObject`]: the value is no object,
+    /// - [`DocError::NotObject`]: the value is not an object,
     /// - [`DocError::NoKeys`]: it has no member `keys` that is an array,
-    /// - [`DocError::BadSequence`]: `spiffe_sequence` is something else than above, as -1, 1.0 or a
+    /// - [`DocError::BadSequence`]: `spiffe_sequence` is not as above, for example -1, 1.0 or a
     ///   text,
     /// - [`DocError::BadRefreshHint`]: the same of `spiffe_refresh_hint`,
     /// - [`DocError::CanonicalTooLong`]: the canonical text would have more than
-    ///   [`MAX_DOCUMENT_BYTES`] bytes. A value read from a text within that limit is not expected
-    ///   to come to this, which no clause says.
+    ///   [`MAX_DOCUMENT_BYTES`] bytes. This is not expected of a value read from a text within that
+    ///   limit, but no clause says so.
     ///
-    /// Where memory ran out it is [`DocError::NoMemory`]. That comes only for an object that has
+    /// If memory ran out it is [`DocError::NoMemory`]. That comes only for an object that has
     /// `keys` and both numbers as above.
     pub fn from_value(alloc: Global, value: &Value) -> Result<Document, DocError>
         ensures { MatchResult result (λ d. Means (view value.now) d × Fits d)
@@ -211,8 +211,8 @@ impl Document {
         DocId(digest_of(domain, self.canonical.as_bytes()))
     }
 
-    /// The id of the document as one of this domain, where beginnings of documents are known: one
-    /// that came twice before is not hashed again.
+    /// The id of the document as one of this domain, with the beginnings of documents that are
+    /// known: one that came twice before is not hashed again.
     ///
     /// # Errors
     /// Memory ran out.
@@ -228,8 +228,8 @@ impl Document {
         Ok(DocId(digest_known(alloc, domain, text, &mut known.beginnings)?))
     }
 
-    /// The sequence number, `spiffe_sequence` (SPIFFE Trust Domain and Bundle, section 4.1.1),
-    /// where there is one.
+    /// The sequence number, `spiffe_sequence` (SPIFFE Trust Domain and Bundle, section 4.1.1), if
+    /// there is one.
     pub fn rank(&self) -> Option<u64>
         ensures { result ≡ self.now.rank }
     {
@@ -237,7 +237,7 @@ impl Document {
     }
 
     /// The refresh hint, `spiffe_refresh_hint` (SPIFFE Trust Domain and Bundle, section 4.1.2), in
-    /// seconds, where there is one.
+    /// seconds, if there is one.
     pub fn hint(&self) -> Option<u64>
         ensures { result ≡ self.now.hint }
     {

@@ -13,7 +13,7 @@ use std::fmt::Write;
 /// The number of a member, which may be absent.
 ///
 /// # Errors
-/// `bad`, where the member is neither a whole number nor absent.
+/// `bad`, if the member is neither a whole number nor absent.
 pub(crate) fn read_number(value: &Value, name: &str, bad: DocError) -> Result<Option<u64>, DocError>
     ensures number { MatchResult result (HasNumberMember (view value.now) name.now)
         (λ e. (e ≡ bad) × (HasSomeNumber (view value.now) name.now → ⊥)) }
@@ -31,7 +31,7 @@ pub(crate) fn read_number(value: &Value, name: &str, bad: DocError) -> Result<Op
     }
 }
 
-/// Puts the member in where there is a number.
+/// Puts the member in if there is a number.
 pub(crate) fn put_number(
     alloc: Global,
     members: &mut Map<String, Value>,

@@ -15,10 +15,10 @@ use serde_json::Value;
 use std::alloc::{AllocError, Global};
 use std::collections::BTreeMap;
 
-/// What a canonical text has at most beside its elements and their commas.
+/// The most bytes that a canonical text has without its elements and their commas.
 const FIXED_BYTES: usize = 100;
 
-/// The elements of `keys`, where it is an array.
+/// The elements of `keys`, if it is an array.
 pub(crate) fn elements_of(value: &Value) -> Option<&Vec<Value>>
     ensures { FindsMember (option_map (λ v. items_view v.now.items) result)
         (HasKeys (view value.now)) }
@@ -26,7 +26,7 @@ pub(crate) fn elements_of(value: &Value) -> Option<&Vec<Value>>
     value.get("keys")?.as_array()
 }
 
-/// The same elements, of a value that is given up.
+/// The same elements, of a value that is consumed.
 pub(crate) fn taken_elements(value: Value) -> Option<Vec<Value>>
     ensures { FindsMember (option_map (λ v. items_view v.items) result) (HasKeys (view value)) }
 {
@@ -51,8 +51,7 @@ fn taken_items(value: Value) -> Option<Vec<Value>>
     }
 }
 
-/// The authorities that the elements say, each under its text. An element is given up once it is
-/// read.
+/// The authorities that the elements say, each under its text. An element is freed once it is read.
 pub(crate) fn gather_taken(
     alloc: Global,
     elements: Vec<Value>,

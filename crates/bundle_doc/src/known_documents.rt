@@ -11,8 +11,8 @@ use std::alloc::Global;
 ///
 /// At most 4,096 authorities are kept with their texts, none of more than 4,096 bytes, and at most
 /// 4,096 beginnings of at most 4,096 bytes. So they take at most some 30 MiB each. A few bytes of a
-/// text tell its place, and of texts that want one place one is kept. No result depends on what is
-/// kept.
+/// text give its place, and only one of the texts with the same place is kept. No result depends on
+/// what is kept.
 #[derive(Drop)]
 pub struct KnownDocuments {
     pub(crate) authorities: Places<KnownAuthority>,

@@ -1,4 +1,4 @@
-//! What follows from the definitions alone, for the crates above. No call does any work.
+//! What follows from the definitions, for the crates above. No call does any work.
 ghost use Rattle.std.specs.Prelude.{◌≡◌, ℕ, ◌≤◌, List, false};
 ghost use Rattle.hex.specs.Hex.{IsBytes, encode_lower};
 ghost use Rattle.serde_json.specs.Data.{Data, depth};
@@ -11,13 +11,13 @@ ghost use Rattle.bundle_doc.specs.Refusal.{RefusesBytes, RefusesTree};
 ghost use Rattle.bundle_doc.specs.declared.error.DocError.{DocError};
 ghost use Rattle.bundle_doc.specs.declared.error.DocError.TheVariants.{NoMemory};
 
-/// The hexadecimal digits of an id stand in a JSON string as they are.
+/// The hexadecimal digits of an id are written in a JSON string without an escape.
 pub fn hex_texts()
     ensures { (bytes : List ℕ) → IsBytes bytes → IsPlainText (encode_lower bytes) }
 {}
 
-/// Bytes are a document of one meaning at most. What is refused, but for memory, is a document of
-/// none, and is refused for one cause. A canonical text stands for one meaning, and within the
+/// Bytes are a document of one meaning at most. Bytes that are refused, except for memory, are not
+/// a document, and are refused for one cause. A canonical text has one meaning, and within the
 /// limit it is a document of it.
 pub fn documents()
     ensures one { (bytes : List ℕ) (b c : Bundle) → IsDocument bytes b
@@ -31,8 +31,8 @@ pub fn documents()
     ensures reads_back { (b : Bundle) → IsBundle b → Fits b → IsDocument (canonical_text b) b }
 {}
 
-/// A JSON value is a document of one meaning at most. What is refused, but for memory, is a
-/// document of none, and is refused for one cause.
+/// A JSON value is a document of one meaning at most. A value that is refused, except for memory,
+/// is not a document, and is refused for one cause.
 pub fn values()
     ensures one { (value : Data) (b c : Bundle) → Means value b → Means value c → b ≡ c }
     ensures none { (value : Data) (e : DocError) (b : Bundle) → RefusesTree value e
@@ -42,7 +42,7 @@ pub fn values()
 {}
 
 /// What is written for a bundle is a document of it again. It is plain, with no float, and nests at
-/// most four levels deep, so that it can stand inside other plain values.
+/// most four levels deep, so that it can be inside other plain values.
 pub fn written()
     ensures reads_back { (b : Bundle) → IsBundle b → Means (document_tree b) b }
     ensures plain { (b : Bundle) → IsBundle b → IsPlain (document_tree b) }

@@ -1,4 +1,4 @@
-//! Places for what came before, each found by what lies at one part of a text.
+//! Places for what came before, each found by the bytes at one part of a text.
 ghost use Rattle.std.specs.Prelude.{◌<◌};
 
 use std::alloc::Global;
@@ -9,17 +9,17 @@ const PLACES: usize = 4_096;
 // An odd number without a pattern in its bits, whose products spread over their upper bits.
 const SPREAD: u64 = 0x9e37_79b9_7f4a_7c15;
 
-/// Places for values that came before. There are none until something is to be kept, and none at
-/// all where nothing is.
+/// Places for values that came before. There are none until something is to be kept.
 #[derive(Drop)]
 pub(crate) struct Places<T> {
     places: Vec<Place<T>>,
     keeps_more: bool,
 }
 
-/// A place: a value, what tells its text, and what tells a text that came and was not kept. Texts
-/// that want one place in turn would drive out each other. So a value that was found since another
-/// text wanted its place stays, and a text is given up only for the second other one that comes.
+/// A place: a value, a tag of its text, and a tag of a text that came and was not kept. Texts with
+/// the same place that come in turn would replace each other. So a value that was found since
+/// another text wanted its place is kept, and a text is replaced only by the second other one that
+/// comes.
 #[derive(Drop)]
 struct Place<T> {
     kept: Option<Box<T>>,
@@ -46,7 +46,7 @@ impl<T: Drop> Places<T> {
         }
     }
 
-    /// What is kept in the place of the text, where it seems to be of this text.
+    /// What is kept in the place of the text, if it seems to be of this text.
     pub(crate) fn known(&mut self, text: &[u8]) -> Option<&mut T> {
         if self.places.is_empty() {
             return None;
@@ -56,8 +56,8 @@ impl<T: Drop> Places<T> {
         self.places[place].known(tag_of(number))
     }
 
-    /// Whether a value is to be kept for the text, which has to come twice for that: to keep one
-    /// takes nearly as long as to read it.
+    /// Whether to keep a value for the text, which has to come twice for that: keeping one takes
+    /// nearly as long as reading it.
     pub(crate) fn keeps(&mut self, alloc: Global, text: &[u8]) -> bool {
         if self.keeps_more {
             self.keeps_more = false;
@@ -134,7 +134,7 @@ fn empty_places<T: Drop>(alloc: Global) -> Vec<Place<T>> {
     places
 }
 
-// The place of a text among so many.
+// The place of a text among `places`.
 fn place_of(number: u64, places: usize) -> usize
     requires { 0 < places }
     ensures { result < places }
@@ -146,8 +146,8 @@ fn tag_of(number: u64) -> u32 {
     (number >> 32) as u32
 }
 
-// A number that tells a text. In that of an authority, and in that of a document, which begins with
-// ten other bytes, the key comes first, and most of what tells it begins before byte 64.
+// A number by which texts differ. The text of an authority begins with its key, and that of a
+// document has ten bytes before that; most of what differs begins before byte 64.
 fn number_of(text: &[u8]) -> u64 {
     let front = spread(word_at(text, 24), word_at(text, 32));
     let back = spread(word_at(text, 48), word_at(text, 56));
@@ -159,7 +159,7 @@ fn spread(first: u64, second: u64) -> u64 {
     (first ^ second.wrapping_mul(SPREAD).rotate_left(29)).wrapping_mul(SPREAD)
 }
 
-// Eight bytes from this place on, or zero where the text ends before.
+// Eight bytes from this place on, or zero if the text ends before.
 fn word_at(text: &[u8], at: usize) -> u64 {
     match text.get(at..).and_then(|rest| rest.first_chunk::<8>()) {
         Some(word) => u64::from_le_bytes(*word),

@@ -30,7 +30,7 @@ use Rattle.bundle_view.proofs.RisingListFacts.{rising_rest, two_in_one, first_of
 abbrev pub rank_cmp : Option ℕ → Option ℕ → Ordering
 rank_cmp = option_cmp nat_cmp
 
--- two orders in turn find less only where the first does, or ties
+-- two orders in turn find less only if the first does, or ties
 then_less : (a b : Ordering) → ordering_then a b ≡ Less → (a ≡ Less) ⊎ (a ≡ Equal)
 then_less Less b h = inl refl
 then_less Equal b h = inr refl
@@ -62,7 +62,7 @@ same_sequence_below s a b p q less =
 sequence_below : (s t : ℕ) (a b : Option ℕ) → a ≡ Some s → b ≡ Some t → rank_cmp a b ≡ Less → nat_cmp s t ≡ Less
 sequence_below s t a b p q less = subst (λ (z : Option ℕ). rank_cmp (Some s) z ≡ Less) q (subst (λ (z : Option ℕ). rank_cmp z b ≡ Less) p less)
 
--- the documents of a group stand below all that follow
+-- the documents of a group are below all that follow
 pub group_below : (group others : List Bundle) → IsStrictlySortedBy document_cmp (group ++ others)
     → ((d e : Bundle) → Contains group d → Contains (take 1 others) e → d.rank ≡ e.rank → ⊥)
     → (d e : Bundle) → Contains group d → Contains others e → rank_cmp d.rank e.rank ≡ Less
@@ -110,7 +110,7 @@ clashes_iff P Q f g cs are = record {
 
 module _ (P Q R : Bundle → Type 0) (cut : (d : Bundle) → R d → P d ⊎ Q d) (front : (d : Bundle) → P d → R d) (back : (d : Bundle) → Q d → R d)
     (below : (d e : Bundle) → P d → Q e → rank_cmp d.rank e.rank ≡ Less) where
-  -- where a document in front has a sequence number, none in the back has it
+  -- if a document in front has a sequence number, none in the back has it
   apart : (s : ℕ) (d e : Bundle) → P d → d.rank ≡ Some s → Q e → e.rank ≡ Some s → ⊥
   apart s d e p a q b = same_sequence_below s d.rank e.rank a b (below d e p q)
 
@@ -205,7 +205,7 @@ one_kind group HintOnly HintOnly p q = refl
 one_kind group Keys HintOnly p q = absurd (p.differ (q p.one p.other p.has_one p.has_other))
 one_kind group HintOnly Keys p q = absurd (q.differ (p q.one q.other q.has_one q.has_other))
 
--- where there is no conflict, the empty list has them all
+-- if there is no conflict, the empty list has them all
 no_clash : (P : Bundle → Type 0) → ((c : ConflictGroup) → IsConflictGroup P c → ⊥) → AreConflictGroups P []
 no_clash P none = record { rising = rising_none group_cmp; sound = λ c h. absurd (contains_none c h); complete = λ c is. absurd (none c is) }
 

@@ -27,7 +27,7 @@ top_more x ds (Some d) rising top = (
   ],
 )
 
--- the last of a rising list is the greatest
+-- the last of a sorted list is the greatest
 top_last : (x : Bundle) (ds : List Bundle) → IsStrictlySortedBy document_cmp (x ∷ ds) → IsTop (x ∷ ds) (last_or (Some x) ds)
 top_last x [] rising = (
   contains_first x [],
@@ -43,7 +43,7 @@ current_of_top : (m : Meaning) (domain : List ℕ) (ds : List Bundle) (o : Optio
 current_of_top m domain ds None list top = absurd top
 current_of_top m domain ds (Some d) list top = record { accepted = list.sound d top.0; greatest = λ e is. top.1 e (list.complete e is) }
 
--- the last accepted document is the current one, and with none accepted there is none
+-- the last accepted document is the current one, and if none is accepted, no document is
 pub last_current : (m : Meaning) (domain : List ℕ) (ds : List Bundle) → IsAcceptedList m domain ds → IsCurrent m domain (last_or None ds)
 last_current m domain [] list = λ d is. contains_none d (list.complete d is)
 last_current m domain (x ∷ ds) list = current_of_top m domain (x ∷ ds) (last_or (Some x) ds) list (top_last x ds list.rising)
@@ -68,7 +68,7 @@ one_current m domain ds (Some d) (Some e) list p q =
     ap Some (only_one document_cmp ds d e list.rising (list.complete d p.accepted) (list.complete e q.accepted)
     (p.greatest e q.accepted) (q.greatest d p.accepted))
 
--- where all that was accepted is accepted, the current document is no lower than it was
+-- if all that was accepted is accepted, the current document is no lower than it was
 pub no_lower : (old new : Meaning) (domain : List ℕ) (before after : Option Bundle)
     → ((p : Pair) → IsMember old p → IsMember new p) → IsCurrent old domain before → IsCurrent new domain after
     → IsNoLower before after

@@ -52,14 +52,14 @@ module _ (m : Meaning) (waiting : List Receipt) (trusted : AreTrusted m waiting)
 
 module _ (m : Meaning) (waiting : List Receipt) (valid : IsMeaning m) (trusted : AreTrusted m waiting)
     (strides : List Stride) (stand : AreStrides m.config.seeds waiting strides) (p : Pair) where
-  -- the chain leads to the document from the step at the place or, where there is none, from a
+  -- the chain leads to the document from the step at the place or, if there is none, from a
   -- configured document
   abbrev IsLeft : Option ℕ → List Receipt → Type 0
   IsLeft None chain = LeadsTo m p chain
   IsLeft (Some place) chain = (s : Stride) → slice_get strides place ≡ Some s
       → AllByRecursion (Contains m.held) chain × Leads m.config m.records (pair_of s.receipt) chain p
 
-  -- the chain to the step at a place has n receipts, and there are none where no step is
+  -- the chain to the step at a place has n receipts, and there are none if no step is
   abbrev length_of : Option ℕ → ℕ → Type 0
   length_of None n = n ≡ 0
   length_of (Some place) n = (s : Stride) → slice_get strides place ≡ Some s → s.length ≡ n
@@ -177,7 +177,7 @@ searched_moved seeds those waiting there strides p o found e f h is =
 
 -- ---- a chain to anybody
 
--- a chain to a document leads on to where it ends
+-- a chain to a document leads on to its end
 ends_in : (c : Configuration) (records : List Distrust) (from : Pair) (chain : List Receipt) (to : Pair)
     → Leads c records from chain to → LeadsOn c records from chain
 ends_in c records from [] to h = refl

@@ -24,7 +24,7 @@ rising_parts documents start rest rising e =
     (rising_right document_cmp (take start documents) (drop start documents)
     (subst (IsStrictlySortedBy document_cmp) (sym (take-append-drop start documents)) rising))
 
--- rising documents rise also where they are cut in two
+-- sorted documents rise also if they are cut in two
 cut_at : (rest : List Bundle) (len : ℕ) → IsStrictlySortedBy document_cmp rest → IsStrictlySortedBy document_cmp (take len rest ++ drop len rest)
 cut_at rest len rising = subst (IsStrictlySortedBy document_cmp) (sym (take-append-drop len rest)) rising
 

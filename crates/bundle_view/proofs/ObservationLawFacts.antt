@@ -3,11 +3,11 @@ use Rattle.std.proofs.Common.{◌≡◌, inl, inr, List, Some, None, refl, sym, 
 use Rattle.bundle_doc.specs.Bundle.{Bundle, HasKeyId}
 use Rattle.bundle_doc.proofs.BundleFacts.{one_document}
 use Rattle.bundle_doc.proofs.RefusalFacts.{one_cause as one_cause_of_bytes, refused_none}
-use Rattle.fed_config.specs.Configuration.{IsConfiguration, IsRelationshipOf}
+use Rattle.fed_config.specs.Configuration.{IsConfiguration, IsRelationshipOf, ReachesFloor}
 use Rattle.fed_config.specs.declared.relationship.Relationship.{Relationship}
 use Rattle.receipt_core.specs.Receipt.{Receipt}
 use Rattle.receipt_core.specs.Acceptance.{Meaning}
-use Rattle.closure_core.specs.declared.error.TakeError.TheVariants.{UnknownDomain, WrongEndpoint as OtherEndpoint, Full, NoMemory, ConfigDiffers}
+use Rattle.closure_core.specs.declared.error.TakeError.TheVariants.{UnknownDomain, WrongEndpoint as OtherEndpoint, BelowFloor, Full, NoMemory, ConfigDiffers}
 use Rattle.closure_core.specs.AcceptedList.{IsAcceptedList}
 use Rattle.bundle_view.specs.Current.{IsCurrent}
 use Rattle.bundle_view.specs.Observe.{IsEndpointOf, HasOtherEndpoint, FetchedBundle, IsVouchedFor, IsObservation, receipt_of, RefusesObservation}
@@ -31,6 +31,7 @@ module _ (m : Meaning) (fetched : FetchedBundle) (documents : List Bundle) (form
   found NoVoucherBundle n h = (h.0.relationship, h.0.found)
   found KeyNotInCurrent n h = (h.endpoint.relationship, h.endpoint.found)
   found (Document d) n h = (h.0.1.endpoint.relationship, h.0.1.endpoint.found)
+  found (Take BelowFloor) n h = (h.vouched.1.endpoint.relationship, h.vouched.1.endpoint.found)
   found (Take Full) n h = (h.1.authentic.endpoint.relationship, h.1.authentic.endpoint.found)
   found (Take NoMemory) n h = (h.0.1.endpoint.relationship, h.0.1.endpoint.found)
   found (Take e) n h = absurd h
@@ -42,6 +43,7 @@ module _ (m : Meaning) (fetched : FetchedBundle) (documents : List Bundle) (form
   served NoVoucherBundle n o h = h.0
   served KeyNotInCurrent n o h = h.endpoint
   served (Document d) n o h = h.0.1.endpoint
+  served (Take BelowFloor) n o h = h.vouched.1.endpoint
   served (Take Full) n o h = h.1.authentic.endpoint
   served (Take NoMemory) n o h = h.0.1.endpoint
   served (Take e) n o h = absurd h
@@ -54,6 +56,7 @@ module _ (m : Meaning) (fetched : FetchedBundle) (documents : List Bundle) (form
   vouched NoVoucherBundle n o p q h = absurd (p refl)
   vouched KeyNotInCurrent n o p q h = absurd (q refl)
   vouched (Document d) n o p q h = h.0
+  vouched (Take BelowFloor) n o p q h = h.vouched
   vouched (Take Full) n o p q h = (h.1.voucher, h.1.authentic)
   vouched (Take NoMemory) n o p q h = h.0
   vouched (Take e) n o p q h = absurd h
@@ -66,11 +69,12 @@ module _ (m : Meaning) (fetched : FetchedBundle) (documents : List Bundle) (form
   some_current NoVoucherBundle n o p h = absurd (p refl)
   some_current KeyNotInCurrent n o p h = (h.voucher, h.current)
   some_current (Document d) n o p h = (h.0.0, h.0.1.current)
+  some_current (Take BelowFloor) n o p h = (h.vouched.0, h.vouched.1.current)
   some_current (Take Full) n o p h = (h.1.voucher, h.1.authentic.current)
   some_current (Take NoMemory) n o p h = (h.0.0, h.0.1.current)
   some_current (Take e) n o p h = absurd h
 
-  -- ---- so no two stand together
+  -- ---- so no two of these hold together
 
   -- a domain does not both have a relationship and lack one
   no_relationship : IsRelationshipOf m.config fetched.domain None → (x : Relationship) → IsRelationshipOf m.config fetched.domain (Some x) → ⊥
@@ -95,6 +99,12 @@ module _ (m : Meaning) (fetched : FetchedBundle) (documents : List Bundle) (form
         | inl lacks ↦ lacks (subst (λ (d : Bundle). HasKeyId d.authorities fetched.verdict.key) (sym same) is.1.key)
         | inr distrusted ↦ is.1.trusted distrusted
       ]
+
+  -- a document that is below the floor makes no observation
+  low_or_observed : Refuses (Take BelowFloor) → (r : Receipt) → IsObservation m fetched r → ⊥
+  low_or_observed low r is =
+      let same : is.document ≡ low.document = one_document fetched.bytes is.document low.document is.read low.read in
+      low.misses.below (subst (λ (d : Bundle). ReachesFloor m.config fetched.domain d) same is.reaches low.misses.floor low.misses.has low.misses.of_domain)
 
   -- ---- the laws
 
@@ -128,6 +138,11 @@ module _ (m : Meaning) (fetched : FetchedBundle) (documents : List Bundle) (form
   one_cause (Document d) (Document e) p q l k = ap Document (one_cause_of_bytes fetched.bytes d e p.2 q.2 p.1 q.1)
   one_cause (Document d) (Take Full) p q l k = absurd (refused_none fetched.bytes d q.1.document p.2 p.1 q.1.read)
   one_cause (Take Full) (Document d) p q l k = absurd (refused_none fetched.bytes d p.1.document q.2 q.1 p.1.read)
+  one_cause (Document d) (Take BelowFloor) p q l k = absurd (refused_none fetched.bytes d q.document p.2 p.1 q.read)
+  one_cause (Take BelowFloor) (Document d) p q l k = absurd (refused_none fetched.bytes d p.document q.2 q.1 p.read)
+  one_cause (Take BelowFloor) (Take BelowFloor) p q l k = refl
+  one_cause (Take BelowFloor) (Take Full) p q l k = absurd (low_or_observed p q.0 q.1)
+  one_cause (Take Full) (Take BelowFloor) p q l k = absurd (low_or_observed q p.0 p.1)
   one_cause (Take Full) (Take Full) p q l k = refl
   one_cause (Take NoMemory) f p q l k = absurd (l refl)
   one_cause e (Take NoMemory) p q l k = absurd (k refl)
@@ -136,7 +151,7 @@ module _ (m : Meaning) (fetched : FetchedBundle) (documents : List Bundle) (form
   one_cause (Take ConfigDiffers) f p q l k = absurd p
   one_cause e (Take f) p q l k = absurd q
 
-  -- what is refused, other than for memory or for being one too many, is no observation
+  -- what is refused, other than for memory or for being one too many, is not an observation
   pub refused_or_observed : (r : Receipt) (e : ObserveError) → IsObservation m fetched r → Refuses e
       → (e ≡ Take Full → ⊥) → (e ≡ Take NoMemory → ⊥) → ⊥
   refused_or_observed r NoRelationship is h n k = no_relationship h is.authentic.endpoint.relationship is.authentic.endpoint.found
@@ -144,6 +159,7 @@ module _ (m : Meaning) (fetched : FetchedBundle) (documents : List Bundle) (form
   refused_or_observed r NoVoucherBundle is h n k = h.1 is.voucher is.authentic.current.accepted
   refused_or_observed r KeyNotInCurrent is h n k = foreign_and_own h (is.voucher, is.authentic)
   refused_or_observed r (Document d) is h n k = refused_none fetched.bytes d is.document h.2 h.1 is.read
+  refused_or_observed r (Take BelowFloor) is h n k = low_or_observed h r is
   refused_or_observed r (Take Full) is h n k = n refl
   refused_or_observed r (Take NoMemory) is h n k = k refl
   refused_or_observed r (Take e) is h n k = h

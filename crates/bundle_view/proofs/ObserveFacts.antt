@@ -10,17 +10,17 @@ use Rattle.bundle_doc.specs.declared.error.DocError.{DocError}
 use Rattle.bundle_doc.specs.declared.error.DocError.TheVariants.{TooLong, NotJson, NotObject, NoKeys, BadSequence}
 use Rattle.bundle_doc.specs.declared.error.DocError.TheVariants.{BadRefreshHint, CanonicalTooLong}
 use Rattle.bundle_doc.specs.declared.error.DocError.TheVariants.{NoMemory as NoMemoryToRead}
-use Rattle.fed_config.specs.Configuration.{Configuration, IsConfiguration}
+use Rattle.fed_config.specs.Configuration.{Configuration, IsConfiguration, ReachesFloor}
 use Rattle.fed_config.specs.declared.relationship.Relationship.{Relationship}
 use Rattle.receipt_core.specs.Receipt.{Receipt, IsReceipt, Pair, pair_of, receipt_cmp, with_receipt}
 use Rattle.receipt_core.specs.Order.{receipt_total}
 use Rattle.receipt_core.specs.Sets.{AreSets}
-use Rattle.receipt_core.specs.Acceptance.{IsFitting, Vouches, Meaning, IsMeaning, IsMember, pair_of_seed}
+use Rattle.receipt_core.specs.Acceptance.{IsFitting, MissesFloor, Vouches, Meaning, IsMeaning, IsMember, pair_of_seed}
 use Rattle.receipt_core.proofs.LineFacts.{one_receipt}
 use Rattle.receipt_core.proofs.RisingFacts.{AreSets-from_total}
 use Rattle.receipt_core.proofs.SearchFacts.{one_relationship}
 use Rattle.closure_core.specs.declared.error.TakeError.{TakeError}
-use Rattle.closure_core.specs.declared.error.TakeError.TheVariants.{UnknownDomain, WrongEndpoint as OtherEndpoint, Full, NoMemory, ConfigDiffers}
+use Rattle.closure_core.specs.declared.error.TakeError.TheVariants.{UnknownDomain, WrongEndpoint as OtherEndpoint, BelowFloor, Full, NoMemory, ConfigDiffers}
 use Rattle.closure_core.specs.declared.outcome.Taken.{Taken}
 use Rattle.closure_core.specs.declared.outcome.Taken.TheVariants.{New as TakenNew, Already as TakenAlready}
 use Rattle.closure_core.specs.Refusals.{Room, RefusesReceipt, IsOfWrongEndpoint}
@@ -50,7 +50,7 @@ all_and_one : {A : Type 0} (P : A → Type 0) (xs : List A) (x : A) → AllByRec
 all_and_one P [] x all h = (h, tt)
 all_and_one P (y ∷ ys) x all h = (all.0, all_and_one P ys x all.1 h)
 
--- receipts that are held stay held where more are
+-- receipts that are held are still held if more are
 all_within : (old new : List Receipt) (rs : List Receipt) → ((r : Receipt) → Contains old r → Contains new r)
     → AllByRecursion (Contains old) rs → AllByRecursion (Contains new) rs
 all_within old new [] more all = tt
@@ -87,21 +87,23 @@ observed_of domain verdict id document = record { domain = domain; endpoint = ve
 
 -- an authentic verdict and bytes that are a document are an observation with this receipt
 observation : (m : Meaning) (domain bytes : List ℕ) (verdict : Verdict) (id : DocId) (document : Bundle)
-    → IsVoucher m domain verdict id → IsDocument bytes document
+    → IsVoucher m domain verdict id → IsDocument bytes document → ReachesFloor m.config domain document
     → IsObservation m (fetched_as domain bytes verdict) (observed_of domain verdict id document)
-observation m domain bytes verdict id document is read = record {
+observation m domain bytes verdict id document is read reaches = record {
   voucher = is.voucher;
   authentic = is.authentic;
   document = document;
   read = read;
+  reaches = reaches;
   is = ap (λ (i : DocId). observed_of domain verdict i document) is.is;
 }
 
--- a receipt of the relationship's domain and endpoint fits
+-- a receipt of the relationship's domain and endpoint whose document reaches the floor fits
 fits_of : (m : Meaning) (domain : List ℕ) (verdict : Verdict) (r : Receipt)
     → IsEndpointOf m.config domain verdict.endpoint → r.domain ≡ domain → r.endpoint ≡ verdict.endpoint
-    → IsFitting m.config r
-fits_of m domain verdict r is e f = record {
+    → ReachesFloor m.config r.domain r.document → IsFitting m.config r
+fits_of m domain verdict r is e f reaches = record {
+  reaches = reaches;
   relationship = is.relationship;
   has = is.found.0;
   domain = is.found.1 ∙ sym e;
@@ -110,12 +112,12 @@ fits_of m domain verdict r is e f = record {
 
 -- once the receipt is held, its document is accepted, since the voucher is
 accepted_of : (m : Meaning) (domain bytes : List ℕ) (verdict : Verdict) (id : DocId) (document : Bundle) → IsMeaning m
-    → IsReceipt (observed_of domain verdict id document) → IsVoucher m domain verdict id
+    → IsReceipt (observed_of domain verdict id document) → IsVoucher m domain verdict id → ReachesFloor m.config domain document
     → IsMember (holding m (observed_of domain verdict id document)) (pair_of (observed_of domain verdict id document))
-accepted_of m domain bytes verdict id document valid form is =
+accepted_of m domain bytes verdict id document valid form is reaches =
     let r : Receipt = observed_of domain verdict id document in
     accepted_then m (document_of verdict.endpoint.domain is.voucher) r valid form is.authentic.current.accepted
-    (fits_of m domain verdict r is.authentic.endpoint refl refl)
+    (fits_of m domain verdict r is.authentic.endpoint refl refl reaches)
     record { endpoint = refl; voucher = ap (λ (i : DocId). i.0) (sym is.is); key = is.authentic.key; trusted = is.authentic.trusted }
 
 -- after the receipt was taken it is held, and nothing else changed, whether it was held before or
@@ -126,20 +128,20 @@ meaning_of_took old new r TakenAlready valid took =
     ap (λ (s : HeldAndRoom). s.meaning) took.same
     ∙ ap (λ (rs : List Receipt). record old.meaning { held = rs }) (sym (sets.present r old.meaning.held valid.rising took.held))
 
--- where the receipt was taken, the observation is made
+-- if the receipt was taken, the observation is made
 observed : (old new : HeldAndRoom) (domain bytes : List ℕ) (verdict : Verdict) (id : DocId) (document : Bundle)
     → IsMeaning old.meaning → IsReceipt (observed_of domain verdict id document)
-    → IsVoucher old.meaning domain verdict id → IsDocument bytes document
+    → IsVoucher old.meaning domain verdict id → IsDocument bytes document → ReachesFloor old.meaning.config domain document
     → HasKept old (observed_of domain verdict id document) new
     → HasObserved old.meaning (fetched_as domain bytes verdict) new.meaning (observed_of domain verdict id document)
-observed old new domain bytes verdict id document valid form is read kept =
+observed old new domain bytes verdict id document valid form is read reaches kept =
     let r : Receipt = observed_of domain verdict id document in
     let meaning : new.meaning ≡ holding old.meaning r = meaning_of_took old new r kept.taken valid kept.took in
     record {
-      observation = observation old.meaning domain bytes verdict id document is read;
+      observation = observation old.meaning domain bytes verdict id document is read reaches;
       meaning = meaning;
       held = subst (λ (m : Meaning). Contains m.held r) (sym meaning) ((sets.members r r old.meaning.held form valid.receipts).1 (inl refl));
-      accepted = subst (λ (m : Meaning). IsMember m (pair_of r)) (sym meaning) (accepted_of old.meaning domain bytes verdict id document valid form is);
+      accepted = subst (λ (m : Meaning). IsMember m (pair_of r)) (sym meaning) (accepted_of old.meaning domain bytes verdict id document valid form is reaches);
     }
 
 -- ---- refusals
@@ -148,13 +150,13 @@ observed old new domain bytes verdict id document valid form is read kept =
 vouched_for : (m : Meaning) (domain : List ℕ) (verdict : Verdict) (id : DocId) → IsVoucher m domain verdict id → IsVouchedFor m domain verdict
 vouched_for m domain verdict id is = (is.voucher, is.authentic)
 
--- where memory ran out after the bytes were read, the observation is refused for that
+-- if memory ran out after the bytes were read, the observation is refused for that
 wants_memory : (m : Meaning) (domain bytes : List ℕ) (verdict : Verdict) (id : DocId) (document : Bundle)
     → IsVoucher m domain verdict id → IsDocument bytes document
     → RefusesObservation m (fetched_as domain bytes verdict) (Take NoMemory)
 wants_memory m domain bytes verdict id document is read = (vouched_for m domain verdict id is, read.short)
 
--- where the bytes are no document, the observation is refused for that
+-- if the bytes are not a document, the observation is refused for that
 pub unread : (m : Meaning) (domain bytes : List ℕ) (verdict : Verdict) (id : DocId) (e : DocError) → IsVoucher m domain verdict id → RefusesBytes bytes e
     → RefusesObservation m (fetched_as domain bytes verdict) (of_document e)
 unread m domain bytes verdict id NoMemoryToRead is refuses = (vouched_for m domain verdict id is, refuses)
@@ -175,26 +177,30 @@ other_endpoint m domain verdict r form is e f wrong =
     one_relationship m.config wrong.relationship is.relationship form wrong.has is.found.0 (wrong.domain ∙ e ∙ sym is.found.1) in
     wrong.other (ap (λ (x : Relationship). x.endpoint) same ∙ is.endpoint_is ∙ sym f)
 
--- where the receipt was not taken, the observation is refused for that
+-- if the receipt was not taken, the observation is refused for that
 untaken : (m : Meaning) (room : Room) (domain bytes : List ℕ) (verdict : Verdict) (id : DocId) (document : Bundle)
     (e : TakeError) → IsConfiguration m.config → IsVoucher m domain verdict id → IsDocument bytes document
-    → RefusesReceipt m room (observed_of domain verdict id document) e → RefusesTaking m (fetched_as domain bytes verdict) e
-untaken m room domain bytes verdict id document UnknownDomain form is read refuses =
+    → ReachesFloor m.config domain document → RefusesReceipt m room (observed_of domain verdict id document) e
+    → RefusesTaking m (fetched_as domain bytes verdict) e
+untaken m room domain bytes verdict id document UnknownDomain form is read reaches refuses =
     refuses is.authentic.endpoint.relationship is.authentic.endpoint.found.0 is.authentic.endpoint.found.1
-untaken m room domain bytes verdict id document OtherEndpoint form is read refuses =
+untaken m room domain bytes verdict id document OtherEndpoint form is read reaches refuses =
     other_endpoint m domain verdict (observed_of domain verdict id document) form is.authentic.endpoint refl refl refuses
-untaken m room domain bytes verdict id document Full form is read refuses =
-    (observed_of domain verdict id document, observation m domain bytes verdict id document is read, refuses)
-untaken m room domain bytes verdict id document NoMemory form is read refuses = wants_memory m domain bytes verdict id document is read
-untaken m room domain bytes verdict id document ConfigDiffers form is read refuses = refuses
+untaken m room domain bytes verdict id document BelowFloor form is read reaches refuses =
+    absurd (refuses.misses.below (reaches refuses.misses.floor refuses.misses.has refuses.misses.of_domain))
+untaken m room domain bytes verdict id document Full form is read reaches refuses =
+    (observed_of domain verdict id document, observation m domain bytes verdict id document is read reaches, refuses)
+untaken m room domain bytes verdict id document NoMemory form is read reaches refuses = wants_memory m domain bytes verdict id document is read
+untaken m room domain bytes verdict id document ConfigDiffers form is read reaches refuses = refuses
 
--- where the receipt was not taken, nothing is observed and nothing lost
+-- if the receipt was not taken, nothing is observed and nothing lost
 not_kept : (old new : HeldAndRoom) (domain bytes : List ℕ) (verdict : Verdict) (id : DocId) (document : Bundle)
     (why : ObserveError) → IsConfiguration old.meaning.config → IsVoucher old.meaning domain verdict id
-    → IsDocument bytes document → HasNotKept old (observed_of domain verdict id document) new why → HasNotObserved old (fetched_as domain bytes verdict) new why
-not_kept old new domain bytes verdict id document why form is read kept = record {
+    → IsDocument bytes document → ReachesFloor old.meaning.config domain document
+    → HasNotKept old (observed_of domain verdict id document) new why → HasNotObserved old (fetched_as domain bytes verdict) new why
+not_kept old new domain bytes verdict id document why form is read reaches kept = record {
   cause = subst (RefusesObservation old.meaning (fetched_as domain bytes verdict)) (sym kept.is)
-      (untaken old.meaning old.room domain bytes verdict id document kept.error form is read kept.cause);
+      (untaken old.meaning old.room domain bytes verdict id document kept.error form is read reaches kept.cause);
   unchanged = kept.unchanged;
 }
 
@@ -205,7 +211,7 @@ refuses_endpoint m domain verdict NoRelationship h = h
 refuses_endpoint m domain verdict WrongEndpoint h = h
 refuses_endpoint m domain verdict e h = absurd h
 
--- where nothing was done nothing is changed
+-- if nothing was done, nothing is changed
 pub unchanged_then : (s : HeldAndRoom) → IsUnchanged s s
 unchanged_then s = record { meaning = refl; room = record { receipts = omega arith; offers = omega arith } }
 
@@ -233,11 +239,22 @@ copied domain d verdict e id document r is same_domain same_endpoint =
 -- the receipt that was made is that of the observation
 pub observation_made : (m : Meaning) (domain bytes : List ℕ) (verdict : Verdict) (id : DocId) (document : Bundle) (r : Receipt)
     → r ≡ observed_of domain verdict id document → IsVoucher m domain verdict id → IsDocument bytes document
-    → IsObservation m (fetched_as domain bytes verdict) r
-observation_made m domain bytes verdict id document r e is read =
-    subst (IsObservation m (fetched_as domain bytes verdict)) (sym e) (observation m domain bytes verdict id document is read)
+    → ReachesFloor m.config domain document → IsObservation m (fetched_as domain bytes verdict) r
+observation_made m domain bytes verdict id document r e is read reaches =
+    subst (IsObservation m (fetched_as domain bytes verdict)) (sym e) (observation m domain bytes verdict id document is read reaches)
 
--- where memory ran out once there is an observation, it is refused for that
+-- where the document is below the floor, the observation is refused for that
+pub too_low : (m : Meaning) (config : Configuration) (domain bytes : List ℕ) (verdict : Verdict) (id : DocId) (document : Bundle)
+    → IsVoucher m domain verdict id → IsDocument bytes document → config ≡ m.config → MissesFloor config domain document
+    → RefusesObservation m (fetched_as domain bytes verdict) (Take BelowFloor)
+too_low m config domain bytes verdict id document is read own misses = record {
+  vouched = vouched_for m domain verdict id is;
+  document = document;
+  read = read;
+  misses = subst (λ (c : Configuration). MissesFloor c domain document) own misses;
+}
+
+-- if memory ran out although there is an observation, it is refused for that
 pub memory_for : (m : Meaning) (fetched : FetchedBundle) (r : Receipt) → IsObservation m fetched r
     → RefusesObservation m fetched (Take NoMemory)
 memory_for m fetched r o = ((o.voucher, o.authentic), o.read.short)
@@ -255,7 +272,7 @@ pub concluded : (old new : HeldAndRoom) (fetched : FetchedBundle) (r : Receipt) 
 concluded old new fetched r (Ok _) valid config form o kept =
     subst (HasObserved old.meaning fetched new.meaning) (sym o.is)
     (observed old new fetched.domain fetched.bytes fetched.verdict (id_in fetched.verdict.endpoint.domain o.voucher) o.document valid
-    (subst IsReceipt o.is form) (voucher_of old.meaning fetched r o) o.read (subst (λ (x : Receipt). HasKept old x new) o.is kept))
+    (subst IsReceipt o.is form) (voucher_of old.meaning fetched r o) o.read o.reaches (subst (λ (x : Receipt). HasKept old x new) o.is kept))
 concluded old new fetched r (Err why) valid config form o kept =
     not_kept old new fetched.domain fetched.bytes fetched.verdict (id_in fetched.verdict.endpoint.domain o.voucher) o.document why config
-    (voucher_of old.meaning fetched r o) o.read (subst (λ (x : Receipt). HasNotKept old x new why) o.is kept)
+    (voucher_of old.meaning fetched r o) o.read o.reaches (subst (λ (x : Receipt). HasNotKept old x new why) o.is kept)

@@ -109,7 +109,7 @@ lines_more f xs k x low is o n e =
     ap (λ z. z ++ flat_map f (drop (k + 1) xs)) e ∙ append_assoc o (f x) (flat_map f (drop (k + 1) xs))
     ∙ ap (λ ys. o ++ flat_map f ys) (sym (next_at xs k x low is))
 
--- the same for lines of what items stand for
+-- the same for lines of what items mean
 pub told_more : {X Y : Type 0} (v : X → Y) (f : Y → List ℕ) (xs : List X) (k : ℕ) (x : X) → k < length xs
     → x ≡ get_or xs k x → (o n : List ℕ) → n ≡ o ++ f (v x)
     → n ++ flat_map f (map v (drop (k + 1) xs)) ≡ o ++ flat_map f (map v (drop k xs))

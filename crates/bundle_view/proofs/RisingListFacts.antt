@@ -1,4 +1,4 @@
--- Rising lists, their parts and their joins
+-- Sorted lists, their parts and their joins
 use Rattle.std.proofs.Common.{◌≡◌, ℕ, ◌<◌, ◌≤◌, inl, inr, List, [], ◌∷◌, ◌++◌, length, Less, Greater, sym, ap, ◌∙◌, subst, arith, append_assoc}
 use Rattle.std.specs.declared.cmp.Ordering.{Ordering}
 use Rattle.std.specs.Ordering.{ordering_reverse}
@@ -17,7 +17,7 @@ not_below_itself {A} {cmp} o x h = let same = tied_itself o x in cc
 pub not_both : {A : Type 0} {cmp : A → A → Ordering} → IsTotalOrder cmp → (x y : A) → cmp x y ≡ Less → cmp y x ≡ Less → ⊥
 not_both {A} {cmp} o x y p q = let above : cmp x y ≡ Greater = o.antisymm x y ∙ ap ordering_reverse q in cc
 
--- rising lists with the same items are equal
+-- sorted lists with the same items are equal
 pub same_list : {A : Type 0} (cmp : A → A → Ordering) → IsTotalOrder cmp → (xs ys : List A) → IsStrictlySortedBy cmp xs → IsStrictlySortedBy cmp ys
     → ((a : A) → Contains xs a → Contains ys a) → ((a : A) → Contains ys a → Contains xs a) → xs ≡ ys
 same_list cmp t xs ys p q there back =
@@ -25,17 +25,17 @@ same_list cmp t xs ys p q there back =
     (λ a h. Has-from_contains xs a (back a (Contains-from_has ys a h)))
 
 module _ {A : Type 0} (cmp : A → A → Ordering) where
-  -- the first of a rising list is below all others
+  -- the first of a sorted list is below all others
   pub rising_first : (x : A) (xs : List A) (y : A) → IsStrictlySortedBy cmp (x ∷ xs) → Contains xs y → cmp x y ≡ Less
   unfolding IsStrictlySortedBy
   rising_first x xs y p has = each_has (λ z. cmp x z ≡ Less) xs y p.0 (Has-from_contains xs y has)
 
-  -- the rest of a rising list rises
+  -- the rest of a sorted list rises
   pub rising_rest : (x : A) (xs : List A) → IsStrictlySortedBy cmp (x ∷ xs) → IsStrictlySortedBy cmp xs
   unfolding IsStrictlySortedBy
   rising_rest x xs p = p.1
 
-  -- a rising list rises with an item in front that is below all of it
+  -- a sorted list rises with an item in front that is below all of it
   pub rising_cons : (x : A) (xs : List A) → ((y : A) → Contains xs y → cmp x y ≡ Less) → IsStrictlySortedBy cmp xs → IsStrictlySortedBy cmp (x ∷ xs)
   unfolding IsStrictlySortedBy
   rising_cons x xs below p = (all_from_has (λ z. cmp x z ≡ Less) xs (λ a h. below a (Contains-from_has xs a h)), p)
@@ -50,7 +50,7 @@ module _ {A : Type 0} (cmp : A → A → Ordering) where
   unfolding IsStrictlySortedBy
   rising_one x = (tt, tt)
 
-  -- two rising lists, all of one below all of the other, rise as one
+  -- two sorted lists, all of one below all of the other, rise as one
   pub rising_append : (xs ys : List A) → IsStrictlySortedBy cmp xs → IsStrictlySortedBy cmp ys
       → ((x y : A) → Contains xs x → Contains ys y → cmp x y ≡ Less) → IsStrictlySortedBy cmp (xs ++ ys)
   rising_append [] ys p q below = q
@@ -62,18 +62,18 @@ module _ {A : Type 0} (cmp : A → A → Ordering) where
       ])
       (rising_append xs ys (rising_rest x xs p) q (λ a b h k. below a b (contains_later x xs a h) k))
 
-  -- the back of a rising list rises
+  -- the back of a sorted list rises
   pub rising_right : (xs ys : List A) → IsStrictlySortedBy cmp (xs ++ ys) → IsStrictlySortedBy cmp ys
   rising_right [] ys p = p
   rising_right (x ∷ xs) ys p = rising_right xs ys (rising_rest x (xs ++ ys) p)
 
-  -- the front of a rising list rises
+  -- the front of a sorted list rises
   pub rising_left : (xs ys : List A) → IsStrictlySortedBy cmp (xs ++ ys) → IsStrictlySortedBy cmp xs
   rising_left [] ys p = rising_none
   rising_left (x ∷ xs) ys p =
       rising_cons x xs (λ a h. rising_first x (xs ++ ys) a p (Contains-append_left xs ys a h)) (rising_left xs ys (rising_rest x (xs ++ ys) p))
 
-  -- all in front of a rising list is below all in its back
+  -- all in front of a sorted list is below all in its back
   pub rising_across : (xs ys : List A) (x y : A) → IsStrictlySortedBy cmp (xs ++ ys) → Contains xs x → Contains ys y → cmp x y ≡ Less
   rising_across [] ys x y p h k = absurd (contains_none x h)
   rising_across (z ∷ xs) ys x y p h k = elim (contains_cases z xs x h) [
@@ -81,7 +81,7 @@ module _ {A : Type 0} (cmp : A → A → Ordering) where
     | inr later ↦ rising_across xs ys x y (rising_rest z (xs ++ ys) p) later k
   ]
 
-  -- two items of a rising list, neither below the other, are one
+  -- two items of a sorted list, neither below the other, are one
   pub only_one : (xs : List A) (x y : A) → IsStrictlySortedBy cmp xs → Contains xs x → Contains xs y → (cmp x y ≡ Less → ⊥) → (cmp y x ≡ Less → ⊥) → x ≡ y
   only_one [] x y p h k l r = absurd (contains_none x h)
   only_one (z ∷ xs) x y p h k l r = elim (contains_cases z xs x h) [
@@ -95,7 +95,7 @@ module _ {A : Type 0} (cmp : A → A → Ordering) where
     ]
   ]
 
-  -- a list of one item at most does not have all of a rising list of two or more
+  -- a list of one item at most does not have all of a sorted list of two or more
   pub two_in_one : IsTotalOrder cmp → (xs ys : List A) → IsStrictlySortedBy cmp xs → 2 ≤ length xs
       → ((x : A) → Contains xs x → Contains ys x) → length ys < 2 → ⊥
   two_in_one o [] ys p many within few = omega arith

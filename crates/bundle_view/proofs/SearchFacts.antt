@@ -1,4 +1,4 @@
--- One step more, and what was come to
+-- One step more, and what was visited
 use Rattle.std.proofs.Common.{◌≡◌, ℕ, zero, suc, ◌+◌, ◌<◌, ◌≤◌, ◌⊎◌, inl, inr, Bool, true, false, List, [], ◌∷◌, ◌++◌}
 use Rattle.std.proofs.Common.{length, replicate, get_or, set, Option, Some, Less, Equal, Greater, arith, refl, sym, ap}
 use Rattle.std.proofs.Common.{◌∙◌, subst, length-append}
@@ -33,12 +33,12 @@ at_left [] ys i x e = absurd (none-some x e)
 at_left (a ∷ xs) ys zero x e = e
 at_left (a ∷ xs) ys (suc i) x e = at_left xs ys i x e
 
--- an item added at the end stands there
+-- an item added at the end is there
 pub at_end : {A : Type 0} (xs : List A) (y : A) → slice_get (xs ++ y ∷ []) (length xs) ≡ Some y
 at_end [] y = refl
 at_end (a ∷ xs) y = at_end xs y
 
--- a list of one item has it at place 0 alone
+-- a list of one item has it only at place 0
 one_at : {A : Type 0} (y : A) (i : ℕ) (x : A) → slice_get (y ∷ []) i ≡ Some x → (i ≡ 0) × (y ≡ x)
 one_at y zero x e = (refl, same_Some y x e)
 one_at y (suc i) x e = absurd (none-some x e)
@@ -63,9 +63,9 @@ has_at xs i x e = (i, slice_get_within xs i x e, get_or_from_slice_get xs i x x 
 pub at_of_has : {A : Type 0} (xs : List A) (x : A) → Contains xs x → (i : ℕ) × (slice_get xs i ≡ Some x)
 at_of_has xs x has = (has.0, slice_get-get_or xs has.0 x has.1 ∙ ap Some has.2)
 
--- ---- what was come to stays
+-- ---- what was visited is so later
 
--- a receipt that was come to stays so with more steps, and with a greater limit
+-- a receipt that was visited is visited with more steps, and with a greater limit
 pub more-HasStride : (old new : List Stride) (r : Receipt) (n k : ℕ)
     → ((i : ℕ) (s : Stride) → slice_get old i ≡ Some s → slice_get new i ≡ Some s) → n ≤ k → HasStride old r n
     → HasStride new r k
@@ -85,7 +85,7 @@ pub more-AreFollowed : (waiting : List Receipt) (old new : List Stride) (offers 
     → AreFollowed waiting new offers n
 more-AreFollowed waiting old new offers n kept f r waits has = more-HasStride old new r n n kept (omega arith) (f r waits has)
 
--- the flags stand for the steps also with a greater limit
+-- the flags are those of the steps also with a greater limit
 pub wider : (waiting : List Receipt) (visited : List Bool) (strides : List Stride) (n k : ℕ) → n ≤ k
     → AreVisited waiting visited strides n → AreVisited waiting visited strides k
 wider waiting visited strides n k l v = record {
@@ -100,7 +100,7 @@ wider waiting visited strides n k l v = record {
   together = v.together;
 }
 
--- where steps were added, those at the old places are the old ones
+-- if steps were added, those at the old places are the old ones
 pub old_at : (waiting : List Receipt) (offers : List Triple) (before : Option ℕ) (most : ℕ) (old new : List Stride)
     → AppendsSteps waiting offers before most old new → (i : ℕ) (s : Stride) → i < length old → slice_get new i ≡ Some s
     → slice_get old i ≡ Some s
@@ -186,7 +186,7 @@ adds_both waiting some others all before most old mid new left right a b = recor
   ];
 }
 
--- ---- the receipts that need the same stand together
+-- ---- the receipts that need the same are next to each other
 
 -- no triple is below itself
 less_itself : (a : Triple) → is_lt (triple_cmp a a) ≡ true → ⊥
@@ -204,7 +204,7 @@ neither Greater p q = absurd (both_ways true q refl)
 same_triple_from : (a b : Triple) → is_lt (triple_cmp a b) ≡ false → is_lt (triple_cmp b a) ≡ false → a ≡ b
 same_triple_from a b p q = one_triple a b (neither (triple_cmp a b) p (ap is_lt (sym (triple_total.antisymm b a)) ∙ q))
 
--- an order whose result comes no later than another's finds less where the other does
+-- an order whose result comes no later than another's finds less if the other does
 index_less : (a b : Ordering) → ordering_index a ≤ ordering_index b → is_lt b ≡ true → is_lt a ≡ true
 index_less Less b l h = refl
 index_less a Equal l h = absurd (both_ways false refl h)
@@ -212,14 +212,14 @@ index_less a Greater l h = absurd (both_ways false refl h)
 index_less Equal Less l h = absurd (omega (arith, l))
 index_less Greater Less l h = absurd (omega (arith, l))
 
--- the receipts that need something before it stand before the others
+-- the receipts that need something before it come before the others
 pub parted : (waiting : List Receipt) (offer : Triple) → IsSortedByKey need_of triple_cmp waiting
     → IsPartitionedBy (λ r. is_lt (triple_cmp (need_of r) offer)) waiting
 parted waiting offer sorted i j d l below h =
     index_less (triple_cmp (need_of (get_or waiting i d)) offer) (triple_cmp (need_of (get_or waiting j d)) offer)
     (searchable_from_sorted triple_total need_of waiting offer sorted i j d l below) h
 
--- where no flag is raised and no step was made, no receipt was come to
+-- if no flag is raised and no step was made, no receipt was visited
 pub visited_none : (waiting : List Receipt) (flags : List Bool) (strides : List Stride)
     → flags ≡ replicate (length waiting) false → strides ≡ [] → AreVisited waiting flags strides 1
 visited_none waiting flags strides is none = record {
@@ -243,7 +243,8 @@ visited_none waiting flags strides is none = record {
     no : (i : ℕ) (s : Stride) → slice_get strides i ≡ Some s → ⊥
     no i s at = let l = slice_get_within strides i s at in omega (arith, l, ap length none)
 
--- So far the receipts from the start up to the place need it, and were come to; no other flag is changed.
+-- So far the receipts from the start up to the place need it, and were visited; no other flag is
+-- changed.
 pub record Gathers (waiting : List Receipt) (offer : Triple) (before : Option ℕ) (most : ℕ) (flags : List Bool)
     (old : List Stride) (start place : ℕ) (visited : List Bool) (new : List Stride) : Type 0 where
   pub marks : AreMarked waiting visited new most
@@ -269,7 +270,7 @@ gathers_none waiting offer before most flags old start l v = record {
 module _ (waiting : List Receipt) (offer : Triple) (before : Option ℕ) (most : ℕ) (flags : List Bool)
     (old : List Stride) (start place : ℕ) (visited : List Bool) (new : List Stride)
     (g : Gathers waiting offer before most flags old start place visited new) where
-  -- one more receipt that needs it was come to: the step of the loop in `follow_offer`
+  -- one more receipt that needs it was visited: the step of the loop in `follow_offer`
   pub gathers_more : most ≤ length old + 1 → IsEdgeDue waiting visited offer place → (r : Receipt)
       → slice_get waiting place ≡ Some r → (more : List Bool) → more ≡ set visited place true
       → raised_count more ≡ raised_count visited + 1
@@ -307,7 +308,7 @@ module _ (waiting : List Receipt) (offer : Triple) (before : Option ℕ) (most :
       (point : IsPartitionPoint (λ r. is_lt (triple_cmp (need_of r) offer) ≡ true)
       (λ r. is_lt (triple_cmp (need_of r) offer) ≡ false) waiting start)
       (v : AreVisited waiting flags old most) (done : IsEdgeDue waiting visited offer place → ⊥) where
-    -- each receipt that needs it was come to
+    -- each receipt that needs it was visited
     needing : (k : ℕ) (r : Receipt) → slice_get waiting k ≡ Some r → need_of r ≡ offer → is_raised visited k ≡ true
     needing k r at needs = elim (cases_lt k start) [
       | inl before_start ↦
@@ -345,7 +346,7 @@ module _ (waiting : List Receipt) (offer : Triple) (before : Option ℕ) (most :
       ]
     ]
 
-    -- receipts that need the same are come to together
+    -- receipts that need the same are visited together
     together : (j k : ℕ) (q r : Receipt) → slice_get waiting j ≡ Some q → slice_get waiting k ≡ Some r
         → need_of q ≡ need_of r → is_raised visited j ≡ true → is_raised visited k ≡ true
     together j k q r atj atk alike raised = elim (cases_lt j start) [

@@ -17,7 +17,7 @@ use Rattle.closure_core.proofs.ContainsFacts.{contains_first, contains_later, co
 abbrev document : List Authority → Option ℕ → Option ℕ → Bundle
 document authorities rank hint = record { authorities = authorities; rank = rank; hint = hint }
 
--- ---- the order of documents: an absent rank stands below 0, and the rank decides before the text
+-- ---- the order of documents: an absent rank is below 0, and the rank decides before the text
 
 -- a document without a sequence number is below one with 0
 absent_below_zero : (keys more : List Authority) → document_cmp (document keys None None) (document more (Some 0) None) ≡ Less
@@ -31,7 +31,7 @@ rank_decides keys more hint = refl
 greater_rank : (keys more : List Authority) → document_cmp (document keys (Some 1) None) (document more None None) ≡ Greater
 greater_rank keys more = refl
 
--- ---- a current document is no lower than another where it is the same or greater
+-- ---- a current document is no lower than another if it is the same or greater
 
 -- nothing is lower than no document
 no_lower_than_none : (later : Option Bundle) → IsNoLower None later
@@ -49,7 +49,7 @@ lower_is_lower keys more h = h refl
 none_is_lower : (d : Bundle) → IsNoLower (Some d) None → ⊥
 none_is_lower d h = h
 
--- ---- kinds of conflicts: other authorities, or other hints alone
+-- ---- kinds of conflicts: other authorities, or only other hints
 
 -- documents with different authorities are in a conflict of keys
 other_keys : (key : Authority) (rank : Option ℕ) → ((key ∷ []) ≡ [] → ⊥) → IsOfKind (document (key ∷ []) rank None ∷ document [] rank None ∷ []) Keys

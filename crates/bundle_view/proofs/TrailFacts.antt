@@ -14,16 +14,16 @@ use Rattle.bundle_view.specs.Inside.Search.{FollowsOffers, IsSearchBegun, IsSear
 use Rattle.closure_core.proofs.ContainsFacts.{contains_first, contains_none}
 use Rattle.bundle_view.proofs.SearchFacts.{more-AreFollowed, wider, old_at}
 
--- ---- what stands goes on standing
+-- ---- what holds still holds with more
 
--- a step stands with more steps
+-- a step is still one with more steps
 kept_stride : (seeds : List Seed) (old new : List Stride) (s : Stride) (before : Option ℕ)
     → ((i : ℕ) (t : Stride) → slice_get old i ≡ Some t → slice_get new i ≡ Some t) → IsStride seeds old s before
     → IsStride seeds new s before
 kept_stride seeds old new s None kept h = h
 kept_stride seeds old new s (Some place) kept h = record { previous = h.previous; at = kept place h.previous h.at; offers = h.offers; next = h.next }
 
--- a step stands with one more configured document
+-- a step is still one with one more configured document
 more_seeds : (seeds : List Seed) (x : Seed) (strides : List Stride) (s : Stride) (before : Option ℕ)
     → IsStride seeds strides s before → IsStride (seeds ++ x ∷ []) strides s before
 more_seeds seeds x strides s None h =
@@ -35,7 +35,7 @@ more_seeds seeds x strides s None h =
     }
 more_seeds seeds x strides s (Some place) h = h
 
--- all steps stand with those that were added, if each of these does
+-- all steps are still steps with those that were added, if each of these is one
 more_strides : (seeds : List Seed) (waiting : List Receipt) (offers : List Triple) (before : Option ℕ) (most : ℕ)
     (old new : List Stride) → AreStrides seeds waiting old → AppendsSteps waiting offers before most old new
     → ((s : Stride) → IsAddedStep waiting offers before most s → IsStride seeds new s before) → AreStrides seeds waiting new
@@ -155,12 +155,12 @@ at_last seeds waiting p visited strides place a l =
 
 -- ---- back
 
--- the place, where there is one, is that of a step
+-- the place, if there is one, is that of a step
 abbrev pub IsWithin : List Stride → Option ℕ → Type 0
 IsWithin strides None = Unit {0}
 IsWithin strides (Some place) = place < length strides
 
--- how many receipts the chain to the step at a place has, or 0 where there is none
+-- how many receipts the chain to the step at a place has, or 0 if there is none
 abbrev pub length_from : List Stride → ℕ → ℕ
 length_from [] place = 0
 length_from (s ∷ strides) zero = s.length

@@ -14,7 +14,7 @@ use Rattle.closure_core.proofs.ContainsFacts.{contains_first, contains_later, co
 
 -- ---- receipts one after another
 
--- Of all receipts, those that are done with and are not distrusted were taken, and the rest are still to come.
+-- Each receipt that is done with and is not distrusted was taken, and the rest are still to come.
 pub record AreSifted (records : List Distrust) (all taken rest : List Receipt) : Type 0 where
   pub there : (r : Receipt) → Contains all r → (Contains records (distrust_of r.endpoint.domain r) → ⊥) → Contains taken r ⊎ Contains rest r
   pub trusted : (r : Receipt) → Contains taken r → Contains all r × (Contains records (distrust_of r.endpoint.domain r) → ⊥)

@@ -1,4 +1,4 @@
--- Where the accepted documents of a domain contradict each other
+-- Conflicts: accepted documents of a domain that contradict each other
 use Rattle.std.specs.Prelude.{◌≡◌, ℕ, ◌≤◌, ◌↔◌, List, map, flat_map, length, Contains, Some}
 use Rattle.std.specs.declared.cmp.Ordering.{Ordering}
 use Rattle.std.specs.Ordering.{nat_cmp}
@@ -34,9 +34,8 @@ abbrev pub IsOfKind : List Bundle → ConflictKind → Type 0
 IsOfKind documents Keys = Differ documents
 IsOfKind documents HintOnly = Agree documents
 
--- Of the documents with the property they are all those with the sequence number, each once, and
--- two or more. They are in their order, which for documents of one rank is that of their canonical
--- texts.
+-- They are all documents with the property and the sequence number, each once, and two or more.
+-- They are in their order, which for documents of one rank is that of their canonical texts.
 pub record IsConflictGroup (P : Bundle → Type 0) (c : ConflictGroup) : Type 0 where
   pub rising : IsStrictlySortedBy document_cmp c.documents
   pub exactly : (d : Bundle) → Contains c.documents d ↔ (P d × (d.rank ≡ Some c.sequence))
@@ -46,7 +45,7 @@ pub record IsConflictGroup (P : Bundle → Type 0) (c : ConflictGroup) : Type 0 
 abbrev pub group_cmp : ConflictGroup → ConflictGroup → Ordering
 group_cmp c d = nat_cmp c.sequence d.sequence
 
--- all of them, rising by sequence number
+-- all of them, sorted by sequence number
 pub record AreConflictGroups (P : Bundle → Type 0) (clashes : List ConflictGroup) : Type 0 where
   pub rising : IsStrictlySortedBy group_cmp clashes
   pub sound : (c : ConflictGroup) → Contains clashes c → IsConflictGroup P c
@@ -93,7 +92,7 @@ pub record OfDomain : Type 0 where
 abbrev pub report_all : List OfDomain → List ReportedConflict
 report_all parts = flat_map (λ part. map (reported_conflict part.domain) part.clashes) parts
 
--- the conflicts of all domains of the configuration, rising by domain and then by sequence number
+-- the conflicts of all domains of the configuration, sorted by domain and then by sequence number
 pub record AreAllConflicts (m : Meaning) (conflicts : List ReportedConflict) : Type 0 where
   pub parts : List OfDomain
   pub domains : AreDomains m.config (map (λ part. part.domain) parts)

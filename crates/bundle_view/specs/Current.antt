@@ -11,12 +11,12 @@ pub record IsGreatest (m : Meaning) (domain : List ℕ) (d : Bundle) : Type 0 wh
   pub accepted : IsMember m (document_of domain d)
   pub greatest : (e : Bundle) → IsMember m (document_of domain e) → document_cmp d e ≡ Less → ⊥
 
--- the current document, or none where none of the domain is accepted
+-- the current document, or none if none of the domain is accepted
 abbrev pub IsCurrent : Meaning → List ℕ → Option Bundle → Type 0
 IsCurrent m domain None = (d : Bundle) → IsMember m (document_of domain d) → ⊥
 IsCurrent m domain (Some d) = IsGreatest m domain d
 
--- Where there was a current document there is one, and it is no lower.
+-- If there was a current document there is one, and it is no lower.
 abbrev pub IsNoLower : Option Bundle → Option Bundle → Type 0
 IsNoLower None later = Unit {0}
 IsNoLower (Some d) None = ⊥

@@ -7,12 +7,13 @@ use Rattle.bundle_doc.specs.Refusal.{RefusesBytes}
 use Rattle.bundle_doc.specs.declared.error.DocError.{DocError}
 use Rattle.bundle_doc.specs.declared.error.DocError.TheVariants.{NoMemory as NoMemoryToRead}
 use Rattle.fed_config.specs.Configuration.{Configuration, IsConfiguration, IsRelationshipOf}
+use Rattle.fed_config.specs.Configuration.{ReachesFloor}
 use Rattle.fed_config.specs.declared.relationship.Relationship.{Relationship}
 use Rattle.receipt_core.specs.declared.distrust.Distrust.{Distrust}
 use Rattle.receipt_core.specs.Receipt.{Receipt, pair_of, with_receipt}
-use Rattle.receipt_core.specs.Acceptance.{Meaning, IsMember}
+use Rattle.receipt_core.specs.Acceptance.{Meaning, IsMember, MissesFloor}
 use Rattle.closure_core.specs.declared.error.TakeError.{TakeError}
-use Rattle.closure_core.specs.declared.error.TakeError.TheVariants.{Full, NoMemory}
+use Rattle.closure_core.specs.declared.error.TakeError.TheVariants.{BelowFloor, Full, NoMemory}
 use Rattle.closure_core.specs.Refusals.{IsOneTooMany}
 use Rattle.closure_core.specs.AcceptedList.{IsAcceptedList}
 use Rattle.closure_core.specs.Changes.{HeldAndRoom, IsUnchanged}
@@ -46,7 +47,7 @@ pub record HasOtherEndpoint (c : Configuration) (domain : List ℕ) (endpoint : 
   pub found : IsRelationshipOf c domain (Some relationship)
   pub other : relationship.endpoint ≡ endpoint → ⊥
 
--- the key that was shown, distrusted where the endpoint is at home
+-- the key that was shown, distrusted in the endpoint's domain
 abbrev pub distrust_in : Verdict → Distrust
 distrust_in verdict = record { domain = verdict.endpoint.domain; key = verdict.key }
 
@@ -84,13 +85,14 @@ receipt_of domain verdict voucher document =
       key = verdict.key;
     }
 
--- It says: this document of the domain, which the bytes give, was served by this endpoint, which
--- showed this key of the current document of its trust domain.
+-- It says: this document of the domain, which the bytes give and which reaches the domain's floor,
+-- was served by this endpoint, which showed this key of the current document of its trust domain.
 pub record IsObservation (m : Meaning) (fetched : FetchedBundle) (r : Receipt) : Type 0 where
   pub voucher : Bundle
   pub authentic : IsAuthentic m fetched.domain fetched.verdict voucher
   pub document : Bundle
   pub read : IsDocument fetched.bytes document
+  pub reaches : ReachesFloor m.config fetched.domain document
   pub is : r ≡ receipt_of fetched.domain fetched.verdict voucher document
 
 -- The receipt, whose voucher is the current document of before, is held, and its document accepted.
@@ -103,7 +105,7 @@ pub record HasObserved (old : Meaning) (fetched : FetchedBundle) (new : Meaning)
 
 -- ---- refusals, each with what those before it lacked
 
--- Of the domain and its endpoint alone: no relationship, or one with another endpoint.
+-- What only the domain and its endpoint decide: no relationship, or one with another endpoint.
 abbrev pub RefusesEndpoint : Configuration → List ℕ → Id → ObserveError → Type 0
 RefusesEndpoint c domain endpoint NoRelationship = IsRelationshipOf c domain None
 RefusesEndpoint c domain endpoint WrongEndpoint = HasOtherEndpoint c domain endpoint
@@ -116,15 +118,23 @@ RefusesVerdict m domain verdict NoVoucherBundle = IsEndpointOf m.config domain v
 RefusesVerdict m domain verdict KeyNotInCurrent = HasForeignKey m domain verdict
 RefusesVerdict m domain verdict e = RefusesEndpoint m.config domain verdict.endpoint e
 
--- The receipt is new, and 65,536 are held; or memory was wanted, for the tree of all bytes that are
--- within the limit.
+-- The verdict is authentic, and the bytes are a document that is below the floor of the domain.
+pub record HasLowDocument (m : Meaning) (fetched : FetchedBundle) : Type 0 where
+  pub vouched : IsVouchedFor m fetched.domain fetched.verdict
+  pub document : Bundle
+  pub read : IsDocument fetched.bytes document
+  pub misses : MissesFloor m.config fetched.domain document
+
+-- The document is below its floor; or the receipt is new, and 65,536 are held; or memory was
+-- wanted, for the tree of all bytes that are within the limit.
 abbrev pub RefusesTaking : Meaning → FetchedBundle → TakeError → Type 0
+RefusesTaking m fetched BelowFloor = HasLowDocument m fetched
 RefusesTaking m fetched Full = (r : Receipt) × IsObservation m fetched r × IsOneTooMany m r
 RefusesTaking m fetched NoMemory = IsVouchedFor m fetched.domain fetched.verdict
     × (length fetched.bytes ≤ document_limit)
 RefusesTaking m fetched _ = ⊥
 
--- out of memory is the same wherever it is met
+-- lack of memory is the same cause in each place
 abbrev pub of_document : DocError → ObserveError
 of_document NoMemoryToRead = Take NoMemory
 of_document e = Document e

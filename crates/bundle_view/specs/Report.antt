@@ -95,7 +95,7 @@ head_text m pending =
 abbrev pub report_text : Meaning → ℕ → List Section → List ℕ
 report_text m pending sections = head_text m pending ++ flat_map (section_text m.records) sections
 
--- the report: a head, and a section for each domain of the configuration, rising
+-- the report: a head, and a section for each domain of the configuration, in order
 pub record IsReport (m : Meaning) (text : List ℕ) : Type 0 where
   pub pending : ℕ
   pub is_pending : IsPendingCount m pending
@@ -116,7 +116,7 @@ pub record BeginsReport (m : Meaning) (old new : Option (List ℕ)) : Type 0 whe
   pub report : IsReport m text
   pub begun : AppendsBeginning old new text
 
--- the report's sink was at fault
+-- the report's sink failed
 abbrev pub is_report_fault : {T : Type 0} → Result T ReportError → Bool
 is_report_fault (Ok value) = false
 is_report_fault (Err Io) = true

@@ -1,5 +1,5 @@
-//! Where the accepted documents of a domain contradict each other. The list of them is cut into
-//! groups of one rank; a group of two or more with a sequence number is a conflict.
+//! Conflicts: accepted documents of a domain that contradict each other. The list of them is cut
+//! into groups of one rank; a group of two or more with a sequence number is a conflict.
 ghost use Rattle.std.specs.Prelude.{◌≡◌, ◌<◌, ◌≤◌, ◌++◌, ◌↔◌, List, map, length, IsTrue, IfOk};
 ghost use Rattle.std.specs.Prelude.{OnOk, Contains};
 ghost use Rattle.std.specs.List.Sorted.{IsStrictlySortedBy};
@@ -19,7 +19,7 @@ use std::alloc::{AllocError, Global};
 pub enum ConflictKind {
     /// Two of them have different authorities, of either kind.
     Keys,
-    /// All have the same authorities, so they differ in their refresh hints alone.
+    /// All have the same authorities, so they differ only in their refresh hints.
     HintOnly,
 }
 
@@ -39,7 +39,7 @@ pub struct Conflict {
     pub documents: Vec<DocId>,
 }
 
-/// All conflicts, rising by domain and then by sequence number.
+/// All conflicts, sorted by domain and then by sequence number.
 ///
 /// The work grows with the number of accepted documents and the bytes of those that are in
 /// conflict.

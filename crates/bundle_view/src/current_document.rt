@@ -6,13 +6,13 @@ use bundle_doc::Document;
 use closure_core::Closure;
 use spiffe_name::TrustDomain;
 
-/// The current document of the domain: of its accepted documents the one with the greatest rank,
-/// where an absent one is below 0, and of one rank the one with the greatest canonical text, by its
-/// bytes. `None` exactly where none of the domain is accepted, so also for a domain that the
-/// configuration does not have.
+/// The current document of the domain: the accepted one with the greatest rank (an absent rank is
+/// below 0), and among those of one rank the one with the greatest canonical text, by its bytes.
+/// `None` exactly if none of the domain is accepted, so also for a domain that the configuration
+/// does not have.
 ///
 /// It takes no memory. The domain's documents are searched for among all, and looked at from the
-/// greatest down: of the accepted ones, none but the current one is looked at.
+/// greatest down: the current one is the only accepted one that is looked at.
 pub fn current<'a, C: Closure>(closure: &'a C, domain: &TrustDomain) -> Option<&'a Document>
     ensures { IsCurrent (C.state closure.now).meaning domain.now (option_copied result) }
 {

@@ -16,8 +16,8 @@ use std::alloc::Global;
 
 /// Why the document is accepted as one of this domain: a chain of held receipts that leads to it
 /// from a configured document, each vouched for by the document before it (SPIFFE Federation,
-/// section 5.2, profile `https_spiffe`). No chain of held receipts that leads to it has fewer; of
-/// several shortest ones it is any. It is empty for a configured document, and `None` for one that
+/// section 5.2, profile `https_spiffe`). No chain of held receipts that leads to it is shorter; it
+/// may be any of the shortest ones. It is empty for a configured document, and `None` for one that
 /// is not accepted. One that is not empty is a chain to [`check_chain`](receipt_core::check_chain)
 /// with the closure's configuration and records of distrust.
 ///

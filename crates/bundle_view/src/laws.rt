@@ -60,8 +60,8 @@ pub fn explanations()
 {}
 
 /// What is observed is determined: there is one receipt of a verdict and of bytes, and one cause
-/// for which they are refused, beside lack of memory. A receipt that exists is refused only because
-/// of what the store holds.
+/// for which they are refused, apart from lack of memory. A receipt that exists is refused only
+/// because of what the store holds.
 pub fn one_observation()
     ensures receipt { (call : ObserveCall) (r s : Receipt)
         → IsObservation call.meaning call.fetched r → IsObservation call.meaning call.fetched s

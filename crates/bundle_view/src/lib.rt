@@ -1,6 +1,5 @@
 //! What a replica shows of what it accepts: the current documents, conflicts between documents, the
-//! report, why a document is accepted, and what is observed. It knows closures by their trait
-//! alone.
+//! report, why a document is accepted, and what is observed. It knows closures only by their trait.
 #![tactic(auto)]
 
 mod conflict;

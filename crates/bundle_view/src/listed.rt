@@ -9,7 +9,7 @@ use spiffe_name::TrustDomain;
 use std::alloc::{AllocError, Global};
 use std::marker::Model;
 
-/// A document that a closure lends, and its id as one of a domain, which the list is of.
+/// A document that a closure lends, and its id as one of the list's domain.
 #[derive(Drop)]
 pub(crate) struct Listed<'a> {
     document: &'a Document,
@@ -35,7 +35,7 @@ impl<'a> Listed<'a> {
         self.document
     }
 
-    /// The id of the document as one of this domain, which is at hand where the list is of it.
+    /// The id of the document as one of this domain, which is known if the list is of that domain.
     pub(crate) fn id(&self, domain: &TrustDomain) -> DocId
         ensures { result.0 ≡ doc_id_of domain.now self.now }
     {

@@ -1,6 +1,7 @@
 //! What is made of the bytes that an endpoint served, and of TLS's verdict on the endpoint. In
 //! order: the relationship and its endpoint, the current document of the endpoint's trust domain,
-//! the key in it, the records of distrust, the bytes, and then the receipt.
+//! the key in it, the records of distrust, the bytes, the floor of the domain, and then the
+//! receipt.
 ghost use Rattle.std.specs.Prelude.{MatchResult};
 ghost use Rattle.fed_config.specs.Configuration.{IsConfiguration};
 ghost use Rattle.receipt_core.specs.Acceptance.{IsMeaning};
@@ -13,10 +14,10 @@ ghost use Rattle.bundle_view.specs.Inside.Observing.{HasKept, HasNotKept, IsVouc
 use crate::current_document::current;
 use crate::observe_error::ObserveError;
 use bundle_doc::{DocId, Document};
-use closure_core::Closure;
+use closure_core::{Closure, TakeError};
 use fed_config::Config;
 use jwk_set::KeyId;
-use receipt_core::Receipt;
+use receipt_core::{Receipt, reaches_floor};
 use spiffe_name::{SpiffeId, TrustDomain};
 use std::alloc::Global;
 
@@ -38,18 +39,19 @@ pub struct Verdict {
 /// was current before.
 ///
 /// # Errors
-/// What is held stays. Of these the first that holds:
+/// What is held is as before. The first of these that holds:
 /// - [`ObserveError::NoRelationship`]: the configuration has no relationship with the domain,
 /// - [`ObserveError::WrongEndpoint`]: that relationship has another endpoint than the verdict,
 /// - [`ObserveError::NoVoucherBundle`]: no document of the endpoint's trust domain is accepted,
 /// - [`ObserveError::KeyNotInCurrent`]: no X.509 authority of its current document has the
 ///   verdict's key, or the key is distrusted there,
-/// - [`ObserveError::Document`]: the bytes are no document, for the cause of [`Document::read`]
+/// - [`ObserveError::Document`]: the bytes are not a document, for the cause of [`Document::read`]
 ///   that is in it,
+/// - [`ObserveError::Take`] with `BelowFloor`: the document is below the floor of the domain,
 /// - [`ObserveError::Take`] with `Full`: the receipt is not held, and 65,536 are.
 ///
-/// Where memory ran out it is [`ObserveError::Take`] with `NoMemory`, which never comes where the
-/// verdict is refused or the bytes are too many.
+/// If memory ran out it is [`ObserveError::Take`] with `NoMemory`, which never comes if the verdict
+/// is refused or the bytes are too many.
 pub fn observe<C: Closure>(
     alloc: Global,
     closure: &mut C,
@@ -90,6 +92,9 @@ pub fn observed_receipt<C: Closure>(
 {
     let voucher = find_voucher(closure, domain, verdict)?;
     let document = Document::read(alloc, bytes)?;
+    if !reaches_floor(closure.config(), domain, &document) {
+        return Err(ObserveError::Take(TakeError::BelowFloor));
+    }
     let receipt = Receipt::new(
         alloc,
         domain.try_clone(alloc)?,
@@ -105,8 +110,8 @@ pub fn observed_receipt<C: Closure>(
 /// from now on.
 ///
 /// # Errors
-/// What is held stays. [`ObserveError::Take`] with `Full`: the receipt is not held, and 65,536 are;
-/// or with `NoMemory`: memory ran out.
+/// What is held is as before. [`ObserveError::Take`] with `Full`: the receipt is not held, and
+/// 65,536 are; or with `NoMemory`: memory ran out.
 pub fn take_observed<C: Closure>(closure: &mut C, receipt: Receipt) -> Result<(), ObserveError>
     ensures { (fetched : FetchedBundle)
         → IsObservation (C.state closure.old).meaning fetched receipt → MatchResult result
@@ -117,7 +122,7 @@ pub fn take_observed<C: Closure>(closure: &mut C, receipt: Receipt) -> Result<()
     keep(closure, receipt)
 }
 
-/// The id of the current document of the endpoint's trust domain, where the verdict is one that the
+/// The id of the current document of the endpoint's trust domain, if the verdict is one that the
 /// configuration asks for, and the key is that of an X.509 authority of this document and trusted.
 fn find_voucher<C: Closure>(
     closure: &C,

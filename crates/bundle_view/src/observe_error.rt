@@ -9,8 +9,8 @@ use closure_core::TakeError;
 use std::alloc::AllocError;
 use thiserror::Error;
 
-/// Why nothing is observed. Of several causes the first of this list is returned. Lack of memory,
-/// which is `Take(NoMemory)` wherever it is met, can come in place of each that is found out after
+/// Why nothing is observed. If several causes hold, the first of this list is returned. Lack of
+/// memory, which is always `Take(NoMemory)`, can come in place of each that is found out after
 /// `Document(TooLong)`.
 #[derive(Clone, Copy, Debug, PartialEq, Eq, Error)]
 pub enum ObserveError {
@@ -27,10 +27,11 @@ pub enum ObserveError {
     /// domain, or it is distrusted there.
     #[error("O4 KeyNotInCurrent")]
     KeyNotInCurrent,
-    /// The bytes are no document; never for lack of memory.
+    /// The bytes are not a document; never for lack of memory.
     #[error("O5 Document {0}")]
     Document(DocError),
-    /// The receipt is not taken: the store is full, or memory ran out.
+    /// The receipt is not taken: its document is below the floor of its domain, the store is full,
+    /// or memory ran out.
     #[error("O6 Take {0}")]
     Take(TakeError),
 }

@@ -19,10 +19,10 @@ use spiffe_name::TrustDomain;
 use std::alloc::{AllocError, Global};
 
 /// Writes the report: a line `config` with the configuration's digest; a line with the numbers of
-/// receipts and of pending ones; and for each domain of the configuration, rising, a line `domain`,
-/// one for its current document, one for each accepted document, one for each conflict and one for
-/// each distrusted key. So the text depends on the configuration, the set of receipts and the set
-/// of records of distrust alone.
+/// receipts and of pending ones; and for each domain of the configuration, in order, a line
+/// `domain`, one for its current document, one for each accepted document, one for each conflict
+/// and one for each distrusted key. So the text depends only on the configuration, the set of
+/// receipts and the set of records of distrust.
 ///
 /// All memory is taken before the first byte is written.
 ///

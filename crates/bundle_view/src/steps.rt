@@ -1,8 +1,8 @@
-//! The search for a shortest chain: steps from receipt to receipt, in rising length.
+//! The search for a shortest chain: steps from receipt to receipt, the shortest chains first.
 //!
 //! The search is breadth first, over one list of steps. A step is a receipt, the place of the step
 //! before it, and how many receipts its chain has. Each step looks each offer up once, by a binary
-//! search among the needs, and comes to all receipts with that need together. The first step of the
+//! search among the needs, and visits all receipts with that need together. The first step of the
 //! document ends the search, and the places before it lead back.
 ghost use Rattle.std.specs.Prelude.{◌≡◌, ◌↔◌, ◌+◌, ◌<◌, ◌≤◌, ◌∷◌, [], Some, IsTrue, IfOk, OnOk};
 ghost use Rattle.std.specs.Prelude.{length, slice_get, slice_set, replicate, reverse, true, false};
@@ -26,7 +26,7 @@ use spiffe_name::TrustDomain;
 use std::alloc::{AllocError, Global};
 use std::marker::Model;
 
-/// A receipt that was come to: the place of the step that led to it, where that was none of a
+/// A receipt that was visited: the place of the step that led to it, if it did not come from a
 /// configured document, and how many receipts the chain to it has.
 #[derive(Drop)]
 pub(crate) struct Step<'a> {
@@ -44,7 +44,7 @@ impl<'a> Model for Step<'a> {
 }
 
 /// Goes from the configured documents on until a step is of the document, and returns the place of
-/// that step, or none where there is none.
+/// that step, or none if there is none.
 pub(crate) fn search<'a>(
     alloc: Global,
     seeds: &[Seed],
@@ -71,7 +71,7 @@ pub(crate) fn search<'a>(
     )
 }
 
-/// So many flags, of which none is raised.
+/// `count` flags, of which none is raised.
 fn lowered(alloc: Global, count: usize) -> Result<Vec<bool>, AllocError>
     ensures { IfOk result (λ flags. flags.items ≡ replicate count false) }
 {
@@ -187,7 +187,7 @@ fn follow_step<'a>(
     )
 }
 
-/// Adds a step for each receipt that needs one of these and that was not come to before.
+/// Adds a step for each receipt that needs one of these and was not visited before.
 fn follow<'a>(
     waiting: &[TrustedReceipt<'a>],
     visited: &mut [bool],
@@ -208,8 +208,8 @@ fn follow<'a>(
     Ok(())
 }
 
-/// Adds a step for each receipt that needs this, unless they were come to before: all that need the
-/// same are come to together.
+/// Adds a step for each receipt that needs this, unless they were visited before: all that need the
+/// same are visited together.
 fn follow_offer<'a>(
     waiting: &[TrustedReceipt<'a>],
     visited: &mut [bool],
@@ -237,7 +237,7 @@ fn follow_offer<'a>(
     Ok(())
 }
 
-/// Whether a receipt stands at the place that needs this and was not come to before.
+/// Whether a receipt is at the place that needs this and was not visited before.
 fn is_due(waiting: &[TrustedReceipt], visited: &[bool], offer: &Triple, place: usize) -> bool
     requires { length visited.now ≡ length waiting.now }
     ensures { IsTrue result ↔ IsEdgeDue waiting.now visited.now offer.now place }

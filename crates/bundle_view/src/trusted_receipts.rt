@@ -53,7 +53,7 @@ impl<'a> TrustedReceipt<'a> {
     }
 }
 
-/// The held receipts whose key is not distrusted in the endpoint's trust domain, rising by what
+/// The held receipts whose key is not distrusted in the endpoint's trust domain, sorted by what
 /// they need.
 pub(crate) fn list_waiting<'a, C: Closure>(
     alloc: Global,

@@ -20,7 +20,7 @@ CountsTo-line (Some xs) (Some ys) (Some zs) n text counted line =
     let one : length (lines_of ys).whole ≡ length (with_line text (lines_of zs)).whole = ap (λ (l : Lines). length l.whole) first in
     omega (arith, counted, one)
 
--- where no line is left, all lines are counted
+-- if no line is left, all lines are counted
 pub CountsTo-rest : (a b : Option (List ℕ)) (n : ℕ) → CountsTo a b n → HasNoLine b → IfSome a (λ xs. n ≡ length (lines_of xs).whole)
 CountsTo-rest None b n counted none = tt
 CountsTo-rest (Some xs) None n counted none = absurd counted

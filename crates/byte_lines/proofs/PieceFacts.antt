@@ -28,7 +28,7 @@ pub AppendsBeginning-second : (a b c : Option (List ℕ)) (first second : List �
 AppendsBeginning-second a b c first second before (count, appended) =
     (length first + count, subst (Appends a c) (sym (take-append-add first second count)) (Appends-trans a b c first _ before appended))
 
--- where the source ended within the limit, all of its bytes were taken
+-- if the source ended within the limit, all of its bytes were taken
 pub TakesUpTo-end : (a b : Option (List ℕ)) (limit : ℕ) (taken : List ℕ) → Consumes a b taken → IsAtEnd b → length taken ≤ limit → TakesUpTo a b limit taken
 TakesUpTo-end None b limit taken consumed end within = tt
 TakesUpTo-end (Some x) None limit taken consumed end within = absurd consumed
@@ -52,7 +52,7 @@ unread-copied bytes shown rest buffer position end count room same is copied =
     ∙ ap (λ l. take count buffer ++ l) (drop-drop count position shown) in
     subst (λ l. drop position l ≡ take count buffer ++ drop (position + count) l) same split
 
--- after a fault of the source it has failed, and out of memory it is as sound as it was
+-- after `Io` the source has failed, and after `NoMemory` it is as sound as it was
 pub failed_or_kept : (T U : Type 0) (error : DeviceError) (new old initial : Bool) → new ≡ is_source_fault {T = T} (Err error)
     → (is_source_fault {T = T} (Err error) ≡ false → old ≡ false) → old ≡ initial → new ≡ (is_source_fault {T = U} (Err error) || initial)
 failed_or_kept T U Io new old initial is sound kept = is

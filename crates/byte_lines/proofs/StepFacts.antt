@@ -37,7 +37,7 @@ too_much false line ahead left place count waiting plain feed is over rest =
 
 -- ---- whole lines that are kept
 
--- `all` was kept at first: what is held now ends it, and a read comes only where nothing is held
+-- `all` was kept at first: what is held now ends it, and a read comes only if nothing is held
 pub unbroken_at_first : (front held filled all : List ℕ) → (held ≡ [] → HasNoFeed all) → (0 < length held → front ++ held ≡ all)
     → (0 < length held → filled ≡ held) → HasNoFeed (front ++ filled) → HasNoFeed all
 unbroken_at_first front [] filled all none same stays plain = none refl
@@ -59,7 +59,7 @@ pub spent_on : (front old new : List ℕ) (before after total : ℕ) → length 
     → length new + after ≤ length old + before → length (front ++ new) + after ≤ total
 spent_on front old new before after total spent less = omega (arith, length-append front old, length-append front new)
 
--- after a fault of the source only that the stream has not grown is claimed
+-- after `Io` only that the stream has not grown is claimed
 pub TakesFound-io : (old new : StreamState) (given : List ℕ) (result : Result Found DeviceError) (e : DeviceError)
     → result ≡ Err e → e ≡ Io → new.bound ≤ old.bound → TakesFound old new given result
 TakesFound-io old new given result e is io spends =

@@ -15,7 +15,7 @@ use Rattle.byte_lines.specs.Inside.Ahead.{AtFeed, IsFeed}
 
 -- ---- the lines of bytes
 
--- a byte that is no line feed goes to the front of equal lines
+-- a byte that is not a line feed goes to the front of equal lines
 with_byte-same : (b : ℕ) (q : Bool) (l m : Lines) → q ≡ false → l ≡ m → with_byte q b l ≡ with_byte false b m
 with_byte-same b q l m plain same = rw (plain, same)
 
@@ -35,7 +35,7 @@ lines_of-rest (b ∷ text) plain =
 
 -- ---- the first line feed
 
--- where a search found no line feed, the bytes have none
+-- if a search found no line feed, the bytes have none
 no_feed : (bytes : List ℕ) (n : ℕ) → n ≤ length bytes → Nowhere (Passes (is_byte 10) bytes) 0 n → HasNoFeed (take n bytes)
 no_feed bytes n within none k d below is =
     let inside : k < n = omega (arith, length-take n bytes) in
@@ -66,7 +66,7 @@ slice_range-passed bytes start end n within =
 
 -- ---- bytes before those of a source
 
--- streams that are the same stay so with the same bytes in front
+-- equal streams are still equal with the same bytes in front
 pub prepend_known-front : (front bs cs : List ℕ) (a b : Option (List ℕ))
     → Keeps (prepend_known bs a) (prepend_known cs b)
     → Keeps (prepend_known (front ++ bs) a) (prepend_known (front ++ cs) b)
@@ -97,7 +97,7 @@ pub record Went (old new : Option (List ℕ)) : Type 0 where
   pub plain : HasNoFeed text
   pub parts : Consumes old new text
 
--- a text was passed also where the stream is then kept
+-- a text was passed, also if the stream is then kept
 pub went_kept : (a b c : Option (List ℕ)) → Went a b → Keeps b c → Went a c
 went_kept a b c went kept = record { text = went.text; plain = went.plain; parts = Consumes-kept a b c went.text went.parts kept }
 
@@ -109,7 +109,7 @@ went_on a b c text went plain passed = record {
   parts = Consumes-trans a b c went.text text went.parts passed;
 }
 
--- all that was read ahead was passed, where it has no line feed
+-- all that was read ahead was passed, if it has no line feed
 pub went_all : (a b : Option (List ℕ)) (bs : List ℕ) → Went a (prepend_known bs b) → HasNoFeed bs → Went a (prepend_known [] b)
 went_all a b bs went plain = went_on a (prepend_known bs b) (prepend_known [] b) bs went plain (Consumes-front bs bs [] b (sym (append-nil bs)))
 
@@ -131,7 +131,7 @@ went_to_feed a b bs place went feed =
           went.parts (feed.plain, Consumes-feed bs front rest b feed.parts),
     )
 
--- a stream has no line where a text without a line feed was taken and no line follows
+-- a stream has no line if a text without a line feed was taken and no line follows
 pub HasNoLine-after : (a b : Option (List ℕ)) (text : List ℕ) → HasNoFeed text → Consumes a b text → HasNoLine b → HasNoLine a
 HasNoLine-after None b text plain passed none = tt
 HasNoLine-after (Some x) None text plain passed none = absurd passed

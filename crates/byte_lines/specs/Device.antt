@@ -1,5 +1,5 @@
--- What the calls over a source or a sink say of its bytes, where the device tells them. `None`
--- stands for a device that cannot tell, and says nothing.
+-- What the calls over a source or a sink say of its bytes, if the device tells them. `None` is for
+-- a device that cannot tell, and says nothing.
 use Rattle.std.specs.Prelude.{◌≡◌, ℕ, List, take, drop, Bool, true, false, ⊤, None, Some, Option}
 use Rattle.std.specs.Prelude.{Ok, Err, Result}
 use Rattle.std.specs.Io.KnownBytes.{Appends}
@@ -10,14 +10,14 @@ use Rattle.byte_lines.specs.declared.error.DeviceError.TheVariants.{Io, NoMemory
 abbrev pub AppendsBeginning : Option (List ℕ) → Option (List ℕ) → List ℕ → Type 0
 AppendsBeginning old new bytes = (count : ℕ) × Appends old new (take count bytes)
 
--- of what remained the first `limit` bytes were taken, or all where there were fewer, and the
--- others remain
+-- the first `limit` bytes of what remained were taken, or all if there were fewer, and the others
+-- remain
 abbrev pub TakesUpTo : Option (List ℕ) → Option (List ℕ) → ℕ → List ℕ → Type 0
 TakesUpTo None new limit taken = ⊤
 TakesUpTo (Some bytes) new limit taken = (taken ≡ take limit bytes)
     × (new ≡ Some (drop limit bytes))
 
--- the source was at fault
+-- the source failed
 abbrev pub is_source_fault : {T : Type 0} → Result T DeviceError → Bool
 is_source_fault (Ok value) = false
 is_source_fault (Err Io) = true

@@ -1,4 +1,4 @@
--- What a caller cites stands in the first seven; `Inside` has what a line buffer does step by step.
+-- What a caller cites is in the first seven; `Inside` has what a line buffer does step by step.
 pub mod Limits
 pub mod Device
 pub mod Lines

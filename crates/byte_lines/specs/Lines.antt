@@ -8,7 +8,7 @@ pub record Lines : Type 0 where
   pub whole : List (List ℕ)
   pub rest : List ℕ
 
--- a byte that is no line feed goes to the front of the first line, or of the rest where there is no
+-- a byte that is not a line feed goes to the front of the first line, or of the rest if there is no
 -- line
 abbrev pub before : ℕ → List (List ℕ) → List ℕ → Lines
 before b [] rest = record { whole = []; rest = b ∷ rest }

@@ -7,7 +7,7 @@ use Rattle.byte_lines.specs.declared.mem_sink.MemSink.{MemSink}
 abbrev pub unread_bytes : MemSource → List ℕ
 unread_bytes source = drop source.position source.bytes.items
 
--- at most so many bytes still come
+-- at most this many bytes still come
 abbrev pub unread_limit : MemSource → ℕ
 unread_limit source = 2 ^ 64 - 1 - source.position
 

@@ -1,6 +1,5 @@
 -- What a call over a `LineBuf` says of the stream: the bytes that the buffer keeps, followed by
--- those that the source still has. Where the source cannot tell them, nothing is said of the
--- stream.
+-- those that the source still has. If the source cannot tell them, nothing is said of the stream.
 use Rattle.std.specs.Prelude.{◌≡◌, ℕ, ◌+◌, ◌<◌, ◌≤◌, ◌++◌, List, [], length, if◌then◌else◌, Option}
 use Rattle.std.specs.Prelude.{Result, IfOk, IsErrOf}
 use Rattle.std.specs.Io.KnownBytes.{Keeps, IsAtEnd, prepend_known}
@@ -20,11 +19,11 @@ kept lines = (if lines.is_given then [] else lines.line.items) ++ ahead_of lines
 abbrev pub stream_of : {S : Type 0} → (S → Option (List ℕ)) → LineBuf → S → Option (List ℕ)
 stream_of remaining lines source = prepend_known (kept lines) (remaining source)
 
--- the stream has at most so many bytes
+-- the stream has at most this many bytes
 abbrev pub left_of : {S : Type 0} → (S → ℕ) → LineBuf → S → ℕ
 left_of budget lines source = length (kept lines) + budget source
 
--- of the stream `old` this is the first line, or its rest, and `new` is what follows
+-- this is the first line of the stream `old`, or its rest, and `new` is what follows
 abbrev pub FindsLine : Option (List ℕ) → Option (List ℕ) → Line → Type 0
 FindsLine old new (Text text) = HasLine old new text.now × (length text.now ≤ line_limit)
 FindsLine old new TooLong = ((text : List ℕ) × HasLine old new text × (line_limit < length text))
@@ -33,9 +32,9 @@ FindsLine old new End = IsAtEnd old × IsAtEnd new
 
 -- a buffer and its source together
 pub record StreamState : Type 0 where
-  -- the stream, where the source can tell its bytes
+  -- the stream, if the source can tell its bytes
   pub bytes : Option (List ℕ)
-  -- the stream has at most so many bytes
+  -- the stream has at most this many bytes
   pub bound : ℕ
 
 abbrev pub state_of_stream : {S : Type 0} → (S → Option (List ℕ)) → (S → ℕ) → LineBuf → S
@@ -51,5 +50,5 @@ pub record TakesLine (old new : StreamState) (result : Result Line DeviceError) 
   pub keeps : IsErrOf result NoMemory → Keeps old.bytes new.bytes
   -- the stream never grows
   pub spends : new.bound ≤ old.bound
-  -- and it shrinks wherever it has not come to its end
+  -- and it shrinks unless it is at its end
   pub falls : IfOk result (λ line. (line ≡ End → ⊥) → new.bound < old.bound)

@@ -1,4 +1,4 @@
-//! How a device, and a call that reads from one, fail.
+//! How a device fails, and a call that reads from one.
 ghost use Rattle.std.specs.Prelude.{◌≡◌};
 ghost use Rattle.byte_lines.specs.declared.error.DeviceError.TheVariants.{Io, NoMemory};
 

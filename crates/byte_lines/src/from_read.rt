@@ -8,8 +8,8 @@ use crate::source::Source;
 use std::io;
 use std::io::Read;
 
-/// A source over a reader of std. Each fault of the reader counts as a failure, an interrupted read
-/// too, and so does a read that would pass 2^64 - 1 bytes in all.
+/// A source over a reader of std. Each error of the reader counts as a failure, also an interrupted
+/// read, and so does a read that would pass 2^64 - 1 bytes in all.
 #[derive(Drop)]
 pub struct FromRead<R> {
     reader: R,

@@ -6,11 +6,11 @@ use crate::sink::Sink;
 use std::io;
 use std::io::Write;
 
-/// A sink over a writer of std. Each fault of the writer counts as a failure, an interrupted write
-/// too, and so does a write of 0 bytes where there were bytes to write.
+/// A sink over a writer of std. Each error of the writer counts as a failure, also an interrupted
+/// write, and so does a write of 0 bytes if there were bytes to write.
 ///
-/// Where the writer keeps bytes back, as a `BufWriter` does, a write may be Ok before the bytes are
-/// out: take the writer back at the end with `into_inner`, and have it put them out.
+/// If the writer keeps bytes back, as a `BufWriter` does, a write may be Ok before the bytes are
+/// out: take the writer back at the end with `into_inner`, and flush it.
 #[derive(Drop)]
 pub struct FromWrite<W> {
     writer: W,
@@ -38,7 +38,7 @@ impl<W: Write> FromWrite<W> {
         self.writer
     }
 
-    // What a write of the writer is to the sink, where there were bytes to write.
+    // What a write of the writer is to the sink, if there were bytes to write.
     fn settle(&mut self, written: io::Result<usize>) -> Result<usize, Fault>
         requires { writer_failed self.old ≡ false }
         ensures outcome { MatchResult written (λ n. OkIff result (0 < n) n) (λ _. IsErr result) }

@@ -1,4 +1,4 @@
-//! A sink that fails after a number of writes, with which a fault in mid-stream is tried.
+//! A sink that fails after a number of writes, to test failures in the middle of a stream.
 ghost use Rattle.std.specs.Prelude.{◌≡◌, ◌==◌, ◌||◌, ◌+◌, ◌<◌, false, length, is_err, IfOk, OnOk};
 ghost use Rattle.std.specs.Io.{WritesAtMost};
 ghost use Rattle.std.specs.Io.KnownBytes.{WriteAppends};

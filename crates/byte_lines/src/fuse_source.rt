@@ -1,4 +1,4 @@
-//! A source that fails after a number of reads, with which a fault in mid-stream is tried.
+//! A source that fails after a number of reads, to test failures in the middle of a stream.
 ghost use Rattle.std.specs.Prelude.{◌≡◌, ◌==◌, ◌||◌, ◌+◌, ◌<◌, ◌≤◌, false, length, take, is_err};
 ghost use Rattle.std.specs.Prelude.{IfOk, OnOk};
 ghost use Rattle.std.specs.Io.{ReadsAtMost};

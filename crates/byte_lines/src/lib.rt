@@ -2,8 +2,9 @@
 //!
 //! A `Source` gives bytes and a `Sink` takes them; there are some over memory and over std's
 //! readers and writers, and some that fail after a number of calls. Unlike std's readers and
-//! writers, a device that failed once stays failed and says so, and a source has less than 2^64
-//! bytes to give. So a call over devices can promise when it reports a fault, and that it ends.
+//! writers, a device that failed once has failed for good and says so, and a source has less than
+//! 2^64 bytes to give. So a call over devices can promise when it reports a failure, and that it
+//! ends.
 //!
 //! A `LineBuf` gives the lines of a source, and `read_up_to` its first bytes. `push_number` and
 //! `push_digits` write numbers and digests for lines that are made.

@@ -31,7 +31,7 @@ pub enum Line<'a> {
 
 /// Gives the lines of a source, one after another. It keeps the bytes that it read ahead, and the
 /// beginning of a line of which it could not read more: at most 8,388,608 bytes and one chunk of
-/// 65,536 bytes. Where the pieces end in which the bytes come means nothing.
+/// 65,536 bytes. How the bytes are cut into pieces means nothing.
 #[derive(Drop)]
 pub struct LineBuf {
     ahead: ReadAhead,
@@ -60,12 +60,12 @@ impl LineBuf {
     }
 
     /// The next line of what is kept followed by what the source still has. Each byte is copied
-    /// once, and of a line that is too long nothing is kept while the rest of it is passed.
+    /// once, and nothing of a line that is too long is kept while the rest of it is passed.
     ///
     /// # Errors
     ///
-    /// `Io` where the source failed and no whole line was kept: the lines that were read before a
-    /// fault are given before it is. After `Io` nothing is said of what remains. `NoMemory` where
+    /// `Io` if the source failed and no whole line was kept: the lines that were read before a
+    /// failure are given before it is. After `Io` nothing is said of what remains. `NoMemory` if
     /// the allocator refused: no byte is lost, and the next call begins at the same line.
     pub fn next_line<R: Source>(&mut self, source: &mut R) -> Result<Line<'_>, DeviceError>
         ensures* takes { sem 𝓛 (IsGivenBack self.entry (λ new. TakesLine
@@ -83,7 +83,7 @@ impl LineBuf {
         }
     }
 
-    // The same without the line itself, which is then the one that was given.
+    // The same, but it leaves the line in `line`.
     fn advance<R: Source>(&mut self, source: &mut R) -> Result<Found, DeviceError>
         ensures takes { TakesFound (state_of_stream R.remaining R.budget self.old source.old)
             (state_of_stream R.remaining R.budget self.new source.new) self.new.line.items result }
@@ -122,8 +122,8 @@ impl LineBuf {
         self.ahead.reserve()
     }
 
-    // Moves what was read ahead to the line, up to the line feed. Of a line that grows too long
-    // nothing is kept.
+    // Moves what was read ahead to the line, up to the line feed. Nothing of a line that grows too
+    // long is kept.
     fn gather(&mut self) -> Result<Gathered, AllocError>
         requires open { self.old.is_given ≡ false }
         ensures gathers { GathersLine self.old self.new result }
@@ -148,7 +148,7 @@ impl LineBuf {
     }
 }
 
-// What `advance` came to.
+// What `advance` found.
 enum Found {
     Text,
     TooLong,
@@ -156,7 +156,7 @@ enum Found {
     End,
 }
 
-// What `gather` came to.
+// What `gather` found.
 enum Gathered {
     // All that was read ahead, and no line feed.
     Part,

@@ -8,7 +8,7 @@ use crate::error::Fault;
 use crate::sink::Sink;
 use std::alloc::{AllocError, Global};
 
-/// A sink in memory with room for this many bytes, made at the start. Of bytes that pass its room
+/// A sink in memory with room for this many bytes, made at the start. If more bytes come than fit,
 /// it takes what fits, and a write into a full one fails.
 #[derive(Drop)]
 pub struct MemSink {
@@ -59,7 +59,7 @@ impl Sink for MemSink {
         ensures fault { overran self.new ≡ is_err result }
         ensures lasting { OnOk result (overran self.old ≡ false) }
 
-        // It takes what fits, and fails only where it was full and there were bytes to write.
+        // It takes what fits, and fails only if it was full and there were bytes to write.
         ensures fitting { IfOk result
             (λ n. n ≡ min (length bytes.now)
             (sink_room self.old - length (written_bytes self.old))) }

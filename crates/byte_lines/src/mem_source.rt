@@ -18,8 +18,8 @@ pub struct MemSource {
 impl MemSource {
     ghost use Rattle.byte_lines.specs.Memory.{unread_bytes};
 
-    /// A source of `bytes` in which no read passes a cut. The cuts are places in the bytes, rising;
-    /// with none of them a read gives all that fits.
+    /// A source of `bytes` in which no read passes a cut. The cuts are places in the bytes, sorted;
+    /// without any a read gives all that fits.
     pub fn new(bytes: Vec<u8>, cuts: Vec<usize>) -> MemSource
         ensures { unread_bytes result ≡ bytes.items }
     {
@@ -30,7 +30,7 @@ impl MemSource {
         }
     }
 
-    // Where the piece ends that the next byte is in.
+    // The end of the piece that the next byte is in.
     fn piece_end(&self) -> usize
         ensures after { self.now.position < vec_len self.now.bytes → self.now.position < result }
         ensures at_least { self.now.position ≤ result }
@@ -68,7 +68,7 @@ impl Source for MemSource {
     }
 }
 
-// Copies as many bytes as both have room for, and returns how many.
+// Copies the bytes that both have room for, and returns how many.
 fn copy_beginning(from: &[u8], to: &mut [u8]) -> usize
     ensures count { result ≡ min (length from.now) (length to.old) }
     ensures copied { to.new ≡ take result from.now ++ drop result to.old }

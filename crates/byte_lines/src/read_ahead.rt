@@ -46,7 +46,7 @@ impl ReadAhead {
         Ok(())
     }
 
-    // Reads once where nothing is held, and returns whether anything is then.
+    // Reads once if nothing is held, and returns whether anything is held then.
     pub(crate) fn fill<R: Source>(&mut self, source: &mut R) -> Result<bool, Fault>
         requires { 0 < chunk_room self.old }
         ensures room { chunk_room self.new ≡ chunk_room self.old }
@@ -79,7 +79,7 @@ impl ReadAhead {
         &all[start..end]
     }
 
-    // Where the first line feed stands.
+    // The place of the first line feed.
     pub(crate) fn line_feed(&self) -> Option<usize>
         ensures { AtFeed (ahead_of self.now) result }
     {
@@ -103,7 +103,7 @@ impl ReadAhead {
         self.start = self.end;
     }
 
-    // Passes the rest of a line. Answers whether a line feed ended it, which is passed too.
+    // Passes the rest of a line. Returns whether a line feed ended it, which is passed too.
     pub(crate) fn skip_line<R: Source>(&mut self, source: &mut R) -> Result<bool, Fault>
         requires { 0 < chunk_room self.old }
         ensures line { IfOk result (λ ended. ended ≡ true → ((text : List ℕ) × HasLine

@@ -9,16 +9,16 @@ use crate::error::Fault;
 
 /// Takes bytes, piece by piece.
 ///
-/// A sink that failed once stays failed.
+/// A sink that failed once has failed for good.
 pub trait Sink {
-    // The bytes that the sink holds, where it knows them.
+    // The bytes that the sink holds, if it knows them.
     ghost contents: { Self → Option (List ℕ) };
 
     // Whether a write failed.
     ghost has_failed: { Self → Bool };
 
     /// Takes a beginning of `bytes`, and returns its length, which is at least 1 for bytes that are
-    /// not empty. A fault takes nothing.
+    /// not empty. If it fails it takes nothing.
     fn write(&mut self, bytes: &[u8]) -> Result<usize, Fault>
         ensures bound { WritesAtMost result bytes.now }
         ensures progress { IfOk result (λ n. 0 < length bytes.now → 0 < n) }
@@ -46,8 +46,8 @@ impl<W: Sink> Sink for &mut W {
     }
 }
 
-/// Writes all of `bytes`, in as many pieces as the sink takes. After a fault the sink has taken a
-/// beginning of `bytes`. Bytes that are empty need no write, so they are Ok at a failed sink too.
+/// Writes all of `bytes`, in the pieces that the sink takes. After a failure the sink has taken a
+/// beginning of `bytes`. Empty bytes need no write, so they are Ok even if the sink has failed.
 pub fn write_all<W: Sink>(sink: &mut W, bytes: &[u8]) -> Result<(), Fault>
     ensures ok { OnOk result (Appends (W.contents sink.old) (W.contents sink.new) bytes.now) }
     ensures beginning { AppendsBeginning (W.contents sink.old) (W.contents sink.new) bytes.now }

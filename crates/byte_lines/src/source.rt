@@ -9,11 +9,11 @@ ghost use Rattle.byte_lines.specs.Device.{TakesUpTo, is_source_fault};
 use crate::error::{DeviceError, Fault};
 use std::alloc::Global;
 
-/// Gives bytes, piece by piece. Where one piece ends and the next begins means nothing.
+/// Gives bytes, piece by piece. How they are cut into pieces means nothing.
 ///
-/// A source that failed once stays failed.
+/// A source that failed once has failed for good.
 pub trait Source {
-    // The bytes that are still to come, where the source knows them.
+    // The bytes that are still to come, if the source knows them.
     ghost remaining: { Self → Option (List ℕ) };
 
     // At most this many bytes still come.
@@ -22,8 +22,9 @@ pub trait Source {
     // Whether a read failed.
     ghost has_failed: { Self → Bool };
 
-    /// Puts the next bytes at the start of `buffer`, and returns how many. Of a buffer that is not
-    /// empty 0 means that the source is at its end. After a fault nothing is said of what remains.
+    /// Puts the next bytes at the start of `buffer`, and returns how many. If the buffer is not
+    /// empty, 0 means that the source is at its end. After a failure nothing is said of what
+    /// remains.
     fn read(&mut self, buffer: &mut [u8]) -> Result<usize, Fault>
         ensures bound { ReadsAtMost result buffer.new }
         ensures consumes { IfOk result
@@ -67,13 +68,13 @@ impl<S: Source> Source for &mut S {
 const CHUNK_SIZE: usize = 65_536;
 
 /// Reads until `limit` bytes are held or the source is at its end, whichever comes first. Fewer
-/// than `limit` bytes mean that the end was reached; of `limit` bytes nothing is known of the end.
+/// than `limit` bytes mean that the end was reached; `limit` bytes say nothing of the end.
 ///
 /// It takes memory for one chunk of at most 65,536 bytes, and for the bytes themselves, whose room
-/// grows as a `Vec` does when it is extended: so by the source's bytes and never by `limit` alone.
+/// grows as a `Vec` does when it is extended: by the source's bytes, and never because of `limit`.
 ///
-/// `Io` is answered where the source failed, and `NoMemory` where the allocator refused. After
-/// either the bytes that were read are lost, and nothing is said of what remains.
+/// `Io` if the source failed, and `NoMemory` if the allocator refused. After either the bytes that
+/// were read are lost, and nothing is said of what remains.
 pub fn read_up_to<R: Source>(
     alloc: Global,
     source: &mut R,
@@ -100,7 +101,7 @@ pub fn read_up_to<R: Source>(
     Ok(taken)
 }
 
-// One read, by way of `chunk`, onto the end of `taken`, which stays within `limit`. Answers how
+// One read, by way of `chunk`, onto the end of `taken`, which is still within `limit`. Returns how
 // many bytes came.
 fn take_piece<R: Source>(
     source: &mut R,

@@ -10,6 +10,7 @@ pub(crate) struct Trials {
     parts: usize,
     step: usize,
     most: usize,
+    offset: usize,
 }
 
 impl Trials {
@@ -21,17 +22,20 @@ impl Trials {
             parts: 1,
             step: 1,
             most: usize::MAX,
+            offset: 0,
         }
     }
 
-    /// `tries PART PARTS STEP MOST`: of all rows those whose number leaves PART when it is divided
-    /// by PARTS, of their allocations each STEPth and the last, and of the places at which a device
-    /// fails MOST at most, evenly spread, and the last.
+    /// `tries PART PARTS STEP MOST OFFSET`: of all rows those whose number leaves PART when it is
+    /// divided by PARTS, and of their allocations each STEPth, from the one behind the first OFFSET
+    /// on. With OFFSET 0 also the last allocation, and of the places at which a device fails MOST
+    /// at most, evenly spread, and the last. So the OFFSETs below STEP together refuse each one.
     pub(crate) fn read(&mut self, words: &str) -> Result<(), Stop> {
         self.part = number_of(words, 0)?;
         self.parts = number_of(words, 1)?;
         self.step = number_of(words, 2)?;
         self.most = number_of(words, 3)?;
+        self.offset = number_of(words, 4)?;
         Ok(())
     }
 
@@ -47,12 +51,14 @@ impl Trials {
 
     /// Whether an allocation is refused, of this many.
     pub(crate) fn has_allocation(&self, number: u64, last: u64) -> bool {
-        number == last || number.saturating_sub(1).checked_rem(self.step as u64) == Some(0)
+        let is_last = number == last && self.offset == 0;
+        let rest = number.saturating_sub(1).checked_rem(self.step as u64);
+        is_last || rest == Some(self.offset as u64)
     }
 
     /// Whether a device fails at a place, of this many.
     pub(crate) fn has_place(&self, place: usize, last: usize) -> bool {
         let step = last.checked_div(self.most).unwrap_or(0).saturating_add(1);
-        place == last || place.checked_rem(step) == Some(0)
+        self.offset == 0 && (place == last || place.checked_rem(step) == Some(0))
     }
 }

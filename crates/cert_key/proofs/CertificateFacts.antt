@@ -1,4 +1,4 @@
--- What is spelled as a certificate is read as that certificate, and what is read is spelled so.
+-- The bytes of a certificate are read as that certificate, and what is read has these bytes.
 use Rattle.std.proofs.Common.{◌≡◌, ℕ, ◌^◌, ◌<◌, cond, eqb, List, [], ◌++◌, length, Option, Some, None, refl, sym, ap, ◌∙◌, arith, ℤ}
 use Rattle.std.specs.Prelude.{IfSome, IsSomeAnd}
 use Rattle.std.proofs.lemmas.Bool.{eqb-true}

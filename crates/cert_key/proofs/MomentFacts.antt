@@ -1,4 +1,4 @@
--- Moments of seconds, and seconds of moments.
+-- Dates and times of seconds, and seconds of dates and times.
 use Rattle.std.specs.Prelude.{nat_le, nat_lt}
 use Rattle.std.proofs.lemmas.Bool.{and_parts, and_from, ltb-true, lt-ltb}
 use Rattle.std.proofs.Common.{◌≡◌, ℕ, ◌+◌, ◌*◌, ◌/◌, ◌%◌, ◌≤◌, ◌<◌, true, refl, sym, subst, ap, ◌∙◌, arith, ℤ, pos, negsuc, ◌+ℤ◌, ◌*ℤ◌, ◌≤ℤ◌, unsigned_abs}
@@ -88,7 +88,7 @@ second_is s m h =
     let r = real_parts m h.real in
     (parts_of_seconds s (days_from_civil (pos m.year) m.month m.day) (second_of m) (second_low m r.time) h.is).1
 
--- a moment has a date
+-- a `Moment` has a date
 pub has_day : (s : ℤ) (m : Moment) → IsMomentOf s m → IsEpochDay (int_div_euclid s (pos 86400))
 has_day s m h =
     let d = date_of m h.year (real_parts m h.real).day in
@@ -103,7 +103,7 @@ not_negative : (y : ℤ) → pos 0 ≤ℤ y → pos (unsigned_abs y) ≡ y
 not_negative (pos n) h = refl
 not_negative (negsuc n) h = absurd (omega (arith, signed_arith, h))
 
--- the moment of a date and a second
+-- the `Moment` of a date and a second
 pub moment_is : (s : ℤ) (d : Date) (second : ℕ) → epoch_day d ≡ int_div_euclid s (pos 86400) → int_rem_euclid s (pos 86400) ≡ pos second
     → second < 86400 → pos 0 ≤ℤ d.year → IsMomentOf s (moment_on d second)
 unfolding unix_seconds
@@ -168,7 +168,7 @@ pub rest_is : (s rest : ℤ) → rest ≡ int_rem_euclid s (pos 86400)
 rest_is s rest e =
     subst (λ (z : ℤ). (int_rem_euclid s (pos 86400) ≡ pos (unsigned_abs z)) × (unsigned_abs z < 86400)) (sym e) (natural_rest s)
 
--- the moment of a time of a certificate
+-- the `Moment` of a time of a certificate
 pub time_moment : (t : Time) → IsTime t → IsMomentOf (unix_seconds (moment_of t)) (moment_of t)
 time_moment (Utc m) h = record { year = omega (arith, h.0.1); real = h.1; is = refl }
 time_moment (Generalized m) h = record { year = h.0; real = h.1; is = refl }

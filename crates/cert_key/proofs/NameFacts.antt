@@ -1,4 +1,4 @@
--- What is spelled as a name is read as that name, and what is read is spelled so.
+-- The bytes of a name are read as that name, and what is read has these bytes.
 use Rattle.std.proofs.Common.{◌≡◌, ℕ, ◌^◌, ◌<◌, cond, List, [], ◌∷◌, ◌++◌, map, reverse, length, flat_map, Option, Some, None, refl, sym, ap, ◌∙◌, subst}
 use Rattle.std.specs.Prelude.{All, option_map}
 use Rattle.std.proofs.lemmas.Bool.{eqb-true}

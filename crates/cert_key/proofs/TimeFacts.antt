@@ -1,4 +1,4 @@
--- What is spelled as a time is read as that time, and what is read is spelled so.
+-- The bytes of a time are read as that time, and what is read has these bytes.
 use Rattle.std.proofs.Common.{◌≡◌, ℕ, ◌+◌, ◌-◌, ◌*◌, ◌/◌, ◌%◌, ◌<◌, ◌≤◌, true, cond, ltb, leb, eqb, ◌&&◌, List, [], ◌∷◌, ◌++◌, length, Some, None}
 use Rattle.std.proofs.Common.{refl, sym, ap, subst, ◌∙◌, arith, inl, inr, ℤ, pos}
 use Rattle.std.proofs.lemmas.Bool.{cases_lt, leb-true, ltb-true, lt-ltb, le-ltb, eqb-true, and_parts}
@@ -45,7 +45,7 @@ digits_take (a ∷ b ∷ bytes) n rest e =
     (same_some ((a - 48) * 10 + (b - 48), bytes) (n, rest) g.1)
     (rw (tens, ones) refl, omega (arith, first.1, second.1))
 
--- ---- moments
+-- ---- dates and times
 
 is_z-true : (bytes : List ℕ) → is_z bytes ≡ true → bytes ≡ 90 ∷ []
 unfolding is_z
@@ -61,12 +61,12 @@ six_parts p q r s t u bytes a b c d e h1 h2 h3 h4 h5 h6 = cc
 told : (y z : ℤ) → some_of y ≡ some_of z → z ≡ y
 told y z e = sym (same_some y z e)
 
--- the moment of these numbers
+-- the `Moment` of these numbers
 abbrev pub moment : ℕ → ℕ × List ℕ → ℕ × List ℕ → ℕ × List ℕ → ℕ × List ℕ → ℕ × List ℕ → Moment
 moment year month day hour minute second =
     record { year = year; month = month.0; day = day.0; hour = hour.0; minute = minute.0; second = second.0 }
 
--- a moment that was read is spelled so, and real
+-- a `Moment` that was read has these bytes, and is real
 pub record MomentTakes (year : ℕ) (bytes : List ℕ) (z : ℤ) (m : Moment) : Type 0 where
   pub same_year : m.year ≡ year
   pub parts : bytes ≡ after_year m
@@ -104,7 +104,7 @@ moment_takes year bytes z e =
       },
     )
 
--- the numbers of a real moment have two digits
+-- the numbers of a real `Moment` have two digits
 pub record IsShown (m : Moment) : Type 0 where
   pub month : m.month < 100
   pub day : m.day < 100

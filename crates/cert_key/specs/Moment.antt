@@ -56,7 +56,7 @@ time (Utc m) = element 23 (digits (m.year % 100) ++ after_year m)
 time (Generalized m) =
     element 24 (digits (m.year / 100) ++ (digits (m.year % 100) ++ after_year m))
 
--- the moment of so many seconds since 1970-01-01T00:00:00Z, in a year from 0 to 9999
+-- the date and time of this many seconds since 1970-01-01T00:00:00Z, in a year from 0 to 9999
 pub record IsMomentOf (seconds : ℤ) (m : Moment) : Type 0 where
   pub year : m.year ≤ 9999
   pub real : is_real m ≡ true
@@ -71,6 +71,6 @@ abbrev pub clock_text : Moment → List ℕ
 clock_text m =
     digits m.hour ++ (codes ":" ++ (digits m.minute ++ (codes ":" ++ digits m.second)))
 
--- a moment in UTC (RFC 3339, section 5.6): YYYY-MM-DDTHH:MM:SSZ
+-- a date and time in UTC (RFC 3339, section 5.6): YYYY-MM-DDTHH:MM:SSZ
 unfoldable pub moment_text : Moment → List ℕ
 moment_text m = date_text m ++ (codes "T" ++ (clock_text m ++ codes "Z"))

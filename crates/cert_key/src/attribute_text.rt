@@ -20,8 +20,8 @@ const PRINTABLE_STRING: u8 = 19;
 /// The tag of an IA5String.
 const IA5_STRING: u8 = 22;
 
-/// The text of an attribute of this type and value, and `None` where the tag has more than one
-/// byte, or the type is not read.
+/// The text of an attribute of this type and value, and `None` if the tag has more than one byte,
+/// or the type is not read.
 pub(crate) fn type_value_text(
     alloc: Global,
     of: &[u8],

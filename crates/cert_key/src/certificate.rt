@@ -29,16 +29,16 @@ pub struct CertParts<'a> {
     pub not_after: i64,
 }
 
-/// What a certificate in DER says of its key, and `None` where the bytes are not of this form (RFC
+/// What a certificate in DER says of its key, and `None` if the bytes are not of this form (RFC
 /// 5280, section 4.1; X.690).
 ///
 /// The bytes are one SEQUENCE. It begins with the SEQUENCE `tbsCertificate`, and that with these:
 /// the version `[0]`, which may be left out, the INTEGER `serialNumber`, and the SEQUENCEs
 /// `signature`, `issuer`, `validity`, `subject` and `subjectPublicKeyInfo`. A validity is two times
 /// and nothing else: a UTCTime `YYMMDDHHMMSSZ`, whose year is from 1950 to 2049, or a
-/// GeneralizedTime `YYYYMMDDHHMMSSZ`. Each is a real moment, and no minute has a second 60. Lengths
-/// are definite, in the fewest bytes and below 2^24, and no element that is read passes the end of
-/// the one that it is in.
+/// GeneralizedTime `YYYYMMDDHHMMSSZ`. Each is a real date and time, and no minute has a second 60.
+/// Lengths are definite, in the fewest bytes and below 2^24, and no element that is read passes the
+/// end of the one that it is in.
 ///
 /// What is after `subjectPublicKeyInfo` and after `tbsCertificate` is not read, nor is what is in
 /// the other fields. No signature is verified.

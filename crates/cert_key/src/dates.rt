@@ -1,4 +1,4 @@
-//! Moments as texts (RFC 3339).
+//! Times as texts (RFC 3339).
 ghost use Rattle.std.specs.Prelude.{◌≡◌, ◌++◌, ◌<◌, IfOk, OnOk, MatchOption};
 ghost use Rattle.std.specs.Prelude.{◌≤ℤ◌, pos, string_bytes};
 ghost use Rattle.std.specs.Fmt.{signed_decimal};
@@ -16,9 +16,9 @@ use std::alloc::{AllocError, Global};
 /// How many seconds a day has.
 const SECONDS_OF_DAY: i64 = 86_400;
 
-/// A moment in seconds since the Unix epoch as a date and a time in UTC, `YYYY-MM-DDTHH:MM:SSZ`
-/// (RFC 3339), if its year is from 0 to 9999, as that of a certificate is. Other moments are in
-/// seconds, in decimal.
+/// A time in seconds since the Unix epoch as a date and a time in UTC, `YYYY-MM-DDTHH:MM:SSZ` (RFC
+/// 3339), if its year is from 0 to 9999, as that of a certificate is. Other times are in seconds,
+/// in decimal.
 ///
 /// # Errors
 /// Memory ran out.
@@ -51,7 +51,7 @@ fn moment_of(seconds: i64) -> Option<Clock>
     }
 }
 
-// The moment, if this is its date.
+// The date and time, if this is the date.
 fn moment_on(seconds: i64, date: Date) -> Option<Clock>
     requires { epoch_day date ≡ int_div_euclid seconds (pos 86_400) }
     ensures { MatchOption result ((m : Moment) → IsMomentOf seconds m → ⊥)

@@ -3,7 +3,8 @@ ghost use Rattle.std.specs.Prelude.{◌≤◌, IfSome, length};
 ghost use Rattle.cert_key.specs.Inside.Reading.{IsReadAs, element_at, field_at, length_at};
 ghost use Rattle.cert_key.specs.Inside.Reading.{one_at, three_at, two_at, view};
 
-/// An element at the front of some bytes: a tag of one byte, a length and so many bytes of content.
+/// An element at the front of some bytes: a tag of one byte, a length and that many bytes of
+/// content.
 #[derive(Clone, Copy, Debug)]
 pub(crate) struct Element<'a> {
     /// The byte that says of which kind it is.
@@ -16,7 +17,7 @@ pub(crate) struct Element<'a> {
     pub(crate) after: &'a [u8],
 }
 
-/// The element at the front, and `None` where no element is there. Its length is definite, in the
+/// The element at the front, and `None` if no element is there. Its length is definite, in the
 /// fewest bytes, and below 2^24.
 #[tactic(auto, unfolding(crate::specs::Inside::Reading::element_at))]
 pub(crate) fn first_element(bytes: &[u8]) -> Option<Element<'_>>
@@ -36,7 +37,7 @@ pub(crate) fn first_element(bytes: &[u8]) -> Option<Element<'_>>
     })
 }
 
-/// The element at the front, where its tag is this one, and else `None`.
+/// The element at the front, if its tag is this one, and else `None`.
 #[tactic(auto, unfolding(crate::specs::Inside::Reading::field_at))]
 pub(crate) fn field_at(tag: u8, bytes: &[u8]) -> Option<Element<'_>>
     ensures { IsReadAs view result (field_at tag bytes.now) }

@@ -34,17 +34,17 @@ impl<'a> Model for Content<'a> {
 }
 
 /// The text of a `Name` in DER, as a certificate has for its subject ([`crate::CertParts`]), and
-/// `None` where the bytes are not of this form (RFC 5280, section 4.1.2.4; X.690).
+/// `None` if the bytes are not of this form (RFC 5280, section 4.1.2.4; X.690).
 ///
 /// The text is that of RFC 4514: from the last RDN to the first with a `,` between two, the
 /// attributes of one in the order of the bytes with a `+` between two, and each a type, a `=` and a
 /// value. The types CN, L, ST, O, OU, C, STREET, DC and UID have these names; others are numbers
 /// with dots between them. The value of a type with a name is itself if it is a UTF8String, a
 /// PrintableString or an IA5String, with a `\` before `"`, `+`, `,`, `;`, `<`, `>` and `\`, before
-/// a space or a `#` that begins it and before a space that ends it; each byte that is no printable
-/// character of ASCII is a `\` and two hexadecimal digits. Each other value is a `#` and its whole
-/// element in hexadecimal. So the text is one line of printable ASCII. A name without an RDN has
-/// the empty text.
+/// a space or a `#` that begins it and before a space that ends it; each byte that is not a
+/// printable character of ASCII is a `\` and two hexadecimal digits. Each other value is a `#` and
+/// its whole element in hexadecimal. So the text is one line of printable ASCII. A name without an
+/// RDN has the empty text.
 ///
 /// The bytes are one SEQUENCE of SETs of at least one SEQUENCE of an OBJECT IDENTIFIER and one
 /// element, each with a tag of one byte and a length as in [`crate::read_certificate`]. The numbers

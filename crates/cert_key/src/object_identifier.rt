@@ -9,8 +9,8 @@ use std::alloc::{AllocError, Global};
 /// A number of more bits is not read.
 const MORE_BITS: u64 = 1 << 56;
 
-/// The text of the object identifier of which these bytes are the content, and `None` where they
-/// are not of its form or a number is 2^63 or more.
+/// The text of the object identifier of which these bytes are the content, and `None` if they are
+/// not of its form or a number is 2^63 or more.
 #[tactic(auto, unfolding(crate::specs::Name::dotted))]
 pub(crate) fn dotted(alloc: Global, content: &[u8]) -> Result<Option<String>, AllocError>
     ensures { IfOk result (λ text. IsReadAs string_bytes text (dotted content.now)) }

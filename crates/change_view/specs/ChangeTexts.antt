@@ -83,8 +83,7 @@ change_members (Pull peer n) = string_member (codes ",\"event\":\"pull\",\"peer\
 
 -- ---- whole lines of the audit file
 
--- The moment comes first, and last what the last line of the change in the journal has as its
--- SHA-256.
+-- The time comes first, and last the SHA-256 of the last line of the change in the journal.
 abbrev pub audit_line : ℕ → HeldChange → List ℕ → List ℕ
 audit_line moment change last = codes "{\"at\":"
     ++ (decimal moment

@@ -4,13 +4,13 @@ use receipt_core::Distrust;
 use sha2::{Digest, Sha256};
 use std::alloc::{AllocError, Global};
 
-/// With what each line of the audit file begins.
+/// How each line of the audit file begins.
 pub const AUDIT_BEGINNING: &[u8] = b"{\"at\":";
 
-/// What a line has that says what is held at a start.
+/// What marks a line that says what is held at a start.
 const START_PART: &[u8] = b",\"event\":\"start\",";
 
-/// What stands before the digest at the end of a line, and after it.
+/// What comes before the digest at the end of a line, and after it.
 const LAST_LABEL: &[u8] = b",\"last\":\"";
 
 const LAST_END: &[u8] = b"\"}";
@@ -27,7 +27,7 @@ pub enum AuditLine {
     Change([u8; 32]),
 }
 
-/// The SHA-256 of the last line of the text, without its line feed; of nothing where it has none.
+/// The SHA-256 of the last line of the text, without its line feed; of nothing if it has no line.
 pub fn last_line_digest(text: &[u8]) -> [u8; 32] {
     let whole = text.strip_suffix(b"\n").unwrap_or(text);
     let begin = match whole.iter().rposition(|byte| *byte == b'\n') {
@@ -37,7 +37,7 @@ pub fn last_line_digest(text: &[u8]) -> [u8; 32] {
     Sha256::digest(&whole[begin..])
 }
 
-/// What the line is, without its line feed, or `None` where it is none of an audit file.
+/// What the line is, without its line feed, or `None` if it is not one of an audit file.
 pub fn read_audit_line(line: &[u8]) -> Option<AuditLine> {
     let members = line.strip_prefix(AUDIT_BEGINNING)?;
     let end = members.iter().position(|byte| !byte.is_ascii_digit())?;

@@ -33,7 +33,7 @@ pub struct ObservedBundle {
     pub domain: TrustDomain,
     /// Its id.
     pub document: DocId,
-    /// Its sequence number, where it has one.
+    /// Its sequence number, if it has one.
     pub sequence: Option<u64>,
     /// The key that authenticated the endpoint.
     pub key: KeyId,

@@ -1,5 +1,5 @@
 //! What is reported of a change to what a replica holds, and how it is written: as an event, and as
-//! a line of the audit file. It knows closures by their trait alone.
+//! a line of the audit file. It knows closures only by their trait.
 //!
 //! `held_change` is what is reported, and `reporting` makes it of what is held after the change and
 //! of the lines that the journal gets for it. `change_texts` writes it. `audit_entries` finds out

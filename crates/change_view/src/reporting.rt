@@ -1,4 +1,4 @@
-//! What is reported of a change: of the lines that the journal gets for it, and of what is held
+//! What is reported of a change, from the lines that the journal gets for it and from what is held
 //! after it.
 ghost use Rattle.std.specs.Prelude.{◌≡◌, ◌++◌, IfOk, codes};
 ghost use Rattle.change_view.specs.Changes.{IsObservedBundle, ReportsObserved, ReportsDistrusted};
@@ -11,7 +11,7 @@ use receipt_core::{Distrust, LineError, Receipt};
 use spiffe_name::TrustDomain;
 use std::alloc::{AllocError, Global};
 
-/// With what the line of a record of distrust begins, and no line of a receipt.
+/// How the line of a record of distrust begins, and no line of a receipt.
 const RECORD_BEGINNING: &[u8] = b"{\"distrust\":";
 
 /// What is reported of a bundle that was observed: the text is what the journal got for it, and the

@@ -6,10 +6,11 @@ use Rattle.fed_config.specs.declared.relationship.Relationship.{Relationship}
 use Rattle.receipt_core.specs.declared.distrust.Distrust.{Distrust}
 use Rattle.receipt_core.specs.Receipt.{Receipt, receipt_cmp, distrust_cmp, pair_of, offers_of}
 use Rattle.receipt_core.specs.Rising.{with_items}
-use Rattle.receipt_core.specs.Acceptance.{IsFitting, Meaning}
+use Rattle.receipt_core.specs.Acceptance.{IsFitting, Meaning, MissesFloor}
 use Rattle.closure_core.specs.declared.error.TakeError.{TakeError}
 use Rattle.closure_core.specs.declared.error.TakeError.TheVariants.{UnknownDomain, WrongEndpoint}
-use Rattle.closure_core.specs.declared.error.TakeError.TheVariants.{Full, NoMemory, ConfigDiffers}
+use Rattle.closure_core.specs.declared.error.TakeError.TheVariants.{BelowFloor, Full, NoMemory}
+use Rattle.closure_core.specs.declared.error.TakeError.TheVariants.{ConfigDiffers}
 use Rattle.receipt_core.specs.Limits.{receipt_limit, record_limit}
 
 -- for how many receipts, and for how many offers of theirs, there is memory already
@@ -37,10 +38,19 @@ pub record IsOfWrongEndpoint (c : Configuration) (r : Receipt) : Type 0 where
   pub domain : relationship.domain ≡ r.domain
   pub other : relationship.endpoint ≡ r.endpoint → ⊥
 
+-- it has one with the receipt's endpoint, and the document is below the floor of the domain
+pub record IsBelowFloor (c : Configuration) (r : Receipt) : Type 0 where
+  pub relationship : Relationship
+  pub has : Contains c.relationships relationship
+  pub domain : relationship.domain ≡ r.domain
+  pub endpoint : relationship.endpoint ≡ r.endpoint
+  pub misses : MissesFloor c r.domain r.document
+
 -- The receipt does not fit, and this is why.
 abbrev pub RefusesFit : Configuration → Receipt → TakeError → Type 0
 RefusesFit c r UnknownDomain = IsOfUnknownDomain c r
 RefusesFit c r WrongEndpoint = IsOfWrongEndpoint c r
+RefusesFit c r BelowFloor = IsBelowFloor c r
 RefusesFit c r _ = ⊥
 
 -- ---- one receipt
@@ -65,6 +75,7 @@ pub record WantsMemory (m : Meaning) (room : Room) (r : Receipt) : Type 0 where
 abbrev pub RefusesReceipt : Meaning → Room → Receipt → TakeError → Type 0
 RefusesReceipt m room r UnknownDomain = IsOfUnknownDomain m.config r
 RefusesReceipt m room r WrongEndpoint = IsOfWrongEndpoint m.config r
+RefusesReceipt m room r BelowFloor = IsBelowFloor m.config r
 RefusesReceipt m room r Full = IsOneTooMany m r
 RefusesReceipt m room r NoMemory = WantsMemory m room r
 RefusesReceipt m room r _ = ⊥
@@ -109,6 +120,10 @@ HasUnknownDomain m other = ((r : Receipt) × Contains other.held r × IsOfUnknow
 abbrev pub HasWrongEndpoint : Meaning → Meaning → Type 0
 HasWrongEndpoint m other = (r : Receipt) × Contains other.held r × IsOfWrongEndpoint m.config r
 
+-- A receipt of the other is below a floor of this configuration.
+abbrev pub HasBelowFloor : Meaning → Meaning → Type 0
+HasBelowFloor m other = (r : Receipt) × Contains other.held r × IsBelowFloor m.config r
+
 -- Both together are more than one holds.
 abbrev pub AreTooMany : Meaning → Meaning → Type 0
 AreTooMany m other = (receipt_limit < length (all_receipts m other)) ⊎ (record_limit
@@ -127,6 +142,8 @@ abbrev pub RefusesMerge : Meaning → Meaning → TakeError → Type 0
 RefusesMerge m other UnknownDomain = HasSameDigest m other × HasUnknownDomain m other
 RefusesMerge m other WrongEndpoint = HasSameDigest m other × (HasUnknownDomain m other → ⊥)
     × HasWrongEndpoint m other
+RefusesMerge m other BelowFloor = HasSameDigest m other × (HasUnknownDomain m other → ⊥)
+    × (HasWrongEndpoint m other → ⊥) × HasBelowFloor m other
 RefusesMerge m other Full = IsOfConfig m other × AreTooMany m other
 RefusesMerge m other NoMemory = WantsCopies m other
 RefusesMerge m other ConfigDiffers = HasSameDigest m other → ⊥

@@ -64,6 +64,7 @@ pub trait Closure: Drop {
     /// - [`TakeError::UnknownDomain`]: the configuration has no relationship with the receipt's
     ///   domain,
     /// - [`TakeError::WrongEndpoint`]: that relationship has another endpoint,
+    /// - [`TakeError::BelowFloor`]: the receipt's document is below the floor of its domain,
     /// - [`TakeError::Full`]: the receipt is not held, and 65,536 are,
     /// - [`TakeError::NoMemory`]: memory ran out. Never where the receipt and its offers are within
     ///   [`Closure::room`].
@@ -74,12 +75,13 @@ pub trait Closure: Drop {
     /// many receipts were not held. It uses up no more room than these and their offers.
     ///
     /// # Errors
-    /// What is held stays. `ConfigDiffers` comes first; of the others the first that holds:
+    /// What is held is as before. `ConfigDiffers` comes first; of the others the first that holds:
     /// - [`TakeError::ConfigDiffers`]: the other's configuration has another digest,
     /// - [`TakeError::UnknownDomain`]: the configuration, which then is another one of the same
     ///   digest, has no relationship with the domain of a receipt of the other, or does not have
     ///   the domain of a record of the other,
-    /// - [`TakeError::WrongEndpoint`]: the same of the endpoint of a receipt,
+    /// - [`TakeError::WrongEndpoint`]: it has another endpoint for the domain of a receipt,
+    /// - [`TakeError::BelowFloor`]: it has a floor that the document of a receipt does not reach,
     /// - [`TakeError::Full`]: there would be more than 65,536 receipts, or more than 4,096 records,
     /// - [`TakeError::NoMemory`]: memory ran out.
     fn merge(&mut self, other: &Self) -> Result<usize, TakeError>
@@ -88,7 +90,7 @@ pub trait Closure: Drop {
     /// Distrusts a key in a domain: it vouches for nothing there any more. It takes no memory.
     ///
     /// # Errors
-    /// What is held stays. Of these the first that holds:
+    /// What is held is as before. Of these the first that holds:
     /// - [`TakeError::UnknownDomain`]: the domain is none of the configuration,
     /// - [`TakeError::Full`]: the record is not held, and 4,096 are.
     fn distrust(&mut self, domain: &TrustDomain, key: KeyId) -> Result<Distrusted, TakeError>

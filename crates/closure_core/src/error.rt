@@ -12,6 +12,10 @@ pub enum TakeError {
     /// The relationship with the receipt's domain has another endpoint.
     #[error("G2 WrongEndpoint")]
     WrongEndpoint,
+    /// The document of the receipt is below the floor of its domain: its sequence number is lower,
+    /// or it has none.
+    #[error("G6 BelowFloor")]
+    BelowFloor,
     /// 65,536 receipts, or 4,096 records of distrust, are the most that are held.
     #[error("G3 Full")]
     Full,

@@ -85,7 +85,7 @@ onto-all : {Y : Type 0} (P : Y → Type 0) (o : Option Y) (ys : List Y) → ((y 
 onto-all P None ys head all = all
 onto-all P (Some y) ys head all = (head y refl, all)
 
--- An option's item that stands before a rising list makes it rise still.
+-- An option's item that comes before a sorted list makes it rise still.
 onto-sorted : (o : Option Bundle) (ds : List Bundle)
     → ((d : Bundle) → o ≡ Some d → AllByRecursion (λ e. document_cmp d e ≡ Less) ds)
     → IsStrictlySortedBy document_cmp ds → IsStrictlySortedBy document_cmp (cons_option o ds)
@@ -94,7 +94,7 @@ onto-sorted None ds head rest = rest
 onto-sorted (Some d) ds head rest = (head d refl, rest)
 
 module _ (pairs : List Pair) (flags : List Bool) where
-  -- A document that stands before those of all the numbers stands before all that are shown.
+  -- A document that comes before those of all the numbers comes before all that are shown.
   below : (d : Bundle) (ns : List ℕ) → All (λ n. document_cmp d (pair_at pairs n).document ≡ Less) ns
       → AllByRecursion (λ e. document_cmp d e ≡ Less) (raised_documents pairs flags ns)
   below d [] all = tt
@@ -109,7 +109,7 @@ module _ (pairs : List Pair) (flags : List Bool) where
   unfolding IsStrictlySortedBy
   sorted-empty = tt
 
-  -- Where the documents of the numbers rise, those that are shown do.
+  -- If the documents of the numbers rise, those that are shown do.
   sorted : (ns : List ℕ) → AllPairs (λ i j. document_cmp (pair_at pairs i).document (pair_at pairs j).document ≡ Less)
       ns → IsStrictlySortedBy document_cmp (raised_documents pairs flags ns)
   sorted [] rise = sorted-empty
@@ -141,13 +141,13 @@ index-most Less = omega arith
 index-most Equal = omega arith
 index-most Greater = omega arith
 
--- A domain before another stands to the one that is sought no later than that.
+-- Compared with a sought domain, the first of two sorted domains comes no later than the second.
 domain-rises : (a b x : List ℕ) → domain_cmp a b ≡ Less → (o : Ordering) → domain_cmp b x ≡ o → ordering_index (domain_cmp a x) ≤ ordering_index o
 domain-rises a b x l Less e = let f : domain_cmp a x ≡ Less = nat_list_cmp_total.trans a b x l e in omega (arith, ap ordering_index f)
 domain-rises a b x l Equal e = let f : domain_cmp a x ≡ Less = ap (domain_cmp a) (sym (exact_bytes b x e)) ∙ l in omega (arith, ap ordering_index f)
 domain-rises a b x l Greater e = index-most (domain_cmp a x)
 
--- A pair before another stands to the domain that is sought no later than that.
+-- Compared with a sought domain, the first of two sorted pairs comes no later than the second.
 pair-rises : (p q : Pair) (x : List ℕ) → pair_cmp p q ≡ Less → ordering_index (domain_cmp p.domain x) ≤ ordering_index (domain_cmp q.domain x)
 pair-rises p q x e = elim (then-less (domain_cmp p.domain q.domain) (document_cmp p.document q.document) e) [
   | inl l ↦ domain-rises p.domain q.domain x l (domain_cmp q.domain x) refl

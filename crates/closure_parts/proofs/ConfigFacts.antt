@@ -91,14 +91,14 @@ name_has c d has = elim has [
       ])
 ]
 
--- Each domain of the rising list is among the names.
+-- Each domain of the sorted list is among the names.
 in_names : (c : Configuration) (d : List ℕ) → Contains (domains_of c) d → Contains (names_of c) d
 in_names c d has = elim (with_items_has nat_list_cmp_total (names_of c) [] d has) [
   | inl here ↦ here
   | inr none ↦ absurd (contains_none d none)
 ]
 
--- The rising list has exactly the domains of the configuration.
+-- The sorted list has exactly the domains of the configuration.
 pub are_domains : (c : Configuration) → AreDomains c (domains_of c)
 are_domains c = record {
   rising = with_items_rising nat_list_cmp_total (names_of c) [] none_rising;
@@ -132,7 +132,7 @@ get_some (y ∷ ys) (suc n) x d e = get_some ys n x d e
 pub place_below : (c : Configuration) (domain : List ℕ) (n : ℕ) → IsPlace c domain (Some n) → n < length (domains_of c)
 place_below c domain n at = below_some (domains_of c) n domain (at (domains_of c) (are_domains c))
 
--- At a domain's place stands the domain.
+-- The domain is at its place.
 pub place_is : (c : Configuration) (domain : List ℕ) (n : ℕ) → IsPlace c domain (Some n) → get_or (domains_of c) n [] ≡ domain
 place_is c domain n at = get_some (domains_of c) n domain [] (at (domains_of c) (are_domains c))
 
@@ -160,7 +160,7 @@ domain_text c is d has = elim has [
   ]
 ]
 
--- The number of a record stands for a domain of the configuration.
+-- The number of a record is that of a domain of the configuration.
 own_domain : (c : Configuration) (r : Record) → r.domain < length (domains_of c) → HasDomain c (get_or (domains_of c) r.domain [])
 own_domain c r below = (are_domains c).sound (get_or (domains_of c) r.domain []) (Contains-get_or (domains_of c) r.domain [] below)
 
@@ -218,7 +218,7 @@ no_bucket_rises = tt
 arranges_none : Arranges [] 0
 arranges_none = record { counted = refl; within = λ k d h. absurd (omega arith); each = λ n h. absurd (omega arith) }
 
--- No receipts are in the order of buckets, where that is kept and empty.
+-- If the order of buckets is kept and empty, no receipts are in it.
 none_bucketed : (buckets : Option Sequence) → IfSome buckets (λ order. order.items ≡ []) → IfSome buckets (AreBucketed [])
 none_bucketed None empty = tt
 none_bucketed (Some order) empty = record {
@@ -316,7 +316,7 @@ added_or_refused c held old new x below within Added h =
 
 -- ---- whether a record is held
 
--- A record is held by its number exactly where its record of distrust is held.
+-- A record is held by its number exactly if its record of distrust is held.
 pub distrust_held : (c : Configuration) (records : List Record) (x : Record) (b : Bool)
     → x.domain < length (domains_of c) → AreWithin (length (domains_of c)) records → (IsTrue b ↔ Contains records x)
     → IsTrue b ↔ Contains (distrusts_of (domains_of c) records) (distrust_by (domains_of c) x)

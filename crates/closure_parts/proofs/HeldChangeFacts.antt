@@ -24,11 +24,11 @@ pairs-push seeds arrived r = ap (λ ps. map pair_of_seed seeds ++ ps) (map_push 
     ∙ sym (append_assoc (map pair_of_seed seeds) (map pair_of arrived) (pair_of r ∷ []))
 
 module _ (seeds : List Seed) (arrivals : List Receipt) where
-  -- A configured document stands at its own number.
+  -- A configured document is at its own number.
   pub pair-of_seed_node : (n : ℕ) (s : Seed) → slice_get seeds n ≡ Some s → slice_get (pairs_of seeds arrivals) n ≡ Some (pair_of_seed s)
   pair-of_seed_node n s at = slice_get-left (map pair_of_seed seeds) (map pair_of arrivals) n (pair_of_seed s) (slice_get-map_at pair_of_seed seeds n s at)
 
-  -- A receipt's document stands after the configured ones, in order of arrival.
+  -- A receipt's document comes after the configured ones, in order of arrival.
   pub pair-of_receipt_node : (k : ℕ) (r : Receipt) → slice_get arrivals k ≡ Some r → slice_get (pairs_of seeds arrivals) (length seeds + k) ≡ Some (pair_of r)
   pair-of_receipt_node k r at =
       ap (λ n. slice_get (pairs_of seeds arrivals) (n + k)) (sym (length-map seeds pair_of_seed))
@@ -65,7 +65,7 @@ same-more h r valid form same s =
       λ c. m.1 (elim (Contains-push_cases h.arrived r s c) [ inl d ↦ inr ((same s).1 d) | inr e ↦ inl e ]),
     )
 
--- the hoard with these records besides
+-- the hoard with these records added
 abbrev pub with_mistrust : HeldReceipts → List Distrust → ℕ → HeldReceipts
 with_mistrust h more capacity = record {
   config = h.config;
@@ -96,7 +96,7 @@ hoard-same old new meaning arrived capacity =
     ∙ ap (λ a. let h : HeldReceipts = record { config = old.config; arrived = a; held = old.held; records = old.records; capacity = new.capacity } in h) arrived
     ∙ ap (λ n. let h : HeldReceipts = record { config = old.config; arrived = old.arrived; held = old.held; records = old.records; capacity = n } in h) capacity
 
--- A record that was added is the one that the new hoard has besides.
+-- A record that was added is the one that the new hoard has more.
 pub before-added : (old new : HeldReceipts) (x : Distrust) → HasAdded (meaning_of old) x (meaning_of new)
     → new.arrived ≡ old.arrived → IsBefore old (x ∷ []) new
 before-added old new x a arrived = record {
@@ -106,7 +106,7 @@ before-added old new x a arrived = record {
   records = ap (λ (m : Meaning). m.records) a.meaning;
 }
 
--- all records were held, where nothing has changed
+-- all records were held, if nothing has changed
 pub all-old : (old new : Meaning) (records : List Distrust)
     → new ≡ record old { records = with_items distrust_cmp records old.records } → new ≡ old
     → AreOld old records

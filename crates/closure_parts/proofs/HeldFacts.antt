@@ -33,7 +33,7 @@ use Rattle.closure_core.specs.Refusals.{RefusesFit}
 use Rattle.closure_parts.specs.Held.{IsWellHeld, AreBucketed, bucket_of, bucket_cmp, RefusesNew}
 use Rattle.closure_core.specs.AcceptedList.{is_in_bucket, receipts_in}
 use Rattle.closure_core.specs.declared.error.TakeError.{TakeError}
-use Rattle.closure_core.specs.declared.error.TakeError.TheVariants.{UnknownDomain, WrongEndpoint, Full, NoMemory, ConfigDiffers}
+use Rattle.closure_core.specs.declared.error.TakeError.TheVariants.{UnknownDomain, WrongEndpoint, BelowFloor, Full, NoMemory, ConfigDiffers}
 use Rattle.closure_core.proofs.ContainsFacts.{contains_first, contains_later, contains_none, contains_cases}
 use Rattle.closure_core.specs.declared.record.Record.{Record}
 use Rattle.closure_parts.proofs.RecordFacts.{split_lacks}
@@ -74,7 +74,7 @@ found_held stock r number all is found =
 pub missing_lacks : (xs : List Receipt) (r : Receipt) (place : ℕ) → IsMissing (λ s. receipt_cmp s r) xs place → Contains xs r → ⊥
 missing_lacks xs r place missing has = split_lacks receipt_total xs r place missing.before missing.after has
 
--- A receipt that is not found is added by putting it where the search ended.
+-- A receipt that is not found is added by putting it at the end of the search.
 pub missing_inserts : (xs : List Receipt) (r : Receipt) (place : ℕ) → IsMissing (λ s. receipt_cmp s r) xs place → with_receipt r xs ≡ insert xs place r
 missing_inserts xs r place missing = with_item_at receipt_total r xs place missing.within missing.before missing.after
 
@@ -86,7 +86,7 @@ finds_held stock r (Err place) all is missing = (λ t. absurd (cc), λ has. absu
 
 -- ---- what is so of the items in their order is so of each
 
--- What is read within the list stands there.
+-- What is read within the list is there.
 slice_get_at : {X : Type 0} (xs : List X) (k : ℕ) (d : X) → k < length xs → slice_get xs k ≡ Some (get_or xs k d)
 slice_get_at [] k d below = absurd (omega arith)
 slice_get_at (y ∷ ys) zero d below = refl
@@ -219,6 +219,7 @@ hoard_more c stock new buckets newer records r place hoard is fits few missing i
 pub misfit_repels : (m : Meaning) (r : Receipt) (why : TakeError) → RefusesFit m.config r why → RefusesNew m r why
 misfit_repels m r UnknownDomain h = h
 misfit_repels m r WrongEndpoint h = h
+misfit_repels m r BelowFloor h = h
 misfit_repels m r Full h = absurd h
 misfit_repels m r NoMemory h = absurd h
 misfit_repels m r ConfigDiffers h = absurd h
@@ -254,7 +255,7 @@ equal_is x y = grind (arith, nat_tests)
 from_equal : (x y : ℕ) → (x == y) ≡ true → x ≡ y
 from_equal x y e = grind (arith, nat_tests)
 
--- Within one bucket, what stands before others by bucket stands before them by line.
+-- Within one bucket, what comes before others by bucket comes before them by line.
 below_one : (b : ℕ) (x : Receipt) (xs : List Receipt) → bucket_of x ≡ b → AllByRecursion (λ r. bucket_of r ≡ b) xs
     → AllByRecursion (λ y. bucket_cmp x y ≡ Less) xs → AllByRecursion (λ y. receipt_cmp x y ≡ Less) xs
 below_one b x [] here all below = tt
@@ -300,7 +301,7 @@ picked_in items numbers y has =
     (picked_all (Contains items) items (recursion_from_All (Contains items) items (All-contains_itself items)) numbers)
     has
 
--- Each item is picked where the order has all numbers.
+-- Each item is picked if the order has all numbers.
 in_picked : (items : List Receipt) (order : List ℕ) (y : Receipt) → Arranges order (length items) → Contains items y → Contains (picked items order) y
 in_picked items order y arranged has =
     each_has (Contains (picked items order)) items y

@@ -23,59 +23,20 @@ use Rattle.closure_core.specs.Changes.{HeldAndRoom, Takes, HasMerged, HasMergedI
 use Rattle.closure_parts.specs.Held.{AddsRecord, AddsOrRefuses}
 use Rattle.closure_parts.specs.declared.records.Insertion.{Insertion}
 use Rattle.closure_parts.specs.declared.records.Insertion.TheVariants.{Added, There, Full as NoPlace}
-use Rattle.closure_core.specs.Refusals.{offers_count, Room, IsRoomier, IsOfWrongEndpoint, RefusesReceipt, RefusesDistrust, RefusesMerge, WantsCopies}
+use Rattle.closure_core.specs.Refusals.{offers_count, Room, IsRoomier, RefusesReceipt, RefusesDistrust, RefusesMerge, WantsCopies}
 use Rattle.closure_core.specs.Refusals.{all_records, all_receipts}
 use Rattle.closure_parts.specs.Merge.{IsMergePlan, AreKnown, FitWithinRoom, HasSpentOn, AreOld, HasNewRecord}
 use Rattle.closure_parts.proofs.HeldChangeFacts.{all-old}
 use Rattle.closure_parts.specs.declared.copies.MergePlan.{MergePlan}
 use Rattle.closure_core.specs.declared.error.TakeError.{TakeError}
-use Rattle.closure_core.specs.declared.error.TakeError.TheVariants.{UnknownDomain, WrongEndpoint, Full, NoMemory, ConfigDiffers}
+use Rattle.closure_core.specs.declared.error.TakeError.TheVariants.{UnknownDomain, WrongEndpoint, BelowFloor, Full, NoMemory, ConfigDiffers}
 use Rattle.closure_core.specs.declared.outcome.Refused.{Refused}
 use Rattle.closure_core.specs.declared.outcome.Taken.{Taken}
 use Rattle.closure_core.specs.declared.outcome.Taken.TheVariants.{New as TakenNew, Already as TakenAlready}
 use Rattle.closure_core.proofs.ContainsFacts.{contains_first, contains_later, contains_none, contains_cases}
+use Rattle.closure_core.proofs.FitFacts.{fits_known, fits_right, fits_above}
 use Rattle.closure_core.proofs.RisingFacts.{with_item_longer, each_has}
 use Rattle.closure_core.proofs.UnionFacts.{receipt_sets, record_sets, always}
-
--- ---- a domain has one relationship
-
--- A rising list of relationships has only one with a domain.
-same_relationship : (xs : List Relationship) (a b : Relationship) → IsStrictlySortedBy relationship_cmp xs
-    → Contains xs a → Contains xs b → a.domain ≡ b.domain → a ≡ b
-same_relationship [] a b rising has holds e = absurd (contains_none a has)
-same_relationship (x ∷ xs) a b rising has holds e =
-    let tied : relationship_cmp a b ≡ Equal =
-    ap (λ d. relationship_cmp a (record b { domain = d })) (sym e)
-    ∙ tied_itself (on_texts (λ (r : Relationship). r.domain)) a in
-    let back : relationship_cmp b a ≡ Equal =
-    ap (λ d. relationship_cmp b (record a { domain = d })) e
-    ∙ tied_itself (on_texts (λ (r : Relationship). r.domain)) b in
-    elim (contains_cases x xs a has) [
-      | inl first ↦ elim (contains_cases x xs b holds) [
-        | inl here ↦ sym first ∙ here
-        | inr later ↦
-            let below : relationship_cmp a b ≡ Less =
-            subst (λ (r : Relationship). relationship_cmp r b ≡ Less) first
-            (each_has (λ y. relationship_cmp x y ≡ Less) xs b (sorted_head relationship_cmp x xs rising) later) in
-            absurd (cc)
-      ]
-      | inr after ↦ elim (contains_cases x xs b holds) [
-        | inl here ↦
-            let below : relationship_cmp b a ≡ Less =
-            subst (λ (r : Relationship). relationship_cmp r a ≡ Less) here
-            (each_has (λ y. relationship_cmp x y ≡ Less) xs a (sorted_head relationship_cmp x xs rising) after) in
-            absurd (cc)
-        | inr later ↦ same_relationship xs a b (sorted_tail relationship_cmp x xs rising) after later e
-      ]
-    ]
-
--- A receipt that fits has no wrong endpoint.
-fits_right : (c : Configuration) (r : Receipt) → IsConfiguration c → IsFitting c r → IsOfWrongEndpoint c r → ⊥
-fits_right c r is fits wrong =
-    let one : fits.relationship ≡ wrong.relationship =
-    same_relationship c.relationships fits.relationship wrong.relationship is.rising_relationships fits.has
-    wrong.has (fits.domain ∙ sym wrong.domain) in
-    wrong.other (sym (ap (λ (x : Relationship). x.endpoint) one) ∙ fits.endpoint)
 
 -- A list of length 0 is empty.
 pub none_left : {X : Type 0} (xs : List X) → length xs ≡ 0 → xs ≡ []
@@ -84,7 +45,7 @@ none_left (x ∷ xs) e = absurd (omega arith)
 
 -- ---- sets grow
 
--- One step of `with_item_grows`, for each way the item stands to the first.
+-- One step of `with_item_grows`, for each way the item compares with the first.
 placed_grows : {X : Type 0} (o : Ordering) (x h : X) (t longer : List X) → length t ≤ length longer → length t + 1 ≤ length (placed o x h t longer)
 placed_grows Less x h t longer rest = omega arith
 placed_grows Equal x h t longer rest = omega arith
@@ -177,10 +138,9 @@ took start now new all later r is joining TakenAlready h =
 -- No receipt that is left is refused, since it fits and there is room.
 never : (start now : HeldAndRoom) (all later : List Receipt) (r : Receipt) → IsConfiguration now.meaning.config
     → IsJoining start now all (r ∷ later) → (why : TakeError) → RefusesReceipt now.meaning now.room r why → ⊥
-never start now all later r is joining UnknownDomain h =
-    let fits : IsFitting now.meaning.config r = joining.welcome.fitting r (contains_first r later) in
-    h fits.relationship fits.has fits.domain
+never start now all later r is joining UnknownDomain h = fits_known now.meaning.config r (joining.welcome.fitting r (contains_first r later)) h
 never start now all later r is joining WrongEndpoint h = fits_right now.meaning.config r is (joining.welcome.fitting r (contains_first r later)) h
+never start now all later r is joining BelowFloor h = fits_above now.meaning.config r (joining.welcome.fitting r (contains_first r later)) h
 never start now all later r is joining Full h =
     let few = joining.welcome.few in
     let full = h.full in
@@ -207,7 +167,7 @@ IsJoining-next start now new m all rest later r result same is form joining e h 
     (subst (λ (k : Meaning). IsConfiguration k.config) same form) (subst (IsJoining start now all) e joining) result
     h
 
--- Where none is left, all are held.
+-- If none is left, all are held.
 pub IsJoining-end : (start now : HeldAndRoom) (all rest : List Receipt) → IsJoining start now all rest → rest ≡ []
     → now.meaning ≡ record start.meaning { held = with_items receipt_cmp all start.meaning.held }
 IsJoining-end start now all rest joining e =
@@ -278,6 +238,7 @@ never_distrusts : (start now : Meaning) (all later : List Distrust) (x : Distrus
     → IsDistrusting start now all (x ∷ later) → (why : TakeError) → RefusesDistrust now x why → ⊥
 never_distrusts start now all later x joining UnknownDomain h = h (joining.known.domains x (contains_first x later))
 never_distrusts start now all later x joining WrongEndpoint h = h
+never_distrusts start now all later x joining BelowFloor h = h
 never_distrusts start now all later x joining Full h =
     let few = joining.known.few in
     let full = h.full in
@@ -310,7 +271,7 @@ IsDistrusting-next start now new all rest later x result is joining e h =
     distrusts_next start now new all later x is (subst (IsDistrusting start now all) e joining)
     result h
 
--- Where none is left, all are held.
+-- If none is left, all are held.
 pub IsDistrusting-end : (start now : Meaning) (all rest : List Distrust)
     → IsDistrusting start now all rest → rest ≡ []
     → now ≡ record start { records = with_items distrust_cmp all start.records }
@@ -325,7 +286,8 @@ IsDistrusting-end start now all rest joining e =
 abbrev pub HasGrown : Meaning → List Distrust → Meaning → Type 0
 HasGrown start all now = (HasNewRecord start all × (length start.records < length now.records)) ⊎ (now ≡ start)
 
--- More records than now are more than at the start, and where these are the first ones, the added one is new.
+-- More records than now are more than at the start, and if these are the first ones, the added one
+-- is new.
 grows_to : (start now new : Meaning) (all : List Distrust) (x : Distrust) → Contains all x → (Contains now.records x → ⊥)
     → length now.records < length new.records → HasGrown start all now → HasGrown start all new
 grows_to start now new all x among unheld longer (inl more) = inl (more.0, omega (arith, more.1, longer))
@@ -338,7 +300,7 @@ grows_to start now new all x among unheld longer (inr same) = inl (
 stays_as : (start now new : Meaning) (all : List Distrust) → new ≡ now → HasGrown start all now → HasGrown start all new
 stays_as start now new all same grown = subst (HasGrown start all) (sym same) grown
 
--- Each record makes them more or changes nothing, so a close is needed only where they are more.
+-- Each record makes them more or changes nothing, so a close is needed only if they are more.
 pub grown_next : (start now new : Meaning) (all : List Distrust) (x : Distrust) (result : Result Insertion TakeError)
     → Contains all x → AddsOrRefuses now x new result → HasGrown start all now → HasGrown start all new
 grown_next start now new all x (Ok Added) among h grown =
@@ -349,7 +311,7 @@ grown_next start now new all x (Ok There) among h grown = stays_as start now new
 grown_next start now new all x (Ok NoPlace) among h grown = absurd h
 grown_next start now new all x (Err why) among h grown = stays_as start now new all h.1 grown
 
--- Where fewer may come than at the start one of all is new, and else all were held.
+-- If fewer may come than at the start, one of all is new. Otherwise all were held.
 pub grown_tells : (start now : Meaning) (all : List Distrust) (before after limit : ℕ) → HasGrown start all now
     → now ≡ record start { records = with_items distrust_cmp all start.records } → length start.records + before ≡ limit
     → length now.records + after ≡ limit → MatchBool (ltb after before) (HasNewRecord start all) (AreOld start all)
@@ -432,7 +394,7 @@ placed_sum f Greater x h t longer e rest =
     let more = rest (omega (arith, e)) in
     omega (arith, more, sum_by-cons f h longer, sum_by-cons f h t)
 
--- where a set is longer with an item, its sum is greater by the item's
+-- if a set is longer with an item, its sum is greater by the item's
 with_item_sum : {X : Type 0} (f : X → ℕ) (cmp : X → X → Ordering) (x : X) (xs : List X)
     → length (with_item cmp x xs) ≡ length xs + 1 → sum_by f (with_item cmp x xs) ≡ sum_by f xs + f x
 with_item_sum f cmp x [] e = omega (arith, sum_by-cons f x [])
@@ -444,7 +406,7 @@ with_items_longest [] held = omega arith
 with_items_longest (r ∷ items) held =
     omega (arith, with_items_longest items (with_item receipt_cmp r held), with_item_longer receipt_total r held)
 
--- where no receipt of these was held, all together offer what those that were held and these offer
+-- if no receipt of these was held, all together offer what those that were held and these offer
 joined_offers : (items held : List Receipt) → length (with_items receipt_cmp items held) ≡ length held + length items
     → offers_count (with_items receipt_cmp items held) ≡ offers_count held + offers_count items
 joined_offers [] held e = omega arith
@@ -482,7 +444,7 @@ no_ok : {T E : Type 0} (r : Result T E) → is_err r ≡ true → IsOk r → ⊥
 no_ok (Ok v) e ok = absurd (cc)
 no_ok (Err v) e ok = absurd (cc)
 
--- Where there was no room for the copies, a receipt had to be copied.
+-- If there was no room for the copies, a receipt had to be copied.
 wants : (m other : Meaning) (share : MergePlan) (room : Room) (xs : List Receipt) → xs ≡ share.copies.items
     → IsMergePlan m other share → (IsRoomier (record { receipts = length share.copies.items; offers = share.offers }) room
     → ⊥) → WantsCopies m other
@@ -502,7 +464,7 @@ wants m other share room (r ∷ rest) e is beyond =
       unheld = is.copies.unheld r has;
     }
 
--- Where memory for the copies was refused, the merge is refused for lack of memory.
+-- If memory for the copies was refused, the merge is refused for lack of memory.
 pub share_wants : {T E : Type 0} (m other : Meaning) (share : MergePlan) (room : Room) (n : ℕ) (r : Result T E)
     → IsMergePlan m other share → n ≡ length share.copies.items → is_err r ≡ true
     → (IsRoomier (record { receipts = n; offers = share.offers }) room → IsOk r) → WantsCopies m other
@@ -511,7 +473,7 @@ share_wants m other share room n r is size err within =
     (λ roomier. no_ok r err
     (within (subst (λ k. IsRoomier (record { receipts = k; offers = share.offers }) room) (sym size) roomier)))
 
--- What is promised on success holds where there is no error.
+-- What is promised on success holds if there is no error.
 pub on_ok : {T E : Type 0} (r : Result T E) (P : Type 0) → is_err r ≡ false → OnOk r P → P
 on_ok (Ok v) P e h = h
 on_ok (Err v) P e h = absurd (cc)

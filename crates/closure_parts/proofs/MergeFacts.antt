@@ -6,7 +6,7 @@ use Rattle.std.specs.Bool.{IsTrue, MatchBool}
 use Rattle.std.specs.Cmp.Lexicographic.{same_text}
 use Rattle.std.specs.Option.{is_some}
 use Rattle.std.specs.Prelude.{Option, Some, None}
-use Rattle.fed_config.specs.Configuration.{Configuration, HasDomain, IsPlace, config_id_of}
+use Rattle.fed_config.specs.Configuration.{Configuration, IsConfiguration, HasDomain, IsPlace, config_id_of}
 use Rattle.std.specs.List.{AllByRecursion, Contains}
 use Rattle.std.specs.List.Sorted.{IsStrictlySortedBy}
 use Rattle.std.proofs.lemmas.List.{length-append}
@@ -21,12 +21,13 @@ use Rattle.receipt_core.specs.Acceptance.{Meaning, IsMeaning, IsFitting}
 use Rattle.closure_core.specs.contracts.error.TakeError.{the_type}
 use denote.Enum.Bare.{sameb}
 use lib.Pointwise.{pointwise}
-use Rattle.closure_core.specs.Refusals.{RefusesFit, HasSameDigest, IsOfUnknownDomain, IsOfWrongEndpoint, RefusesMerge, all_receipts, all_records}
-use Rattle.closure_parts.specs.Merge.{AreCopies, HasNew, RefusesFitOfOne}
+use Rattle.closure_core.specs.Refusals.{RefusesFit, HasSameDigest, IsOfUnknownDomain, IsOfWrongEndpoint, IsBelowFloor, RefusesMerge, all_receipts, all_records}
+use Rattle.closure_parts.specs.Merge.{AreCopies, HasNew, RefusesFitOfOne, first_cause_of}
 use Rattle.closure_core.specs.declared.error.TakeError.{TakeError}
-use Rattle.closure_core.specs.declared.error.TakeError.TheVariants.{UnknownDomain, WrongEndpoint, Full, NoMemory, ConfigDiffers}
+use Rattle.closure_core.specs.declared.error.TakeError.TheVariants.{UnknownDomain, WrongEndpoint, BelowFloor, Full, NoMemory, ConfigDiffers}
 use Rattle.closure_parts.proofs.ConfigFacts.{place_has}
 use Rattle.closure_core.proofs.ContainsFacts.{contains_first, contains_later, contains_none, contains_cases}
+use Rattle.closure_core.proofs.FitFacts.{fits_right, wrong_known, low_known, low_right}
 use Rattle.closure_core.proofs.RisingFacts.{not_again, with_items_keeps}
 use Rattle.closure_core.proofs.UnionFacts.{receipt_sets, record_sets, always}
 
@@ -49,7 +50,7 @@ IsPassed-next {X} P all rest later x passed e holds =
       ];
     }
 
--- Where nothing is left, all items have the property.
+-- If nothing is left, all items have the property.
 pub IsPassed-end : {X : Type 0} (P : X → Type 0) (all rest : List X) → IsPassed P all rest → rest ≡ [] → (x : X) → Contains all x → P x
 IsPassed-end {X} P all rest passed e x has =
     elim (passed.passed x has) [
@@ -136,7 +137,7 @@ IsCounted-new set all rest later x count limit counted e lacks =
       few = omega arith;
     }
 
--- Where nothing is left, the count is how many are lacking.
+-- If nothing is left, the count is how many are lacking.
 IsCounted-end : {X : Type 0} (set all rest : List X) (count limit : ℕ) → IsCounted set all rest count limit → rest ≡ [] → IsLacking set all count
 IsCounted-end set all rest count limit counted e =
     subst (IsLacking set all) (omega arith) (counted.lacking 0 (subst (λ xs. IsLacking set xs 0) (sym e) refl))
@@ -208,7 +209,7 @@ IsCopied-new held all rest later copies new r copy copied e lacks push same =
       counted = subst (λ n. IsCounted held all later n 65536) (sym size) (IsCounted-new held all rest later r (length copies) 65536 copied.counted e lacks);
     }
 
--- Where nothing is left, all are copied that are not held.
+-- If nothing is left, all are copied that are not held.
 pub IsCopied-end : (m other : Meaning) (rest copies : List Receipt) → IsMeaning m → IsMeaning other
     → IsCopied m.held other.held rest copies → rest ≡ [] → AreCopies m other copies
 IsCopied-end m other rest copies is was copied e = record {
@@ -228,7 +229,7 @@ has_first : {X : Type 0} (xs : List X) → 0 < length xs → (x : X) × Contains
 has_first [] some = absurd (omega arith)
 has_first (x ∷ xs) some = (x, contains_first x xs)
 
--- Where a receipt was copied, the other has one that is not held.
+-- If a receipt was copied, the other has one that is not held.
 pub copies_new : (m other : Meaning) (copies : List Receipt) → AreCopies m other copies → 0 < length copies → HasNew m other
 copies_new m other copies are some =
     let first = has_first copies some in
@@ -245,27 +246,95 @@ pub known_of : (c : Configuration) (domain : List ℕ) (place : Option ℕ) → 
 known_of c domain None at e = absurd (cc)
 known_of c domain (Some n) at e = place_has c domain n at
 
--- A receipt that fits changes nothing of what was found before it.
-pub fitting_next : {X : Type 0} (P : X → Type 0) (W : Type 0) (b : Bool) (all rest later : List X) (x : X)
-    → MatchBool b (IsPassed P all rest) W → rest ≡ x ∷ later → P x → MatchBool b (IsPassed P all later) W
-fitting_next P W true all rest later x passed e holds = IsPassed-next P all rest later x passed e holds
-fitting_next P W false all rest later x wrong e holds = wrong
+-- ---- why one of several receipts does not fit
 
--- A receipt that does not fit, and not for its domain, has a wrong endpoint.
-pub wrong_of : (c : Configuration) (r : Receipt) (why : TakeError) → RefusesFit c r why → false ≡ sameb the_type why UnknownDomain → IsOfWrongEndpoint c r
-wrong_of c r UnknownDomain h other = absurd (cc)
-wrong_of c r WrongEndpoint h other = h
-wrong_of c r Full h other = absurd h
-wrong_of c r NoMemory h other = absurd h
-wrong_of c r ConfigDiffers h other = absurd h
+-- The receipts before the rest all fit, or this is the first cause that holds for one of them, and it is not an unknown domain.
+abbrev pub IsCause : Configuration → List Receipt → List Receipt → Option TakeError → Type 0
+IsCause c all rest None = IsPassed (IsFitting c) all rest
+IsCause c all rest (Some WrongEndpoint) = (r : Receipt) × Contains all r × IsOfWrongEndpoint c r
+IsCause c all rest (Some BelowFloor) = IsPassed (λ r. IsOfWrongEndpoint c r → ⊥) all rest × ((r : Receipt) × Contains all r × IsBelowFloor c r)
+IsCause c all rest (Some why) = ⊥
 
--- A receipt that fits is of a known domain.
-pub fit_known : (c : Configuration) (r : Receipt) → IsFitting c r → IsOfUnknownDomain c r → ⊥
-fit_known c r fits unknown = unknown fits.relationship fits.has fits.domain
+-- What holds of each item that is passed, in other words.
+passed_as : {X : Type 0} (P Q : X → Type 0) (all rest : List X) → ((x : X) → P x → Q x) → IsPassed P all rest → IsPassed Q all rest
+passed_as P Q all rest turn passed = record {
+  within = passed.within;
+  passed = λ x has. elim (passed.passed x has) [ inl later ↦ inl later | inr holds ↦ inr (turn x holds) ];
+}
 
--- A receipt with a wrong endpoint is of a known domain.
-pub wrong_known : (c : Configuration) (r : Receipt) → IsOfWrongEndpoint c r → IsOfUnknownDomain c r → ⊥
-wrong_known c r wrong unknown = unknown wrong.relationship wrong.has wrong.domain
+-- A receipt that fits changes nothing of the cause that was found before it.
+pub cause_kept : (c : Configuration) (all rest later : List Receipt) (r : Receipt) (cause : Option TakeError) → IsConfiguration c
+    → IsCause c all rest cause → rest ≡ r ∷ later → IsFitting c r → IsCause c all later cause
+cause_kept c all rest later r None is passed e fits = IsPassed-next (IsFitting c) all rest later r passed e fits
+cause_kept c all rest later r (Some WrongEndpoint) is wrong e fits = wrong
+cause_kept c all rest later r (Some BelowFloor) is low e fits =
+    (IsPassed-next (λ s. IsOfWrongEndpoint c s → ⊥) all rest later r low.0 e (fits_right c r is fits), low.1)
+cause_kept c all rest later r (Some UnknownDomain) is none e fits = none
+cause_kept c all rest later r (Some Full) is none e fits = none
+cause_kept c all rest later r (Some NoMemory) is none e fits = none
+cause_kept c all rest later r (Some ConfigDiffers) is none e fits = none
+
+-- After a receipt below a floor the floor is the cause, if no endpoint was wrong.
+cause_low : (c : Configuration) (all rest later : List Receipt) (r : Receipt) (cause : Option TakeError) → IsConfiguration c
+    → IsCause c all rest cause → rest ≡ r ∷ later → Contains all r → IsBelowFloor c r → IsCause c all later (Some (first_cause_of cause BelowFloor))
+cause_low c all rest later r None is passed e has low = (
+  IsPassed-next (λ s. IsOfWrongEndpoint c s → ⊥) all rest later r
+      (passed_as (IsFitting c) (λ s. IsOfWrongEndpoint c s → ⊥) all rest (λ s fits. fits_right c s is fits) passed) e (low_right c r is low),
+  (r, has, low),
+)
+cause_low c all rest later r (Some WrongEndpoint) is wrong e has low = wrong
+cause_low c all rest later r (Some BelowFloor) is before e has low =
+    (IsPassed-next (λ s. IsOfWrongEndpoint c s → ⊥) all rest later r before.0 e (low_right c r is low), (r, has, low))
+cause_low c all rest later r (Some UnknownDomain) is none e has low = absurd none
+cause_low c all rest later r (Some Full) is none e has low = absurd none
+cause_low c all rest later r (Some NoMemory) is none e has low = absurd none
+cause_low c all rest later r (Some ConfigDiffers) is none e has low = absurd none
+
+-- After a receipt with a wrong endpoint the endpoint is the cause.
+cause_wrong : (c : Configuration) (all later : List Receipt) (r : Receipt) (cause : Option TakeError)
+    → Contains all r → IsOfWrongEndpoint c r → IsCause c all later (Some (first_cause_of cause WrongEndpoint))
+cause_wrong c all later r None has wrong = (r, has, wrong)
+cause_wrong c all later r (Some WrongEndpoint) has wrong = (r, has, wrong)
+cause_wrong c all later r (Some BelowFloor) has wrong = (r, has, wrong)
+cause_wrong c all later r (Some UnknownDomain) has wrong = (r, has, wrong)
+cause_wrong c all later r (Some Full) has wrong = (r, has, wrong)
+cause_wrong c all later r (Some NoMemory) has wrong = (r, has, wrong)
+cause_wrong c all later r (Some ConfigDiffers) has wrong = (r, has, wrong)
+
+-- After a receipt that does not fit, though its domain is known, the first cause of the two is the cause.
+pub cause_next : (c : Configuration) (all rest later : List Receipt) (r : Receipt) (cause : Option TakeError) (why : TakeError) → IsConfiguration c
+    → IsCause c all rest cause → rest ≡ r ∷ later → Contains all r → RefusesFit c r why → false ≡ sameb the_type why UnknownDomain
+    → IsCause c all later (Some (first_cause_of cause why))
+cause_next c all rest later r cause UnknownDomain is so e has h other = absurd (cc)
+cause_next c all rest later r cause WrongEndpoint is so e has h other = cause_wrong c all later r cause has h
+cause_next c all rest later r cause BelowFloor is so e has h other = cause_low c all rest later r cause is so e has h
+cause_next c all rest later r cause Full is so e has h other = absurd h
+cause_next c all rest later r cause NoMemory is so e has h other = absurd h
+cause_next c all rest later r cause ConfigDiffers is so e has h other = absurd h
+
+-- A receipt that does not fit, and not for its domain, is of a known domain.
+pub misfit_known : (c : Configuration) (r : Receipt) (why : TakeError) → RefusesFit c r why → false ≡ sameb the_type why UnknownDomain
+    → IsOfUnknownDomain c r → ⊥
+misfit_known c r UnknownDomain h other = absurd (cc)
+misfit_known c r WrongEndpoint h other = wrong_known c r h
+misfit_known c r BelowFloor h other = low_known c r h
+misfit_known c r Full h other = absurd h
+misfit_known c r NoMemory h other = absurd h
+misfit_known c r ConfigDiffers h other = absurd h
+
+-- When no receipt is left, the cause is the first that holds for one of them.
+pub cause_refuses : (c : Configuration) (all rest : List Receipt) (why : TakeError) → IsPassed (λ r. IsOfUnknownDomain c r → ⊥) all rest
+    → IsCause c all rest (Some why) → rest ≡ [] → RefusesFitOfOne c all why
+cause_refuses c all rest WrongEndpoint known wrong e = (IsPassed-end (λ r. IsOfUnknownDomain c r → ⊥) all rest known e, wrong)
+cause_refuses c all rest BelowFloor known low e = (
+  IsPassed-end (λ r. IsOfUnknownDomain c r → ⊥) all rest known e,
+  IsPassed-end (λ r. IsOfWrongEndpoint c r → ⊥) all rest low.0 e,
+  low.1,
+)
+cause_refuses c all rest UnknownDomain known none e = absurd none
+cause_refuses c all rest Full known none e = absurd none
+cause_refuses c all rest NoMemory known none e = absurd none
+cause_refuses c all rest ConfigDiffers known none e = absurd none
 
 -- ---- why a merge is refused
 
@@ -302,6 +371,12 @@ refuses_at : (m other : Meaning) → HasSameDigest m other
 refuses_at m other alike known UnknownDomain h = (alike, inl h)
 refuses_at m other alike known WrongEndpoint h =
     (alike, λ unknown. elim unknown [ inl r ↦ h.0 r.0 r.1 r.2 | inr x ↦ x.2 (known x.0 x.1) ], h.1)
+refuses_at m other alike known BelowFloor h = (
+  alike,
+  λ unknown. elim unknown [ inl r ↦ h.0 r.0 r.1 r.2 | inr x ↦ x.2 (known x.0 x.1) ],
+  λ wrong. h.1 wrong.0 wrong.1 wrong.2,
+  h.2,
+)
 refuses_at m other alike known Full h = absurd h
 refuses_at m other alike known NoMemory h = absurd h
 refuses_at m other alike known ConfigDiffers h = absurd h

@@ -164,7 +164,7 @@ counted-set counts number value l =
           (λ b. cond b 1 0) (flag-counted counts number),
     )
 
--- ---- a count is not 0 where one of the nodes has the document
+-- ---- a count is not 0 if one of the nodes has the document
 
 module _ (heads : List ℕ) (n : ℕ) where
   -- what a node adds to the number of those with the document
@@ -186,7 +186,7 @@ module _ (heads : List ℕ) (n : ℕ) where
   one-has node true e = inl (eqb-true (first_of_node heads node) n e)
   one-has node false e = inr (ap (λ b. cond b 1 0) e)
 
-  -- Where a node has the document, the number of those is not 0.
+  -- If a node has the document, the number of those is not 0.
   pub first-nodes : (nodes : List ℕ) → IsFirstOf heads nodes n → 0 < nodes_with heads nodes n
   first-nodes [] f = absurd (contains_none f.0 f.1)
   first-nodes (x ∷ xs) f = elim (contains_cases x xs f.0 f.1) [
@@ -199,7 +199,7 @@ module _ (heads : List ℕ) (n : ℕ) where
     | inr later ↦ omega (arith, with-cons x xs, first-nodes xs (f.0, later, f.2))
   ]
 
-  -- Where the number is not 0, a node has the document.
+  -- If the number is not 0, a node has the document.
   pub nodes-first : (nodes : List ℕ) → All (λ k. k < length heads) nodes
       → 0 < nodes_with heads nodes n → IsFirstOf heads nodes n
   nodes-first [] small l = absurd (omega (arith, l))
@@ -251,7 +251,7 @@ flags-kept lesser greater fewer n e = positive-raised greater n
 
 -- ---- more nodes are marked
 
--- the counts of marked nodes stand, and those of the nodes that are marked now are added
+-- the counts of marked nodes are unchanged, and those of the nodes that are marked now are added
 pub counts-more : (old_firsts heads marked more old_counts counts : List ℕ) (first count : ℕ)
     → heads ≡ old_firsts ++ first ∷ [] → take count more ≡ marked
     → All (λ n. n < length old_firsts) marked
@@ -290,8 +290,8 @@ pub counts-from_zero : (heads nodes zeros counts : List ℕ) → ((n : ℕ) → 
     → AddsNodes heads nodes zeros counts → AreCounts heads nodes counts
 counts-from_zero heads nodes zeros counts none adds n = omega (arith, none n, adds.each n)
 
--- One count is set. As many counts are not 0 as before where both values are 0 or neither is, one
--- more where 0 has risen, and one fewer where it has fallen to 0.
+-- One count is set. As many counts are not 0 as before if both values are 0 or neither is, one more
+-- if 0 has risen, and one fewer if it has fallen to 0.
 module _ (counts : List ℕ) (number value : ℕ) (l : number < length counts) where
   -- What one count that is set does to the number of those that are not 0: the three lemmas below
   -- are its cases.

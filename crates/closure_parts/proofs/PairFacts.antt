@@ -52,7 +52,7 @@ pair-exact p q f g e =
     ap (λ (d : List ℕ). let x : Pair = record { domain = d; document = p.document } in x) domain
     ∙ ap (λ (b : Bundle). let x : Pair = record { domain = q.domain; document = b } in x) document
 
--- A pair before another stands to what is sought no later than that.
+-- Compared with a sought pair, the first of two sorted pairs comes no later than the second.
 index-rises : (a b x : Pair) → pair_cmp a b ≡ Less → (o : Ordering) → pair_cmp b x ≡ o → ordering_index (pair_cmp a x) ≤ ordering_index o
 index-rises a b x l Less e = let f : pair_cmp a x ≡ Less = pair-total.trans a b x l e in omega (arith, ap ordering_index f)
 index-rises a b x l Equal e = let f : pair_cmp a x ≡ Less = sym (alike_right pair-total b x a e) ∙ l in omega (arith, ap ordering_index f)
@@ -90,7 +90,7 @@ module _ (R : ℕ → ℕ → Type 0) (numbers : List ℕ) (place x : ℕ) (with
   at_zero : (k : ℕ) (d : ℕ) → k < length (insert numbers place x) → get_or (insert numbers place x) k d ≡ get_or (insert numbers place x) k 0
   at_zero k d l = get_or_default (insert numbers place x) k d 0 l
 
-  -- Any two numbers of the longer list stand as the test wants.
+  -- Any two numbers of the longer list are ordered as the test wants.
   in_place : (i j : ℕ) → i < j → j < length (insert numbers place x) → R (get_or (insert numbers place x) i 0) (get_or (insert numbers place x) j 0)
   in_place i j l last =
       let size = length-insert numbers place x within in
@@ -141,7 +141,7 @@ module _ (R : ℕ → ℕ → Type 0) (numbers : List ℕ) (place x : ℕ) (with
 
 -- ---- one number for each different pair
 
--- What is read within the list stands there.
+-- What is read within the list is there.
 pair-from_at : (pairs : List Pair) (n : ℕ) (q : Pair) → n < length pairs → pair_at pairs n ≡ q → slice_get pairs n ≡ Some q
 pair-from_at pairs n q l e = slice_get-get_or pairs n no_documents l ∙ ap (λ (p : Pair). Some p) e
 
@@ -245,7 +245,7 @@ module _ (pairs : List Pair) (q : Pair) where
   get-last : (n : ℕ) → n ≡ length pairs → slice_get (pairs ++ q ∷ []) n ≡ Some q
   get-last n e = slice_get-get_or (pairs ++ q ∷ []) n no_documents (omega (arith, e, length_push pairs q)) ∙ ap (λ (p : Pair). Some p) (at-last n e)
 
-  -- Old pairs stand to one another as they did.
+  -- Old pairs compare as they did.
   rises-still : (i j : ℕ) → i < length pairs → j < length pairs → pair_cmp (pair_at pairs i) (pair_at pairs j) ≡ Less
       → pair_cmp (pair_at (pairs ++ q ∷ []) i) (pair_at (pairs ++ q ∷ []) j) ≡ Less
   rises-still i j k l e =

@@ -12,20 +12,20 @@ slice_get-left [] ys i x e = absurd (omega (arith, slice_get_within [] i x e))
 slice_get-left (z ∷ xs) ys zero x e = e
 slice_get-left (z ∷ xs) ys (suc i) x e = slice_get-left xs ys i x e
 
--- An item of the second list stands further on by the length of the first.
+-- In the joined list, an item of the second list is further on by the length of the first.
 pub slice_get-right : {A : Type 0} (xs ys : List A) (k : ℕ) → slice_get (xs ++ ys) (length xs + k) ≡ slice_get ys k
 slice_get-right [] ys k = let e : 0 + k ≡ k = omega arith in ap (λ n. slice_get ys n) e
 slice_get-right (z ∷ xs) ys k =
     let e : suc (length xs) + k ≡ suc (length xs + k) = omega arith in
     ap (λ n. slice_get (z ∷ (xs ++ ys)) n) e ∙ slice_get-right xs ys k
 
--- the item stands in the second of two lists
+-- the item is in the second of two lists
 pub record IsPast {A : Type 0} (xs ys : List A) (i : ℕ) (x : A) : Type 0 where
   pub place : ℕ
   pub is : i ≡ length xs + place
   pub at : slice_get ys place ≡ Some x
 
--- An item of two lists stands in the first or in the second.
+-- An item of two lists is in the first or in the second.
 pub slice_get-append_cases : {A : Type 0} (xs ys : List A) (i : ℕ) (x : A) → slice_get (xs ++ ys) i ≡ Some x → (slice_get xs i ≡ Some x) ⊎ IsPast xs ys i x
 slice_get-append_cases [] ys i x e = inr (record { place = i; is = omega arith; at = e })
 slice_get-append_cases (z ∷ xs) ys zero x e = inl e
@@ -35,28 +35,28 @@ slice_get-append_cases (z ∷ xs) ys (suc i) x e =
       | inr a ↦ inr (record { place = a.place; is = omega (arith, a.is); at = a.at })
     ]
 
--- The image of an item stands at its place.
+-- The image of an item is at its place.
 pub slice_get-map_at : {A B : Type 0} (f : A → B) (xs : List A) (i : ℕ) (x : A) → slice_get xs i ≡ Some x → slice_get (map f xs) i ≡ Some (f x)
 slice_get-map_at f [] i x e = absurd (omega (arith, slice_get_within [] i x e))
 slice_get-map_at {B = B} f (z ∷ xs) zero x e = ap (λ y. Some (f y)) (same_Some z x e)
 slice_get-map_at f (z ∷ xs) (suc i) x e = slice_get-map_at f xs i x e
 
--- What stands in a mapped list is the image of what stands there in the list.
+-- What is in a mapped list is the image of what is there in the list.
 pub slice_get-map_cases : {A B : Type 0} (f : A → B) (xs : List A) (i : ℕ) (y : B) → slice_get (map f xs) i ≡ Some y
     → (x : A) × (slice_get xs i ≡ Some x) × (f x ≡ y)
 slice_get-map_cases f [] i y e = absurd (omega (arith, slice_get_within [] i y e))
 slice_get-map_cases f (z ∷ xs) zero y e = (z, refl, same_Some (f z) y e)
 slice_get-map_cases f (z ∷ xs) (suc i) y e = slice_get-map_cases f xs i y e
 
--- What a list contains stands at some place.
+-- What a list contains is at some place.
 pub Contains-slice_get : {A : Type 0} (xs : List A) (x : A) → Contains xs x → (i : ℕ) × (slice_get xs i ≡ Some x)
 Contains-slice_get xs x c = (c.0, slice_get-get_or xs c.0 x c.1 ∙ ap (λ y. Some y) c.2)
 
--- What stands at a place is contained.
+-- What is at a place is contained.
 pub slice_get-Contains : {A : Type 0} (xs : List A) (i : ℕ) (x : A) → slice_get xs i ≡ Some x → Contains xs x
 slice_get-Contains xs i x e = (i, slice_get_within xs i x e, get_or_from_slice_get xs i x x e)
 
--- different items stand at different places
+-- different items are at different places
 pub one_place : {A : Type 0} (xs : List A) → AllPairs ◌≢◌ xs → (i j : ℕ) (x : A) → slice_get xs i ≡ Some x → slice_get xs j ≡ Some x → i ≡ j
 one_place xs once i j x a b =
     elim (cases_order i j) [
@@ -68,12 +68,12 @@ one_place xs once i j x a b =
           ]
     ]
 
--- The new label stands at the end.
+-- The new label is at the end.
 pub slice_get-push : {A : Type 0} (xs : List A) (x : A) → slice_get (xs ++ x ∷ []) (length xs) ≡ Some x
 slice_get-push [] x = refl
 slice_get-push (z ∷ xs) x = slice_get-push xs x
 
--- What stands among labels with one more stood there or is the new one.
+-- What is among labels with one more was there or is the new one.
 pub slice_get-push_cases : {A : Type 0} (xs : List A) (x : A) (i : ℕ) (y : A) → slice_get (xs ++ x ∷ []) i ≡ Some y
     → ((i < length xs) × (slice_get xs i ≡ Some y)) ⊎ ((i ≡ length xs) × (x ≡ y))
 slice_get-push_cases [] x zero y e = inr (refl, same_Some x y e)

@@ -38,7 +38,7 @@ one_record a b h =
     let domains : a.domain ≡ b.domain = equal_bytes a.domain b.domain parts.1 in
     λ i. record { key = record { 0 = keys i }; domain = domains i }
 
--- ---- where a search ends
+-- ---- the end of a search
 
 module _ {X : Type 0} {R : X → X → Ordering} (o : IsTotalOrder R) where
   -- what lies between those before it and those after it is not there
@@ -53,7 +53,7 @@ module _ {X : Type 0} {R : X → X → Ordering} (o : IsTotalOrder R) where
       let greater : R x x ≡ Greater = subst (λ y. R y x ≡ Greater) has.2 (after has.0 x above has.1) in cc)
       (cases_lt has.0 place)
 
-  -- What a binary search that finds nothing says of a rising list.
+  -- What a binary search that finds nothing says of a sorted list.
   pub searched : (xs : List X) (x : X) (place : ℕ) → IsStrictlySortedBy R xs
       → (IsNonDecreasingBy (λ y. ordering_index (R y x)) xs
       → IsPartitionPoint (λ y. R y x ≡ Less) (λ y. R y x ≡ Greater) xs place)
@@ -66,11 +66,11 @@ held_at xs x k below at = (k, below, one_record (get_or xs k x) x (at x))
 
 -- ---- numbers of domains are in the domains' order
 
--- What stands before a domain has that after it.
+-- What comes before a domain has that after it.
 turned_greater : (d e : List ℕ) → domain_cmp e d ≡ Less → domain_cmp d e ≡ Greater
 turned_greater d e h = turned_less (on_texts (λ (x : List ℕ). x)) e d h
 
--- Domains stand to one another as their numbers do.
+-- Domains compare as their numbers do.
 pub cmp_numbers : (domains : List (List ℕ)) (i j : ℕ) → IsStrictlySortedBy domain_cmp domains → i < length domains
     → j < length domains → domain_cmp (get_or domains i []) (get_or domains j []) ≡ nat_cmp i j
 cmp_numbers domains i j rising p q =
@@ -86,13 +86,13 @@ cmp_numbers domains i j rising p q =
     (cases_lt j i))
     (cases_lt i j)
 
--- Records of distrust stand to one another as the records by number do.
+-- Records of distrust compare as the records by number do.
 pub cmp_records : (domains : List (List ℕ)) (a b : Record) → IsStrictlySortedBy domain_cmp domains
     → a.domain < length domains → b.domain < length domains
     → distrust_cmp (distrust_by domains a) (distrust_by domains b) ≡ record_cmp a b
 cmp_records domains a b rising p q = ap (λ o. ordering_then (key_cmp a.key b.key) o) (cmp_numbers domains a.domain b.domain rising p q)
 
--- One step of `distrusts_with`, for each way the record stands to the first.
+-- One step of `distrusts_with`, for each way the record compares with the first.
 placed_map : (domains : List (List ℕ)) (r s : Ordering) (x h : Record) (t longer : List Record) → r ≡ s
     → map (distrust_by domains) (placed s x h t longer)
     ≡ placed r (distrust_by domains x) (distrust_by domains h) (distrusts_of domains t) (distrusts_of domains longer)
@@ -118,7 +118,7 @@ distrusts_with domains x (h ∷ t) rising within all =
     ∙ ap (λ longer. placed (distrust_cmp (distrust_by domains x) (distrust_by domains h)) (distrust_by domains x)
     (distrust_by domains h) (distrusts_of domains t) longer) (distrusts_with domains x t rising within all.1)
 
--- What stands before all records by number stands before all records of distrust.
+-- What comes before all records by number comes before all records of distrust.
 below_map : (domains : List (List ℕ)) (x : Record) (records : List Record) → IsStrictlySortedBy domain_cmp domains
     → x.domain < length domains → AreWithin (length domains) records
     → AllByRecursion (λ y. record_cmp x y ≡ Less) records
@@ -137,7 +137,7 @@ distrusts_rising domains (h ∷ t) rising all sorted = (below_map domains h t ri
 
 -- ---- a record is held exactly if its distrust is
 
--- Where the record of distrust is held, so is the record by number.
+-- If the record of distrust is held, so is the record by number.
 pub record_of : (domains : List (List ℕ)) (x : Record) (records : List Record) → IsStrictlySortedBy domain_cmp domains
     → x.domain < length domains → AreWithin (length domains) records
     → Contains (distrusts_of domains records) (distrust_by domains x) → Contains records x
@@ -156,7 +156,7 @@ no_records capacity room = record { rising = tt; few = omega arith; room = room 
 
 -- ---- one record more
 
--- A record is added by putting it where the search ended.
+-- A record is added by putting it at the end of the search.
 pub with_record : (xs new : List Record) (x : Record) (place : ℕ) → IsStrictlySortedBy record_cmp xs
     → IsPartitionPoint (λ y. record_cmp y x ≡ Less) (λ y. record_cmp y x ≡ Greater) xs place → place ≤ length xs
     → new ≡ insert xs place x → new ≡ with_item record_cmp x xs

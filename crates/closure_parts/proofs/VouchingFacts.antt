@@ -21,7 +21,7 @@ use Rattle.closure_core.proofs.ContainsFacts.{contains_first, contains_later, co
 -- ---- a set with one more item
 
 module _ {A : Type 0} (cmp : A → A → Ordering) (item : A) where
-  -- One step of `with_item-cases`, for each way the item stands to the first.
+  -- One step of `with_item-cases`, for each way the item compares with the first.
   placed-cases : (o : Ordering) (head : A) (rest longer : List A) (x : A) → Contains (placed o item head rest longer) x
       → ((y : A) → Contains longer y → (y ≡ item) ⊎ Contains rest y) → (x ≡ item) ⊎ Contains (head ∷ rest) x
   placed-cases Less head rest longer x c more = elim (contains_cases item (head ∷ rest) x c) [ inl e ↦ inl (sym e) | inr d ↦ inr d ]
@@ -37,7 +37,7 @@ module _ {A : Type 0} (cmp : A → A → Ordering) (item : A) where
   with_item-cases [] x c = elim (contains_cases item [] x c) [ inl e ↦ inl (sym e) | inr d ↦ inr d ]
   with_item-cases (head ∷ rest) x c = placed-cases (cmp item head) head rest (with_item cmp item rest) x c (with_item-cases rest)
 
-  -- One step of `with_item-old`, for each way the item stands to the first.
+  -- One step of `with_item-old`, for each way the item compares with the first.
   placed-old : (o : Ordering) (head : A) (rest longer : List A) (x : A)
       → ((y : A) → Contains rest y → Contains longer y) → Contains (head ∷ rest) x
       → Contains (placed o item head rest longer) x
@@ -54,14 +54,14 @@ module _ {A : Type 0} (cmp : A → A → Ordering) (item : A) where
   with_item-old [] x c = absurd (omega (arith, c.1))
   with_item-old (head ∷ rest) x c = placed-old (cmp item head) head rest (with_item cmp item rest) x (with_item-old rest) c
 
-  -- One step of `with_item-new`, for each way the item stands to the first.
+  -- One step of `with_item-new`, for each way the item compares with the first.
   placed-new : (o : Ordering) (head : A) (rest longer : List A) → (o ≡ Equal → item ≡ head) → Contains longer item
       → Contains (placed o item head rest longer) item
   placed-new Less head rest longer exact c = contains_first item (head ∷ rest)
   placed-new Equal head rest longer exact c = subst (Contains (head ∷ rest)) (sym (exact refl)) (contains_first head rest)
   placed-new Greater head rest longer exact c = contains_later head longer item c
 
-  -- The added item is there, where the order tells apart what differs.
+  -- The added item is there if the order tells apart what differs.
   pub with_item-new : ((other : A) → cmp item other ≡ Equal → item ≡ other) → (set : List A) → Contains (with_item cmp item set) item
   with_item-new exact [] = contains_first item []
   with_item-new exact (head ∷ rest) = placed-new (cmp item head) head rest (with_item cmp item rest) (exact head) (with_item-new exact rest)
@@ -169,7 +169,7 @@ offer-from_vouches records p r v =
     in
     subst (Contains (offers_of p)) same has
 
--- Where a document vouches for a receipt, what the receipt needs is not shut.
+-- If a document vouches for a receipt, what the receipt needs is not shut.
 pub open-from_vouches : (records : List Distrust) (p : Pair) (r : Receipt) → Vouches records p r → IsShutBy records (need_of r) → ⊥
 open-from_vouches records p r v x =
     v.trusted (subst (λ (d : List ℕ). Contains records (record { domain = d; key = r.key })) (sym v.endpoint) x)

@@ -19,11 +19,11 @@ use Rattle.sorted_order.specs.Sequence.{Sequence}
 use Rattle.sorted_order.specs.ArenaView.{ArenaView, Arranges, in_order, picked}
 use Rattle.closure_parts.specs.Records.{record_cmp}
 use Rattle.closure_core.specs.Inside.Records.{AreWithin}
-use Rattle.closure_core.specs.Refusals.{IsOfUnknownDomain, IsOfWrongEndpoint, IsOneTooMany}
-use Rattle.closure_core.specs.Refusals.{RefusesDistrust}
+use Rattle.closure_core.specs.Refusals.{IsOfUnknownDomain, IsOfWrongEndpoint, IsBelowFloor}
+use Rattle.closure_core.specs.Refusals.{IsOneTooMany, RefusesDistrust}
 use Rattle.closure_core.specs.declared.error.TakeError.{TakeError}
 use Rattle.closure_core.specs.declared.error.TakeError.TheVariants.{UnknownDomain, WrongEndpoint}
-use Rattle.closure_core.specs.declared.error.TakeError.TheVariants.{Full}
+use Rattle.closure_core.specs.declared.error.TakeError.TheVariants.{BelowFloor, Full}
 use Rattle.closure_core.specs.declared.record.Record.{Record}
 use Rattle.closure_parts.specs.declared.held.Lookup.{Lookup}
 use Rattle.closure_parts.specs.declared.held.Lookup.TheVariants.{Present, Absent}
@@ -32,7 +32,7 @@ use Rattle.closure_parts.specs.declared.records.Insertion.TheVariants.{Added, Th
 use Rattle.closure_parts.specs.declared.records.Insertion.TheVariants.{Full as NoPlace}
 use Rattle.receipt_core.specs.Limits.{receipt_limit, record_limit}
 
--- the domains of a configuration, as its rising list
+-- the domains of a configuration, as its sorted list
 abbrev pub domains_of : Configuration → List (List ℕ)
 domains_of c = with_items domain_cmp
     (map (λ r. r.domain) c.relationships
@@ -62,13 +62,12 @@ pub record AreBucketed (receipts : List Receipt) (buckets : Sequence) : Type 0 w
   pub arranged : Arranges buckets.items (length receipts)
   pub rising : IsStrictlySortedBy bucket_cmp (picked receipts buckets.items)
 
--- how many receipts there is room for, where the order of buckets may be kept
+-- for how many receipts there is room, also in the order of buckets if that is kept
 abbrev pub capacity_with : ℕ → Option Sequence → ℕ
 capacity_with receipts None = receipts
 capacity_with receipts (Some buckets) = min receipts buckets.capacity
 
--- The receipts fit and are in order, also in that of buckets where it is kept, and so are the
--- records.
+-- The receipts fit and are in order, also in that of buckets if it is kept, and so are the records.
 pub record IsWellHeld (c : Configuration) (stock : ArenaView Receipt) (buckets : Option Sequence)
     (records : List Record) : Type 0 where
   pub configuration : IsConfiguration c
@@ -98,6 +97,7 @@ Stands m r (Absent place) = IsAbsent m r place
 abbrev pub RefusesNew : Meaning → Receipt → TakeError → Type 0
 RefusesNew m r UnknownDomain = IsOfUnknownDomain m.config r
 RefusesNew m r WrongEndpoint = IsOfWrongEndpoint m.config r
+RefusesNew m r BelowFloor = IsBelowFloor m.config r
 RefusesNew m r Full = IsOneTooMany m r
 RefusesNew m r _ = ⊥
 
@@ -123,7 +123,7 @@ addition_result Added = Ok Added
 addition_result There = Ok There
 addition_result NoPlace = Err Full
 
--- A triple is shut where its key is distrusted in its domain.
+-- A triple is shut if its key is distrusted in its domain.
 abbrev pub IsShutBy : List Distrust → Triple → Type 0
 IsShutBy records t = Contains records (record { domain = t.domain; key = t.key })
 
@@ -133,7 +133,7 @@ pub record IsDistrustedIn (h : HeldReceipts) (number : ℕ) (key : KeyId) : Type
   pub shut : Contains h.records
       (record { domain = slice_index_or (domains_of h.config) number []; key = key })
 
--- The new hoard has these records besides.
+-- The new hoard has these records more.
 pub record IsBefore (old : HeldReceipts) (more : List Distrust) (new : HeldReceipts) : Type 0 where
   pub config : new.config ≡ old.config
   pub arrived : new.arrived ≡ old.arrived

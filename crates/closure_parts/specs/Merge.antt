@@ -1,15 +1,16 @@
 -- What a closure takes in from another one
-use Rattle.std.specs.Prelude.{◌≡◌, ◌+◌, ◌≤◌, List, length, Contains}
+use Rattle.std.specs.Prelude.{◌≡◌, ◌+◌, ◌≤◌, List, length, Contains, Option, Some}
 use Rattle.fed_config.specs.Configuration.{Configuration, HasDomain}
 use Rattle.receipt_core.specs.declared.distrust.Distrust.{Distrust}
 use Rattle.receipt_core.specs.Receipt.{Receipt, receipt_cmp, distrust_cmp}
 use Rattle.receipt_core.specs.Rising.{with_items}
 use Rattle.receipt_core.specs.Acceptance.{IsFitting, Meaning}
 use Rattle.closure_core.specs.Refusals.{IsRoomier, IsOfConfig, IsOfUnknownDomain, IsOfWrongEndpoint}
-use Rattle.closure_core.specs.Refusals.{all_receipts, all_records, offers_count, Room}
+use Rattle.closure_core.specs.Refusals.{IsBelowFloor, all_receipts, all_records, offers_count, Room}
 use Rattle.closure_core.specs.Changes.{HeldAndRoom}
 use Rattle.closure_core.specs.declared.error.TakeError.{TakeError}
 use Rattle.closure_core.specs.declared.error.TakeError.TheVariants.{UnknownDomain, WrongEndpoint}
+use Rattle.closure_core.specs.declared.error.TakeError.TheVariants.{BelowFloor}
 use Rattle.closure_parts.specs.declared.copies.MergePlan.{MergePlan}
 use Rattle.receipt_core.specs.Limits.{receipt_limit, record_limit}
 
@@ -36,15 +37,24 @@ pub record IsMergePlan (m other : Meaning) (share : MergePlan) : Type 0 where
   pub copies : AreCopies m other share.copies.items
   pub offers : offers_count share.copies.items ≡ share.offers
 
--- Each receipt fits, or the first cause of these that stands of one of them: its domain is unknown,
--- or its endpoint is another.
+-- The first of these causes that holds for one of the receipts: its domain is unknown, its endpoint
+-- is another, or its document is below a floor.
 abbrev pub RefusesFitOfOne : Configuration → List Receipt → TakeError → Type 0
 RefusesFitOfOne c receipts UnknownDomain = (r : Receipt) × Contains receipts r
     × IsOfUnknownDomain c r
 RefusesFitOfOne c receipts WrongEndpoint =
     ((r : Receipt) → Contains receipts r → IsOfUnknownDomain c r → ⊥)
     × ((r : Receipt) × Contains receipts r × IsOfWrongEndpoint c r)
+RefusesFitOfOne c receipts BelowFloor =
+    ((r : Receipt) → Contains receipts r → IsOfUnknownDomain c r → ⊥)
+    × ((r : Receipt) → Contains receipts r → IsOfWrongEndpoint c r → ⊥)
+    × ((r : Receipt) × Contains receipts r × IsBelowFloor c r)
 RefusesFitOfOne c receipts _ = ⊥
+
+-- the first of a cause that was found before and another, neither of them an unknown domain
+abbrev pub first_cause_of : Option TakeError → TakeError → TakeError
+first_cause_of (Some WrongEndpoint) why = WrongEndpoint
+first_cause_of _ why = why
 
 -- These are of domains of the configuration, and together with what is held no more than one holds.
 pub record AreKnown (m : Meaning) (records : List Distrust) : Type 0 where
@@ -56,7 +66,7 @@ pub record HasSpentOn (old : Room) (taken : List Receipt) (new : Room) : Type 0 
   pub receipts : old.receipts ≤ new.receipts + length taken
   pub offers : old.offers ≤ new.offers + offers_count taken
 
--- These fit, there may be so many more, and there is room for them.
+-- These fit, there may be this many more, and there is room for them.
 pub record FitWithinRoom (old : HeldAndRoom) (receipts : List Receipt) : Type 0 where
   pub fitting : (r : Receipt) → Contains receipts r → IsFitting old.meaning.config r
   pub few : length old.meaning.held + length receipts ≤ receipt_limit

@@ -16,7 +16,7 @@ use Rattle.closure_core.specs.AcceptedList.{document_cmp}
 abbrev pub pair_cmp : Pair → Pair → Ordering
 pair_cmp p q = ordering_then (domain_cmp p.domain q.domain) (document_cmp p.document q.document)
 
--- what stands past the last pair
+-- what is past the last pair
 abbrev pub no_documents : Pair
 no_documents = record {
   domain = [];
@@ -51,8 +51,8 @@ pub record IsDocumentTable (pairs : List Pair) (p : DocumentTableView) : Type 0 
   pub first : (node number : ℕ) → slice_get p.heads node ≡ Some number
       → Contains p.numbers number × (slice_get pairs number ≡ slice_get pairs node)
 
--- The pair has this number: one among those in order that has it, or, where none has, the number
--- that is put in its place.
+-- The pair has this number: one among those in order that has it, or, if none has, the number that
+-- is put in its place.
 abbrev pub PutsFirst : List Pair → Pair → ℕ → List ℕ → List ℕ → ℕ → Type 0
 PutsFirst pairs p number old new
     first = ((new ≡ old) × Contains old first × (pair_cmp (pair_at pairs first) p ≡ Equal))

@@ -10,7 +10,7 @@ ghost use Rattle.closure_parts.specs.Held.{meaning_of};
 ghost use Rattle.closure_core.specs.Refusals.{RefusesMerge, all_receipts, all_records};
 ghost use Rattle.closure_core.specs.Refusals.{offers_count};
 ghost use Rattle.closure_parts.specs.Merge.{IsMergeable, HasNew, AreCopies, IsMergePlan};
-ghost use Rattle.closure_parts.specs.Merge.{RefusesFitOfOne};
+ghost use Rattle.closure_parts.specs.Merge.{RefusesFitOfOne, first_cause_of};
 
 use crate::held::Held;
 use closure_core::{Distrusts, NoMemory, Receipts, TakeError, check_fit};
@@ -25,7 +25,7 @@ pub(crate) struct MergePlan {
     pub(crate) offers: usize,
 }
 
-/// Copies what the one does not hold of the receipts that the other holds.
+/// Copies the receipts that the other one holds and this one does not.
 ///
 /// # Errors
 /// As [`closure_core::Closure::merge`] says. No receipt is copied before all causes but lack of
@@ -77,25 +77,38 @@ fn knows_all(config: &Config, records: Distrusts<'_>) -> bool
     true
 }
 
-/// Whether each receipt fits: an unknown domain is reported before another endpoint.
+/// Whether each receipt fits. If some do not, the cause that comes first is reported, whichever
+/// receipt has it.
 fn fit_all(config: &Config, receipts: Receipts<'_>) -> Result<(), TakeError>
     ensures { MatchResult result
         (λ _. (r : Receipt) → Contains receipts.entry r → IsFitting config.now r)
         (RefusesFitOfOne config.now receipts.entry) }
 {
-    let mut all_fit = true;
+    // This call says that the configuration is well formed.
+    let _ = config.domains();
+    let mut cause = None;
     for receipt in receipts {
         if let Err(why) = check_fit(config, receipt) {
             if why == TakeError::UnknownDomain {
                 return Err(TakeError::UnknownDomain);
             }
-            all_fit = false;
+            cause = Some(first_cause(cause, why));
         }
     }
-    if all_fit {
-        Ok(())
-    } else {
-        Err(TakeError::WrongEndpoint)
+    match cause {
+        Some(why) => Err(why),
+        None => Ok(()),
+    }
+}
+
+/// The cause that comes first of one that was found before and another: a wrong endpoint, or else
+/// the other.
+fn first_cause(before: Option<TakeError>, why: TakeError) -> TakeError
+    ensures { result ≡ first_cause_of before why }
+{
+    match before {
+        Some(TakeError::WrongEndpoint) => TakeError::WrongEndpoint,
+        _ => why,
     }
 }
 
@@ -140,7 +153,7 @@ fn copy_share(held: &Held, other: &Held) -> Result<MergePlan, NoMemory>
     match offers_of_all(&copies) {
         Some(offers) => Ok(MergePlan { copies, offers }),
         None => {
-            // There is no room for so many: it asks for a growth that is always refused.
+            // There is no room for this many: it asks for a growth that is always refused.
             copies.try_reserve(usize::MAX)?;
             Ok(MergePlan { copies, offers: 0 })
         }

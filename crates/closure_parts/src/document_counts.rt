@@ -23,7 +23,7 @@ pub(crate) fn raise_all(counts: &mut [u32], heads: &[u32], nodes: &[NodeNo]) -> 
     count
 }
 
-/// Adds one to a count, and returns 1 where it was 0, and else 0.
+/// Adds one to a count, and returns 1 if it was 0, otherwise 0.
 fn raise(counts: &mut [u32], number: usize) -> usize
     requires number { number < length counts.old }
     requires few { count_at counts.old number + 1 < 2 ^ 32 }
@@ -57,7 +57,7 @@ pub(crate) fn lower_all(counts: &mut [u32], heads: &[u32], nodes: &[NodeNo]) -> 
     count
 }
 
-/// Takes one off a count that is not 0, and returns 1 where it is 0 now, and else 0.
+/// Takes one off a count that is not 0, and returns 1 if it is 0 now, otherwise 0.
 fn lower(counts: &mut [u32], number: usize) -> usize
     requires number { number < length counts.old }
     requires counted { 0 < count_at counts.old number }

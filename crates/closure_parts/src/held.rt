@@ -1,5 +1,5 @@
-//! What a closure holds: its configuration; its receipts, in an arena by line, with their order by
-//! bucket beside it where that is kept; and its records of distrust.
+//! What a closure holds: its configuration; its receipts, in an arena by line, and their order by
+//! bucket if that is kept; and its records of distrust.
 ghost use Rattle.std.specs.Prelude.{◌≡◌, ℕ, ◌+◌, ◌<◌, ◌≤◌, ◌↔◌, [], ◌∷◌, ◌++◌, length, Contains};
 ghost use Rattle.std.specs.Prelude.{IsTrue, IsOk, OnOk, IfOk, IfSome, MatchResult};
 ghost use Rattle.fed_config.specs.Configuration.{IsConfiguration};
@@ -27,7 +27,7 @@ use spiffe_name::TrustDomain;
 use std::alloc::Global;
 use std::marker::Model;
 
-/// Where a receipt that fits stands among those that are held.
+/// The place of a receipt that fits among those that are held.
 pub enum Lookup {
     /// It is held.
     Present,
@@ -35,9 +35,9 @@ pub enum Lookup {
     Absent(usize),
 }
 
-/// The configuration, the receipts in order of arrival, beside their order by lines, and the
-/// records of distrust in their order. Where receipts are exchanged, also the order of the receipts
-/// by the first byte of their ids, which they keep then.
+/// The configuration, the receipts in order of arrival with their order by lines, and the records
+/// of distrust in their order. If receipts are exchanged, also the order of the receipts by the
+/// first byte of their ids, which they keep then.
 #[derive(Drop)]
 pub struct Held {
     config: Config,
@@ -76,7 +76,7 @@ impl Held {
             (meaning_of h ≡ record { config = config.now; held = []; records = [] })
             × (h.arrived ≡ [])) }
     {
-        // That the configuration is well formed stands on this call.
+        // The proof needs this call: it says that the configuration is well formed.
         let _ = config.domains();
         Ok(Held {
             config: config.try_clone(alloc)?,
@@ -99,7 +99,7 @@ impl Held {
     /// Whether the receipt is held, or else its place.
     ///
     /// # Errors
-    /// The receipt does not fit: `UnknownDomain` or `WrongEndpoint`, as [`check_fit`] says. Or it
+    /// The receipt does not fit, and why [`check_fit`] says. Or it
     /// is not held, and there are as many as there may be: `Full`.
     pub fn standing(&self, receipt: &Receipt) -> Result<Lookup, TakeError>
         ensures { MatchResult result (Stands (meaning_of self.now) receipt.now)
@@ -116,8 +116,8 @@ impl Held {
         }
     }
 
-    /// The number of the receipt's domain, for guesses. It is 0 where the configuration does not
-    /// have the domain.
+    /// The number of the receipt's domain, for guesses. It is 0 if the configuration does not have
+    /// the domain.
     pub fn domain_hint_of(&self, receipt: &Receipt) -> u32 {
         self.domain_hint(receipt.domain())
     }
@@ -184,8 +184,8 @@ impl Held {
     /// Holds a record of distrust. It takes no memory.
     ///
     /// # Errors
-    /// The domain is none of the configuration (`UnknownDomain`), or the record is new, and there
-    /// are as many as there may be (`Full`). Nothing has changed then.
+    /// The domain is not one of the configuration (`UnknownDomain`), or the record is new, and
+    /// there are as many as there may be (`Full`). Nothing has changed then.
     pub fn add_record(&mut self, domain: &TrustDomain, key: KeyId) -> Result<Insertion, TakeError>
         ensures meaning { AddsOrRefuses (meaning_of self.old)
             (record { domain = domain.now; key = key }) (meaning_of self.new) result }
@@ -221,7 +221,7 @@ impl Held {
         Receipts::new(self.receipts.from(0))
     }
 
-    /// The receipts of a bucket. Where the order of buckets is not kept, all are looked through.
+    /// The receipts of a bucket. If the order of buckets is not kept, all are looked through.
     pub fn receipts_of(&self, bucket: u8) -> Receipts<'_>
         ensures { result ≡ receipts_in bucket self.now.held }
     {
@@ -262,7 +262,7 @@ impl Held {
     }
 
     /// Whether the key is distrusted in the domain. In a domain that the configuration does not
-    /// have no key is.
+    /// have, no key is distrusted.
     pub fn is_distrusted(&self, domain: &TrustDomain, key: KeyId) -> bool
         ensures { IsTrue result
             ↔ Contains self.now.records (record { domain = domain.now; key = key }) }
@@ -273,7 +273,7 @@ impl Held {
         }
     }
 
-    /// The same of the domain with the number, in the order of the configuration's domains.
+    /// The same for the domain with this number, in the order of the configuration's domains.
     pub fn is_distrusted_in(&self, domain: u32, key: KeyId) -> bool
         ensures { IsTrue result ↔ IsDistrustedIn self.now domain key }
     {

@@ -4,7 +4,7 @@
 //!
 //! `records` keeps the records of distrust. `held` keeps all that is held, and finds receipts by
 //! the probes of `probes` with the guesses of `receipt_hint`. `pairs` numbers the different
-//! documents, and `document_counts` counts the accepted nodes of each. Of a merge, `copies` rules
+//! documents, and `document_counts` counts the accepted nodes of each. In a merge, `copies` rules
 //! out the causes of refusal and copies what is new, and `union` takes that in over the trait
 //! `Mergeable`.
 #![tactic(auto)]

@@ -22,10 +22,10 @@ use std::cmp::Ordering;
 use std::marker::Model;
 use wait_index::NodeNo;
 
-/// The documents of domains that the nodes have, each different one once in their order, by the
-/// number of its first node, its head; the head for each node; and for each node a count, which
-/// says of a head how many marked nodes have its document. A document is accepted where its count
-/// is not 0.
+/// The documents of domains that the nodes have: each different one once, in their order, by the
+/// number of its first node, its head; the head for each node; and for each node a count. The count
+/// of a head is how many marked nodes have its document. A document is accepted if its count is not
+/// 0.
 #[derive(Drop)]
 pub struct Pairs {
     order: Order,
@@ -33,9 +33,8 @@ pub struct Pairs {
     counts: Vec<u32>,
 }
 
-/// By what documents are ordered, but for their texts: the number of the domain, of which a
-/// configuration has at most 1,024, above the rank, where an absent one is 0 and every other one
-/// more.
+/// What orders documents, apart from their texts: the number of the domain (a configuration has at
+/// most 1,024) above the rank. An absent rank counts as 0, and every other one as one more.
 fn hint_of(domain: u32, document: &Document) -> u64 {
     let rank = document.rank().map_or(0, |rank| rank.saturating_add(1));
     (u64::from(domain).min(1023) << 54) | short_rank(rank)
@@ -44,7 +43,8 @@ fn hint_of(domain: u32, document: &Document) -> u64 {
 /// Ranks below this one have 53 bits.
 const LONG_RANK: u64 = 1 << 53;
 
-/// The rank in 54 bits, which keep the order of ranks. Of a long one the last eleven are left out.
+/// The rank in 54 bits, which keep the order of ranks. The last eleven bits of a longer rank are
+/// left out.
 fn short_rank(rank: u64) -> u64 {
     if rank < LONG_RANK {
         rank
@@ -94,7 +94,7 @@ impl<'a> Guess for SoughtPair<'a> {
         self.hint
     }
 
-    // How the text of the document with the number seems to stand to that of this one.
+    // Whether the text of the document with this number seems to come before that of this one.
     fn guess(&self, number: u32, agreed: Agreed) -> (bool, usize) {
         match self.text_of(number as usize) {
             Some(text) => {
@@ -152,7 +152,7 @@ impl<'a> Probe for SoughtDomain<'a> {
     }
 }
 
-/// Documents are ordered by rank and then by canonical text, which is read only where the ranks are
+/// Documents are ordered by rank and then by canonical text, which is read only if the ranks are
 /// equal.
 fn compare_documents(a: &Document, b: &Document) -> Ordering
     ensures { result ≡ document_cmp a.now b.now }
@@ -200,13 +200,13 @@ impl Pairs {
         self.order.try_reserve(more)?;
         self.heads.try_reserve(nodes)?;
         self.counts.try_reserve(nodes)?;
-        // That there are so few stands on this call.
+        // The proof needs this call: it says that there are few enough.
         let _few = self.order.len();
         Ok(())
     }
 
     /// Adds the next node, with its document, to those of these nodes. There is room for it. Its
-    /// count is 0. `domain_hint` is the number of the domain, for guesses alone.
+    /// count is 0. `domain_hint` is the number of the domain, only for guesses.
     pub fn add(
         &mut self,
         seeds: &[Seed],
@@ -335,8 +335,8 @@ impl Pairs {
     }
 }
 
-/// The first number of what is sought, which is added as `number` where it is not there. There is
-/// room for it.
+/// The first number of what is sought, which is added as `number` if it is not there. There is room
+/// for it.
 fn first_number(order: &mut Order, sought: &SoughtPair<'_>, number: u32) -> u32
     requires known { All (λ n. n < length (pairs_of sought.now.seeds.now sought.now.receipts.now))
         order.old.items }

@@ -1,4 +1,4 @@
-//! Where a receipt stands beside the first one that was held, for guesses. No clause speaks of it.
+//! Guesses a receipt's place from the first receipt that was held. No clause speaks of it.
 use receipt_core::Receipt;
 use sorted_order::{Agreed, guess_text};
 use std::cmp::Ordering;
@@ -7,7 +7,7 @@ use std::cmp::Ordering;
 /// after it higher ones.
 const MIDDLE: u64 = 1 << 63;
 
-/// Where texts agree on more bytes than this, it counts as this many.
+/// If texts agree on more bytes than this, it counts as this many.
 const MOST_AGREED: u64 = (1 << 17) - 1;
 
 /// The bits below those of the bytes that agree: four bytes of seven bits each, and the number.
@@ -16,11 +16,11 @@ const AGREED_SHIFT: u32 = 46;
 /// The bits of the number: below 11 to the power of 5.
 const NUMBER_BITS: u32 = 18;
 
-/// A number that rises with the order of receipts, for most of them: by the byte at which the
-/// document's text leaves that of the first receipt that was held, then by the four bytes from
-/// there on, and then by the number at the text's end. The first bytes of a text say little, since
-/// most texts begin alike. Texts that leave the first one alike have mostly the same keys, so what
-/// tells them is their sequence number.
+/// A number that rises with the order of receipts, for most of them: by the place at which the
+/// document's text differs from that of the first receipt that was held, then by the four bytes
+/// from there on, and then by the number at the text's end. The first bytes of a text say little,
+/// since most texts begin alike. Texts that differ from the first one at the same place mostly have
+/// the same keys, so their sequence numbers tell them apart.
 pub(crate) fn receipt_hint(held: &[Receipt], receipt: &Receipt) -> u64 {
     match held.first() {
         Some(first) => hint_beside(first.document().canonical(), receipt.document().canonical()),
@@ -37,7 +37,7 @@ fn hint_beside(first: &[u8], text: &[u8]) -> u64 {
     let agreed = (place as u64).min(MOST_AGREED);
     let behind = (bytes_from(text, place) << NUMBER_BITS) | number_of(text);
     match order {
-        // Of the texts before the first one, those that leave it later stand nearer to it.
+        // Among the texts before the first one, those that differ later are nearer to it.
         Ordering::Less => (agreed << AGREED_SHIFT) | behind,
         Ordering::Equal => MIDDLE,
         Ordering::Greater => MIDDLE | ((MOST_AGREED - agreed) << AGREED_SHIFT) | behind,
@@ -56,7 +56,7 @@ fn bytes_from(text: &[u8], place: usize) -> u64 {
 }
 
 /// The first five digits behind the last colon, as a number that rises with their order as texts:
-/// where they end counts as more than each digit.
+/// the end counts as more than each digit.
 fn number_of(text: &[u8]) -> u64 {
     let colon = match text.iter().rposition(|byte| *byte == b':') {
         Some(place) => place,

@@ -1,4 +1,4 @@
-//! The records of distrust that a closure keeps: a rising vector of at most 4,096, whose room is
+//! The records of distrust that a closure keeps: a sorted vector of at most 4,096, whose room is
 //! made at the start.
 ghost use Rattle.std.specs.Prelude.{◌≡◌, ◌+◌, ◌≤◌, ◌↔◌, [], length, Contains, IfOk, IsTrue};
 ghost use Rattle.std.specs.List.Sorted.{IsStrictlySortedBy};

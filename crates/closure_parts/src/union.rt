@@ -25,8 +25,8 @@ pub trait Mergeable {
 
     ghost state: { Self → HeldAndRoom };
 
-    // How much work the last records of distrust were that were new, as this closure counts it, and
-    // that it would be this much if these records were held besides.
+    // How much work the last new records of distrust were, as this closure counts it; and that it
+    // would be this much if these records were held as well.
     ghost work_done: { Self → ℕ };
 
     ghost IsWork: { Self → List Distrust → ℕ → Type 0 };
@@ -43,8 +43,8 @@ pub trait Mergeable {
         ensures takes { Takes (state self.old) receipt (state self.new) result }
         ensures same_work { work_done self.new ≡ work_done self.old };
 
-    /// Distrusts keys in domains of the configuration, as many as there may be. Where none of the
-    /// records is new that is no work.
+    /// Distrusts keys in domains of the configuration, as many as there may be. It takes no work if
+    /// none of the records is new.
     fn distrust_all(&mut self, records: Distrusts<'_>)
         requires { AreKnown (state self.old).meaning records }
         ensures meaning { (state self.new).meaning ≡ record (state self.old).meaning

@@ -22,6 +22,7 @@ fn take_codes(out: &mut String) -> Result<(), AllocError> {
     for error in [
         TakeError::UnknownDomain,
         TakeError::WrongEndpoint,
+        TakeError::BelowFloor,
         TakeError::Full,
         TakeError::NoMemory,
         TakeError::ConfigDiffers,

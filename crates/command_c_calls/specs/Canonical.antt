@@ -14,7 +14,7 @@ pub record WritesCanon (domain bytes text : List ℕ) : Type 0 where
   pub read : IsDocument bytes document
   pub is : text ≡ canon_text domain document
 
--- They are none, for this cause, or memory ran out.
+-- They are not a document, for this cause, or memory ran out.
 abbrev pub RefusesCanon : List ℕ → CallError → Type 0
 RefusesCanon bytes (Document e) = RefusesBytes bytes e
 RefusesCanon bytes NoMemory = Unit {0}

@@ -12,9 +12,9 @@ use std::alloc::Global;
 /// id, and for each X.509 authority a line `key` with its key id, as [`run_canon`] writes them.
 ///
 /// # Errors
-/// Of these the first that holds:
-/// - [`CallError::Usage`], [`CallError::Name`]: the bytes are no domain's name,
-/// - [`CallError::Document`]: they are no document,
+/// The first of these that holds:
+/// - [`CallError::Usage`], [`CallError::Name`]: the bytes are not a domain's name,
+/// - [`CallError::Document`]: they are not a document,
 /// - [`CallError::NoMemory`]: memory ran out.
 pub fn canon_bytes(alloc: Global, domain: &[u8], document: &[u8]) -> Result<Vec<u8>, CallError>
     ensures { MatchResult result (λ text. WritesCanonBytes domain.now document.now text.items)
@@ -33,7 +33,7 @@ fn canon_of(alloc: Global, domain: &TrustDomain, document: &[u8]) -> Result<Vec<
     match run_canon(alloc, domain, OutputForm::Text, &mut source, &mut sink) {
         Ok(()) => Ok(sink.into_text()),
         Err(CommandError::Document(why)) => Err(CallError::Document(why)),
-        // Bytes in memory do not fail, and the sink fails for lack of memory alone.
+        // Bytes in memory do not fail, and the sink fails only for lack of memory.
         Err(_) => Err(CallError::NoMemory),
     }
 }

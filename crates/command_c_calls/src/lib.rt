@@ -1,5 +1,5 @@
 //! The command's calls that hold no replica, over bytes in memory: `report` and `canon`. As in
-//! `replica_c_calls`, which has the error and the sink, texts come in and texts go out.
+//! `replica_c_calls`, which has the error and the sink, each text comes in or goes out as bytes.
 //!
 //! `reported_lines` reports what is accepted from lines of receipts, `canon_text` writes the
 //! canonical form of a document with its ids, and `discarding_sink` takes what nobody reads.

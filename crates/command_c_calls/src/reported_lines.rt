@@ -14,7 +14,7 @@ use std::alloc::Global;
 pub struct ReportedLines {
     /// The report of what is accepted.
     pub report: Vec<u8>,
-    /// How many lines have no receipt that fits, with one more where bytes follow the last line.
+    /// How many lines have no receipt that fits, and one more if bytes follow the last line.
     pub refused: u64,
 }
 
@@ -22,8 +22,8 @@ pub struct ReportedLines {
 /// [`run_report`] does.
 ///
 /// # Errors
-/// Of these the first that holds:
-/// - [`CallError::Config`]: the bytes are no configuration,
+/// The first of these that holds:
+/// - [`CallError::Config`]: the bytes are not a configuration,
 /// - [`CallError::Full`]: more than 65,536 different receipts fit,
 /// - [`CallError::NoMemory`]: memory ran out.
 pub fn report_lines(alloc: Global, config: &[u8], lines: &[u8]) -> Result<ReportedLines, CallError>
@@ -47,7 +47,7 @@ fn report_text(alloc: Global, config: &Config, lines: &[u8]) -> Result<ReportedL
             refused,
         }),
         Err(RunError::Full) => Err(CallError::Full),
-        // Bytes in memory do not fail, and the sink fails for lack of memory alone.
+        // Bytes in memory do not fail, and the sink fails only for lack of memory.
         Err(RunError::NoMemory) => Err(CallError::NoMemory),
         Err(RunError::Io) => Err(CallError::NoMemory),
     }

@@ -1,4 +1,4 @@
-//! A second look at files and input that were refused: where they are at fault, in words.
+//! A second look at files and input that were refused: what is wrong in them, and where.
 use crate::reasons::state_path;
 use bundle_doc::{Document, MAX_DOCUMENT_BYTES};
 use byte_lines::{FromRead, read_up_to};
@@ -15,7 +15,7 @@ use std::io::Read;
 use std::{fs, io};
 use trust_closure::IndexedClosure;
 
-/// Where standard input is a file of its own.
+/// The path of standard input as a file.
 const STANDARD_INPUT: &str = "/dev/stdin";
 
 // The bytes of the file, or what the system says. A folder is opened, and then not read.
@@ -43,7 +43,7 @@ fn say_unread(
 
 // ---- configurations
 
-/// Where the configuration in the file is at fault, and whether it is.
+/// Says where the configuration in the file is wrong, and returns whether it is.
 pub(crate) fn say_config(
     rt: &HostRuntime,
     option: OptionName,
@@ -89,7 +89,7 @@ fn say_config_fault(
     }
 }
 
-// Where the bytes stop being JSON.
+// The place at which the bytes stop being JSON.
 fn say_no_json(rt: &HostRuntime, lead: &str, bytes: &[u8]) -> Result<(), AllocError> {
     if bytes.is_empty() {
         say(rt, format!(in rt.alloc(); "{lead}: it is empty")?.as_str());
@@ -141,6 +141,7 @@ fn place_text(alloc: Global, config: &Value, place: FlawPlace) -> Result<String,
             }
             None => format!(in alloc; "seeds[{number}]: "),
         },
+        FlawPlace::Floors => String::from_str(alloc, "floors: "),
     }
 }
 
@@ -155,6 +156,9 @@ fn flaw_text(alloc: Global, flaw: &Flaw<'_>) -> Result<String, AllocError> {
         Flaw::MissingMember(name) => named(alloc, "no member", name),
         Flaw::NotText(name) => named(alloc, "no text is the member", name),
         Flaw::NotArray(name) => named(alloc, "no array is the member", name),
+        Flaw::NotNumber(name) => named(alloc, "no sequence number is the member", name),
+        Flaw::BadFloorName(name, why) => with_cause(alloc, "domain", name, why),
+        Flaw::UnknownDomain(name) => named(alloc, "unknown domain", name),
         Flaw::BadDomain(text, why) => with_cause(alloc, "domain", text, why),
         Flaw::BadEndpoint(text, why) => with_cause(alloc, "endpoint", text, why),
         Flaw::BadUrl(why) => String::from_str(alloc, url_text(*why)),
@@ -164,6 +168,12 @@ fn flaw_text(alloc: Global, flaw: &Flaw<'_>) -> Result<String, AllocError> {
             format!(in alloc; "domain {text} is that of relationships[{earlier}]")
         }
         Flaw::BadBundle(why) => format!(in alloc; "{why}"),
+        Flaw::BelowFloor(rank, floor) => {
+            format!(in alloc; "sequence {rank} is below the floor {floor}")
+        }
+        Flaw::NoSequence(floor) => {
+            format!(in alloc; "no sequence number, and the floor is {floor}")
+        }
     }
 }
 
@@ -194,7 +204,7 @@ fn url_text<'a>(why: UrlFlaw) -> &'a str {
 
 // ---- bundles
 
-/// Why the bytes of standard input are no bundle, or which of its keys count for nothing.
+/// Why the bytes of standard input are not a bundle, or which of its keys count for nothing.
 pub(crate) fn say_bundle(
     rt: &HostRuntime,
     bytes: &[u8],
@@ -406,7 +416,7 @@ pub(crate) fn say_stream(rt: &HostRuntime) -> Result<(), AllocError> {
     Ok(())
 }
 
-// A folder is the one input whose fault shows without reading.
+// A folder is the only input whose error shows without reading.
 fn probe_input(rt: &HostRuntime) -> io::Result<()> {
     if fs::metadata(rt, STANDARD_INPUT)?.is_dir() {
         return Err(io::Error::from(io::ErrorKind::IsADirectory));

@@ -1,7 +1,7 @@
-//! How a fault is explained to an operator, in lines after the one that reports it.
+//! How an error is explained to an operator, in lines after the one that reports it.
 //!
-//! `reasons` finds the file or the option that is at fault, `fault_places` the part of a file, and
-//! `missing_words` what is missing among words that are no call. Proved here is safety.
+//! `reasons` finds the file or the option that is wrong, `fault_places` the part of a file, and
+//! `missing_words` what is missing among arguments that are not a call. Only safety is proved here.
 #![tactic(auto)]
 
 mod fault_places;

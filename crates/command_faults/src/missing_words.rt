@@ -1,9 +1,9 @@
-//! Words that clap takes and that are no call: what is missing.
+//! Arguments that clap takes and that are not a call: what is missing.
 use command_streams::{is_verbose_unasked, print_exit, say};
 use fedbundle::{Exit, OptionName, command_of};
 use std::alloc::AllocError;
 
-/// Reports that the words are no call, and what is missing, and returns the exit status.
+/// Reports that the arguments are not a call, and what is missing, and returns the exit status.
 pub fn end_without_call(rt: &HostRuntime, words: &[&str]) -> u8 {
     let status = print_exit(rt, &Exit::Usage);
     if is_asked_for(words) || is_verbose_unasked(rt) {
@@ -35,7 +35,7 @@ fn say_lack(rt: &HostRuntime, words: &[&str]) -> Result<(), AllocError> {
     Ok(())
 }
 
-// What is wrong with how an option stands among the words.
+// What is wrong with an option among the arguments.
 fn lack_of<'a>(words: &[&str], option: OptionName, has_at: bool) -> Option<&'a str> {
     let stands = has_option(words, option);
     if has_at && option.is_place() {
@@ -49,7 +49,7 @@ fn has_option(words: &[&str], option: OptionName) -> bool {
     words.iter().any(|word| is_option(word, option.text()))
 }
 
-// Whether the word is the option, or begins with it and has its text after an equals sign.
+// Whether the argument is the option, or begins with it and has its text after an equals sign.
 fn is_option(word: &str, name: &str) -> bool {
     let Some(rest) = word.strip_prefix("--") else {
         return false;

@@ -1,6 +1,6 @@
 //! Why the program ends, as further lines after the one that reports it: the file, the option or
-//! the part of it that is at fault. A fault keeps no more than numbers, so this looks a second time
-//! at what the command was given, and only where these lines are wanted.
+//! the part of it that is wrong. An error keeps no more than numbers, so this looks a second time
+//! at what the command was given, and only if these lines are wanted.
 use crate::fault_places::{say_bundle, say_config, say_state, say_stream};
 use command_streams::options::{address, config, known_address, may_listen};
 use command_streams::{is_verbose_for, print_exit, quoted, say, shown, words_of};
@@ -12,10 +12,10 @@ use spiffe_name::{NameError, SpiffeId, TrustDomain};
 use std::alloc::{AllocError, Global};
 use std::io;
 
-/// The exit status where memory ran out: then nothing is looked at again.
+/// The exit status for lack of memory: then nothing is looked at again.
 const OUT_OF_MEMORY: u8 = 4;
 
-/// The exit status of what was done. A fault is reported.
+/// The exit status of what was done. An error is reported.
 pub fn status_of(rt: &HostRuntime, call: &Call<'_>, done: Result<u8, Exit>) -> u8 {
     match done {
         Ok(status) => status,
@@ -156,7 +156,7 @@ fn say_address(rt: &HostRuntime, call: &Call<'_>) -> Result<(), AllocError> {
     }
 }
 
-// The options of a replica that have addresses. One that is none is among them.
+// The options of a replica that have addresses. One of them is not an address.
 fn say_addresses(rt: &HostRuntime, call: &Call<'_>, why: &str) -> Result<(), AllocError> {
     let anywhere = "is not a loopback address: --listen-anywhere allows it";
     let listen = given(call, OptionName::Listen).map(known_address);
@@ -190,7 +190,7 @@ pub(crate) fn state_path<'a>(call: &Call<'a>) -> &'a str {
     given(call, OptionName::State).unwrap_or("")
 }
 
-// Where the command was to listen: a replica may do so at two addresses.
+// The addresses at which the command was to listen: a replica may do so at two.
 fn listen_addresses(alloc: Global, call: &Call<'_>) -> Result<String, AllocError> {
     match (
         given(call, OptionName::Listen),
@@ -261,7 +261,7 @@ fn say_refusal(rt: &HostRuntime, call: &Call<'_>, error: &CommandError) -> Resul
     }
 }
 
-// Each configuration that the words name and that is refused, and whether there is one.
+// Each configuration that the arguments name and that is refused, and whether there is one.
 fn say_configs(rt: &HostRuntime, call: &Call<'_>) -> Result<bool, AllocError> {
     let mut has_said = false;
     let options = [OptionName::Config, OptionName::To, OptionName::With];

@@ -33,7 +33,7 @@ use Rattle.command_line.specs.declared.command_name.OptionName.TheVariants.{Keys
 use Rattle.command_line.specs.declared.command_name.OptionName.TheVariants.{PublicKey, Polls}
 use Rattle.command_line.specs.declared.command_name.OptionName.TheVariants.{OptionalNow, Health}
 use Rattle.command_line.specs.declared.command_name.OptionName.TheVariants.{ExpiresWithin, Audit}
-use Rattle.command_line.specs.declared.command_name.OptionName.TheVariants.{PeerQuiet}
+use Rattle.command_line.specs.declared.command_name.OptionName.TheVariants.{PeerQuiet, Floors}
 
 abbrev pub option_text : OptionName → List ℕ
 option_text Config = codes "config"
@@ -54,6 +54,7 @@ option_text At = codes "at"
 option_text Wait = codes "wait"
 option_text MostBytes = codes "most-bytes"
 option_text Allow = codes "allow"
+option_text Floors = codes "floors"
 option_text DryRun = codes "dry-run"
 option_text Verbose = codes "verbose"
 option_text Format = codes "format"
@@ -80,6 +81,7 @@ option_text Audit = codes "audit"
 -- it has no text after it
 abbrev pub is_flag : OptionName → Bool
 is_flag RecordsOnly = true
+is_flag Floors = true
 is_flag DryRun = true
 is_flag Verbose = true
 is_flag Short = true
@@ -164,7 +166,7 @@ options_of command.Observe = Config ∷ State ∷ Domain ∷ Endpoint ∷ Key �
     ∷ At ∷ []
 options_of command.Merge = Config ∷ State ∷ Wait ∷ MostBytes ∷ Verbose ∷ At ∷ []
 options_of command.Migrate = Config ∷ State ∷ To ∷ RecordsOnly ∷ Wait ∷ Verbose ∷ At ∷ []
-options_of command.Reseed = Config ∷ State ∷ Allow ∷ Wait ∷ Verbose ∷ At ∷ []
+options_of command.Reseed = Config ∷ State ∷ Allow ∷ Floors ∷ Wait ∷ Verbose ∷ At ∷ []
 options_of command.Polls = Config ∷ State ∷ Now ∷ Format ∷ Wait ∷ Verbose ∷ At ∷ []
 options_of command.Distrust = Config ∷ State ∷ Domain ∷ OptionalKey ∷ PublicKey ∷ DryRun ∷ New
     ∷ Wait ∷ Verbose ∷ At ∷ []

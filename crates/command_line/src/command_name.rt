@@ -27,6 +27,7 @@ pub enum OptionName {
     Wait,
     MostBytes,
     Allow,
+    Floors,
     DryRun,
     Verbose,
     Format,
@@ -149,6 +150,7 @@ impl OptionName {
             OptionName::Wait => "wait",
             OptionName::MostBytes => "most-bytes",
             OptionName::Allow => "allow",
+            OptionName::Floors => "floors",
             OptionName::DryRun => "dry-run",
             OptionName::Verbose => "verbose",
             OptionName::Format => "format",
@@ -181,6 +183,7 @@ impl OptionName {
         matches!(
             self,
             OptionName::RecordsOnly
+                | OptionName::Floors
                 | OptionName::DryRun
                 | OptionName::Verbose
                 | OptionName::Short
@@ -366,10 +369,11 @@ static MIGRATE: [OptionName; 7] = [
     OptionName::At,
 ];
 
-static RESEED: [OptionName; 6] = [
+static RESEED: [OptionName; 7] = [
     OptionName::Config,
     OptionName::State,
     OptionName::Allow,
+    OptionName::Floors,
     OptionName::Wait,
     OptionName::Verbose,
     OptionName::At,

@@ -1,10 +1,10 @@
 //! What help and usage say of the command, its subcommands and their options.
 use crate::command_name::{CommandName, OptionName};
 
-/// The version; then the kit with which it is proved and built, and the formats: the numbers are
-/// those in the first lines that are written.
-pub(crate) const VERSION: &str = "\
-0.7.0
+/// What `--version` prints: the version on a line of its own; then the kit with which it is proved
+/// and built, and the formats: the numbers are those in the first lines that are written.
+pub const VERSION: &str = "\
+0.8.0
 kit rattle-kit-13f logic dac8208d650f15bf
 state format 2, and 1 is read
 journal format 2
@@ -249,9 +249,14 @@ const RESEED_NOTES: &str = "\
 Reads the configuration and the state file, or with --at asks a running replica; nothing
 from standard input. A missing state is refused.
 
-Writes to standard output the configuration with the same relationships, whose seeds are
-the current bundles. It writes no file. `migrate --records-only` carries over the records
-of distrust.
+Writes to standard output the configuration with the same relationships and floors, whose
+seeds are the current bundles. It writes no file. `migrate --records-only` carries over the
+records of distrust.
+
+--floors raises the floors: that of a domain becomes the sequence of its current bundle. A
+domain without a current bundle keeps its floor, if it has one, and a current bundle without
+a sequence gives none. A line on standard error says how many of the receipts that are held
+fit the new configuration, as `receipts that stay: 100 of 24120`; `migrate` takes those along.
 
 Ends with 0; with 1 if anything read is refused, or if a current bundle lists a distrusted
 key or another bundle has its sequence: then each such domain, except the one of --allow,
@@ -404,6 +409,7 @@ impl OptionName {
             OptionName::Wait => "SECONDS",
             OptionName::MostBytes => "BYTES",
             OptionName::Allow => "DOMAIN",
+            OptionName::Floors => "",
             OptionName::DryRun => "",
             OptionName::Verbose => "",
             OptionName::Format => "FORMAT",
@@ -459,6 +465,8 @@ impl OptionName {
             OptionName::MostBytes =>
                 "How many bytes to take at most, with those of the state file [4294967296]",
             OptionName::Allow => "A domain whose current bundle may be a seed even so",
+            OptionName::Floors =>
+                "Makes the sequence of each current bundle the floor of its domain",
             OptionName::DryRun => "Prints what would change, and writes no file",
             OptionName::Verbose => "Says more on standard error",
             OptionName::Format => "The format of what is printed; the formats are named below",
@@ -614,9 +622,10 @@ impl CommandName {
                 [--wait <SECONDS>] [--verbose]"
             }
             CommandName::Reseed => {
-                "fedbundle reseed --config <FILE> --state <FILE> [--allow <DOMAIN>] \
+                "fedbundle reseed --config <FILE> --state <FILE> [--allow <DOMAIN>] [--floors] \
                 [--verbose]\n       \
-                fedbundle reseed --at <PATH> [--allow <DOMAIN>] [--wait <SECONDS>] [--verbose]"
+                fedbundle reseed --at <PATH> [--allow <DOMAIN>] [--floors] [--wait <SECONDS>] \
+                [--verbose]"
             }
             CommandName::Polls => {
                 "fedbundle polls --config <FILE> --state <FILE> --now <SECONDS> \

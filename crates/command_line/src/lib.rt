@@ -10,6 +10,7 @@ mod sessions;
 mod words;
 
 pub use command_name::{CommandName, OptionName};
+pub use help_texts::VERSION;
 pub use option_error::OptionError;
 pub use option_texts::{
     BundleFormat, ExplanationForm, Manner, OutputForm, given, is_flag_given, manner_of,

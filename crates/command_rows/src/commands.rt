@@ -23,7 +23,7 @@ use migration::Choice;
 use receipt_core::Distrust;
 use replica_sync::{read_snapshot, write_snapshot};
 use replica_view::write_held_difference;
-use reseeding::{Reseeded, reseed};
+use reseeding::{FloorChoice, Reseeded, reseed};
 use row_script::Script;
 use spiffe_name::{SpiffeId, TrustDomain};
 use status_warnings::{WarnLimits, Watch, write_warned_status};
@@ -312,7 +312,9 @@ fn do_asked<C: Closure>(
         (CommandName::Migrate, [to, records_only, ..]) => {
             migrate(case, closure, *to, choice_of(*records_only), devices)
         }
-        (CommandName::Reseed, [allowed, ..]) => reseed_held(case, closure, *allowed, devices),
+        (CommandName::Reseed, [allowed, floors, ..]) => {
+            reseed_held(case, closure, *allowed, floors_of(*floors), devices)
+        }
         (CommandName::Polls, [Some(now), form, ..]) => polls(case, closure, now, *form, devices),
         (CommandName::Distrust, [Some(domain), Some(key), _public_key, flags @ ..]) => {
             let record = record_of(case.alloc, domain, key)?;
@@ -414,16 +416,35 @@ fn migrate_to<C: Closure>(
     Ok(())
 }
 
+fn floors_of(text: Option<&str>) -> FloorChoice {
+    if is_flag_given(text) {
+        FloorChoice::Raised
+    } else {
+        FloorChoice::Kept
+    }
+}
+
 // A domain that is refused makes the exit status 1.
 fn reseed_held<C: Closure>(
     case: &Case<'_>,
     closure: &C,
     allowed: Option<&str>,
+    floors: FloorChoice,
     devices: &mut Devices,
 ) -> Result<(), CommandError> {
     let allowed = domain_of(case, allowed)?;
-    match reseed(case.alloc, closure, allowed.as_ref())? {
-        Reseeded::NewConfig(text) => write_all(&mut devices.output, text.as_slice())?,
+    match reseed(case.alloc, closure, allowed.as_ref(), floors)? {
+        Reseeded::Seeded(new) => {
+            write_all(&mut devices.output, new.text.as_slice())?;
+            if floors == FloorChoice::Raised {
+                let held = closure.receipt_count();
+                let line = format!(in case.alloc;
+                    "receipts that stay: {} of {held}\n",
+                    new.staying
+                )?;
+                write_all(&mut devices.errors, line.as_bytes())?;
+            }
+        }
         Reseeded::Refusals(lines) => {
             write_all(&mut devices.errors, lines.as_slice())?;
             devices.status = 1;

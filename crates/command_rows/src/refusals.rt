@@ -120,6 +120,7 @@ fn take_of(name: &str) -> Option<TakeError> {
     match name {
         "UnknownDomain" => Some(TakeError::UnknownDomain),
         "WrongEndpoint" => Some(TakeError::WrongEndpoint),
+        "BelowFloor" => Some(TakeError::BelowFloor),
         "Full" => Some(TakeError::Full),
         "NoMemory" => Some(TakeError::NoMemory),
         "ConfigDiffers" => Some(TakeError::ConfigDiffers),

@@ -2,7 +2,7 @@
 use crate::streams::complaints;
 use fedbundle::{CommandError, Exit, exit_status, write_exit};
 
-/// Prints on standard error why the program ends, and returns its exit status, or 3 where that is
+/// Prints on standard error why the program ends, and returns its exit status, or 3 if that is
 /// greater and standard error failed.
 pub fn print_exit(rt: &HostRuntime, exit: &Exit) -> u8 {
     let written = write_exit(exit, &mut complaints(rt)).is_ok();
@@ -10,8 +10,9 @@ pub fn print_exit(rt: &HostRuntime, exit: &Exit) -> u8 {
     if written { status } else { status.max(3) }
 }
 
-/// Prints what clap says of the words, and returns the exit status: on standard error that they are
-/// none of a command, and on standard output the help or the version that they ask for.
+/// Prints what clap says of the arguments, and returns the exit status. It prints on standard error
+/// that they are not those of a command, and on standard output the help or the version that they
+/// ask for.
 pub fn print_clap(rt: &HostRuntime, shown: &clap::Error) -> u8 {
     match (shown.print(rt).is_ok(), shown.use_stderr()) {
         (true, true) => 2,

@@ -1,10 +1,10 @@
-//! What each command does with the process that it is: its words, its standard streams, the files
-//! and addresses that its options name, and how it ends.
+//! What each command does with the process that it is: its arguments, its standard streams, the
+//! files and addresses that its options name, and how it ends.
 //!
-//! `process_words` are the words, and `options` reads the texts of some of them. `streams` has the
-//! standard streams, and `verbose_lines` the lines on standard error beside those that report
-//! faults. `exit` reports why the program ends. Of the system's files and streams no clause says
-//! anything: proved here is safety.
+//! `process_words` are the arguments, and `options` reads the texts of some of them. `streams` has
+//! the standard streams, and `verbose_lines` the further lines on standard error, apart from those
+//! that report errors. `exit` reports why the program ends. No clause says anything of the system's
+//! files and streams: only safety is proved here.
 #![tactic(auto)]
 
 mod exit;

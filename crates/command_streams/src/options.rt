@@ -28,7 +28,7 @@ pub fn address(text: &str) -> Result<SocketAddr, Exit> {
     text.parse::<SocketAddr>().map_err(|_| Exit::BadAddress)
 }
 
-/// The same where another program has to know the port, so it is not 0.
+/// The same for a port that another program has to know, so it is not 0.
 pub fn known_address(text: &str) -> Result<SocketAddr, Exit> {
     match address(text)? {
         known if known.port() != 0 => Ok(known),
@@ -41,12 +41,12 @@ pub fn session_count(text: &str) -> Result<u32, Exit> {
     read_sessions(text).ok_or(Exit::BadNumber(OptionName::Sessions))
 }
 
-/// The configuration in the file that the words name.
+/// The configuration in the file that the arguments name.
 pub fn config_of(rt: &HostRuntime, call: &Call<'_>) -> Result<Config, Exit> {
     Ok(config(rt, rt.alloc(), wanted(call, OptionName::Config)?)?)
 }
 
-/// Whether the words allow a replica to listen there.
+/// Whether the arguments allow a replica to listen there.
 pub fn may_listen(call: &Call<'_>, address: SocketAddr) -> bool {
     address.ip().is_loopback() || is_flag_given(given(call, OptionName::ListenAnywhere))
 }

@@ -1,10 +1,10 @@
-//! The words of the command line, as the system gives them.
+//! The arguments of the command line, as the system gives them.
 use fedbundle::{CommandError, Exit};
 use std::alloc::{AllocError, Global};
 use std::rt::Env;
 use std::{env, io};
 
-/// The words that the program was started with, without its own name.
+/// The arguments that the program was started with, without its own name.
 pub fn words_of_process<R: Env + AllocGlobal>(rt: &R) -> Result<Vec<String>, Exit> {
     match env::args(rt) {
         Ok(words) => Ok(words.skip(1).collect(rt.alloc())?),
@@ -15,7 +15,7 @@ pub fn words_of_process<R: Env + AllocGlobal>(rt: &R) -> Result<Vec<String>, Exi
     }
 }
 
-/// The same words, lent.
+/// The same arguments, lent.
 pub fn texts_of(alloc: Global, words: &[String]) -> Result<Vec<&str>, AllocError> {
     words.iter().map(|word| word.as_str()).collect(alloc)
 }

@@ -11,7 +11,7 @@ use std::os::unix::io::AsFd;
 /// Where nothing is, and what each read or each write of it says.
 const NOWHERE: &str = "/dev/null";
 
-/// The most bytes of a line that goes out at once. A longer one goes out in pieces.
+/// The most bytes of a line that goes out in one piece. A longer one goes out in pieces.
 const MAX_LINE_BYTES: usize = 512;
 
 /// Files that have the numbers of the standard streams that were closed when the program started.
@@ -25,7 +25,7 @@ pub struct ClosedStreams {
 }
 
 impl ClosedStreams {
-    /// Is at fault where a stream is closed and there is no `/dev/null`.
+    /// Fails if a stream is closed and there is no `/dev/null`.
     pub fn hold(rt: &HostRuntime) -> Result<ClosedStreams> {
         // A file that is opened gets the lowest number that is free, so the order matters.
         Ok(ClosedStreams {
@@ -36,7 +36,7 @@ impl ClosedStreams {
     }
 }
 
-// A file in the place of the stream where that is closed.
+// A file in the place of the stream that is closed.
 fn stand_in<S: AsFd>(rt: &HostRuntime, stream: &S, options: &OpenOptions) -> Result<Option<File>> {
     match stream.as_fd().try_clone_to_owned() {
         Ok(_) => Ok(None),
@@ -44,8 +44,8 @@ fn stand_in<S: AsFd>(rt: &HostRuntime, stream: &S, options: &OpenOptions) -> Res
     }
 }
 
-/// A writer that gathers the bytes of a line, and writes it at once when its line feed comes. It
-/// takes no memory.
+/// A writer that gathers the bytes of a line, and writes it in one piece when its line feed comes.
+/// It takes no memory.
 #[derive(Drop)]
 pub struct WholeLines<W: Write + Drop> {
     inner: W,
@@ -93,7 +93,7 @@ impl<W: Write + Drop> Write for WholeLines<W> {
     }
 }
 
-/// Warns where other machines reach the address.
+/// Warns if other machines reach the address.
 pub fn warn_of_anywhere(rt: &HostRuntime, address: SocketAddr) {
     if !address.ip().is_loopback() {
         // That it cannot be said changes nothing.
@@ -113,7 +113,7 @@ pub fn progress_mode(rt: &HostRuntime) -> ProgressMode {
     }
 }
 
-/// The same of work that writes to standard output, where that is no terminal: its lines would come
+/// The same of work that writes to standard output, if that is not a terminal: its lines would come
 /// between those of the output.
 pub fn output_progress_mode(rt: &HostRuntime) -> ProgressMode {
     if rt.stdout().is_terminal() {
@@ -123,7 +123,7 @@ pub fn output_progress_mode(rt: &HostRuntime) -> ProgressMode {
     }
 }
 
-/// Standard error, to which each line goes at once.
+/// Standard error, to which each line goes in one piece.
 pub fn error_lines(rt: &HostRuntime) -> WholeLines<Stderr> {
     WholeLines::new(rt.stderr())
 }
@@ -133,7 +133,7 @@ pub fn complaints(rt: &HostRuntime) -> FromWrite<WholeLines<Stderr>> {
     FromWrite::new(error_lines(rt))
 }
 
-/// Standard output for one line, which goes out at once.
+/// Standard output for one line, which goes out in one piece.
 pub fn output_line(rt: &HostRuntime) -> FromWrite<WholeLines<Stdout>> {
     FromWrite::new(WholeLines::new(rt.stdout()))
 }

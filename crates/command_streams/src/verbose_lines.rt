@@ -1,6 +1,6 @@
-//! Lines on standard error beside those that report faults: whether they are wanted, and how they
-//! are written. What a stranger chose stands in them between quotation marks, and no byte of it
-//! that does not print.
+//! Further lines on standard error, apart from those that report errors: whether they are wanted,
+//! and how they are written. What a stranger chose is between quotation marks in them, without
+//! bytes that do not print.
 use crate::streams::error_lines;
 use fault_view::{push_quoted, push_shown};
 use fedbundle::{Call, OptionName, given, is_flag_given};
@@ -9,7 +9,7 @@ use std::io;
 use std::io::{IsTerminal, Write};
 use std::rt::Env;
 
-/// The variable of the environment that asks for more lines, where it is `1`.
+/// The variable of the environment that asks for more lines, if it is `1`.
 const VARIABLE: &str = "FEDBUNDLE_VERBOSE";
 
 /// Whether more is to be said: `--verbose` or the environment asks for it, or standard error is a
@@ -18,7 +18,7 @@ pub fn is_verbose_for(rt: &HostRuntime, call: &Call<'_>) -> bool {
     is_flag_given(given(call, OptionName::Verbose)) || is_verbose_unasked(rt)
 }
 
-/// The same of words that are no call.
+/// The same for arguments that are not a call.
 pub fn is_verbose_unasked(rt: &HostRuntime) -> bool {
     rt.stderr().is_terminal() || has_variable(rt)
 }
@@ -52,7 +52,7 @@ fn text_of(alloc: Global, bytes: &[u8]) -> Result<String, AllocError> {
     String::from_str(alloc, str::from_utf8(bytes).unwrap_or(""))
 }
 
-/// What the system says of a fault, without its number.
+/// What the system says of an error, without its number.
 pub fn words_of(alloc: Global, error: &io::Error) -> Result<String, AllocError> {
     let text = format!(in alloc; "{error}")?;
     match text.as_str().split_once(" (os error ") {

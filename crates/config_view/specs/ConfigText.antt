@@ -1,8 +1,9 @@
 -- What a configuration says, as lines that an operator reads and compares
-use Rattle.std.specs.Prelude.{◌≡◌, ℕ, List, [], ◌∷◌, ◌++◌, map, codes}
+use Rattle.std.specs.Prelude.{◌≡◌, ℕ, List, [], ◌∷◌, ◌++◌, map, codes, decimal}
 use Rattle.hex.specs.Hex.{encode_lower}
 use Rattle.bundle_doc.specs.Bundle.{doc_id_of}
 use Rattle.fed_config.specs.Configuration.{Configuration, AreDomains, config_id_of}
+use Rattle.fed_config.specs.declared.floor.Floor.{Floor}
 use Rattle.fed_config.specs.declared.relationship.Relationship.{Relationship}
 use Rattle.fed_config.specs.declared.seed.Seed.{Seed}
 use Rattle.text_lines.specs.TextLines.{joined_lines, difference_text, number_or_none}
@@ -26,13 +27,17 @@ seed_line s = codes "seed "
     ++ (encode_lower (doc_id_of s.domain s.document)
     ++ (codes " sequence " ++ number_or_none s.document.rank))))
 
+abbrev pub floor_line : Floor → List ℕ
+floor_line f = codes "floor " ++ (f.domain ++ (codes " sequence " ++ decimal f.sequence))
+
 -- ---- the whole
 
 abbrev pub config_lines : Configuration → List (List ℕ) → List (List ℕ)
 config_lines c domains = config_line c
-    ∷ (map relationship_line c.relationships ++ (map domain_line domains ++ map seed_line c.seeds))
+    ∷ (map relationship_line c.relationships
+    ++ (map domain_line domains ++ (map seed_line c.seeds ++ map floor_line c.floors)))
 
--- the digest, the relationships, all domains and the seeds, each list rising
+-- the digest, the relationships, all domains, the seeds and the floors, each list rising
 pub record AreConfigLines (c : Configuration) (lines : List (List ℕ)) : Type 0 where
   pub domains : List (List ℕ)
   pub are_domains : AreDomains c domains

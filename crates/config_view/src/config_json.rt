@@ -2,12 +2,13 @@
 ghost use Rattle.std.specs.Prelude.{◌≡◌, ◌++◌, ◌||◌, map, true, Err, IfOk, OnOk};
 ghost use Rattle.byte_lines.specs.Device.{is_source_fault};
 ghost use Rattle.byte_lines.specs.declared.error.DeviceError.TheVariants.{Io, NoMemory};
-ghost use Rattle.config_view.specs.ConfigJson.{IsConfigJson, name_json, relationship_json};
-ghost use Rattle.config_view.specs.ConfigJson.{relationships_part, seed_json, seeds_part};
+ghost use Rattle.config_view.specs.ConfigJson.{IsConfigJson, floor_json, floors_part, name_json};
+ghost use Rattle.config_view.specs.ConfigJson.{relationship_json, relationships_part, seed_json};
+ghost use Rattle.config_view.specs.ConfigJson.{seeds_part};
 ghost use Rattle.text_lines.specs.TextLines.{BeginsSome, WritesSome};
 
 use byte_lines::{DeviceError, Sink, write_all};
-use fed_config::{Config, ConfigId, Relationship, Seed};
+use fed_config::{Config, ConfigId, Floor, Relationship, Seed};
 use json_text::{push_array, push_digest, push_optional, push_string};
 use spiffe_name::TrustDomain;
 use std::alloc::{AllocError, Global};
@@ -23,6 +24,7 @@ use text_lines::TextLine;
 /// | `domains` | the names of the trust domains that it speaks of |
 /// | `seeds` | `domain`, `document` and `sequence` of each seed: the id of its document, and the
 /// sequence number, which is `null` where it is absent |
+/// | `floors` | `domain` and `sequence` of each floor; the member is absent if there are none |
 ///
 /// Each list rises, so equal configurations have one text. All memory is taken before the first
 /// byte is written.
@@ -53,9 +55,15 @@ fn config_json(alloc: Global, config: &Config) -> Result<Vec<u8>, AllocError>
     let relationships = relationship_texts(alloc, config.relationships())?;
     let domains = name_texts(alloc, config.domains())?;
     let seeds = seed_texts(alloc, config.seeds())?;
+    let floors = floor_texts(alloc, config.floors())?;
     let mut out = Vec::new(alloc);
     push_relationships_part(&mut out, &config.digest(), relationships.as_slice())?;
-    push_seeds_part(&mut out, domains.as_slice(), seeds.as_slice())?;
+    push_seeds_part(
+        &mut out,
+        domains.as_slice(),
+        seeds.as_slice(),
+        floors.as_slice(),
+    )?;
     Ok(out)
 }
 
@@ -77,13 +85,25 @@ fn push_seeds_part(
     out: &mut Vec<u8>,
     domains: &[TextLine],
     seeds: &[TextLine],
+    floors: &[TextLine],
 ) -> Result<(), AllocError>
-    ensures { OnOk result (out.new.items ≡ out.old.items ++ seeds_part domains.now seeds.now) }
+    ensures { OnOk result (out.new.items
+        ≡ out.old.items ++ seeds_part domains.now seeds.now floors.now) }
 {
     push_array(out, b",\"domains\":", domains)?;
     push_array(out, b",\"seeds\":", seeds)?;
+    push_floors(out, floors)?;
     out.extend_from_slice(b"}\n")?;
     Ok(())
+}
+
+fn push_floors(out: &mut Vec<u8>, floors: &[TextLine]) -> Result<(), AllocError>
+    ensures { OnOk result (out.new.items ≡ out.old.items ++ floors_part floors.now) }
+{
+    if floors.is_empty() {
+        return Ok(());
+    }
+    push_array(out, b",\"floors\":", floors)
 }
 
 fn relationship_texts(
@@ -159,6 +179,26 @@ fn seed_json(alloc: Global, seed: &Seed) -> Result<TextLine, AllocError>
         &seed.document.id(&seed.domain).0,
     )?;
     push_optional(&mut text, b",\"sequence\":", seed.document.rank())?;
+    text.extend_from_slice(b"}")?;
+    Ok(TextLine::new(text))
+}
+
+fn floor_texts(alloc: Global, floors: &[Floor]) -> Result<Vec<TextLine>, AllocError>
+    ensures { IfOk result (λ texts. texts.items ≡ map floor_json floors.now) }
+{
+    let mut texts = Vec::new(alloc);
+    for floor in floors {
+        texts.push(floor_json(alloc, floor)?)?;
+    }
+    Ok(texts)
+}
+
+fn floor_json(alloc: Global, floor: &Floor) -> Result<TextLine, AllocError>
+    ensures { IfOk result (λ text. text ≡ floor_json floor.now) }
+{
+    let mut text = Vec::new(alloc);
+    push_string(alloc, &mut text, b"{\"domain\":", floor.domain.as_str())?;
+    push_optional(&mut text, b",\"sequence\":", Some(floor.sequence))?;
     text.extend_from_slice(b"}")?;
     Ok(TextLine::new(text))
 }

@@ -14,8 +14,8 @@ use text_lines::{write_difference, write_lines};
 
 /// Writes what the configuration says: a line `config` with its digest, a line `relationship` for
 /// each relationship, a line `domain` for each trust domain that it speaks of, and a line `seed`
-/// for each seed, with the id and the sequence number of its document. Each of these lists rises.
-/// So equal configurations have one text.
+/// for each seed, with the id and the sequence number of its document, and a line `floor` for each
+/// floor. Each of these lists rises. So equal configurations have one text.
 ///
 /// All memory is taken before the first byte is written.
 ///

@@ -1,15 +1,16 @@
 //! The lines of a configuration.
 ghost use Rattle.std.specs.Prelude.{◌≡◌, ◌++◌, map, IfOk, OnOk};
 ghost use Rattle.config_view.specs.ConfigText.{AreConfigLines, config_line, domain_line};
-ghost use Rattle.config_view.specs.ConfigText.{relationship_line, seed_line};
+ghost use Rattle.config_view.specs.ConfigText.{floor_line, relationship_line, seed_line};
 
-use byte_lines::push_digits;
-use fed_config::{Config, Relationship, Seed};
+use byte_lines::{push_digits, push_number};
+use fed_config::{Config, Floor, Relationship, Seed};
 use spiffe_name::TrustDomain;
 use std::alloc::{AllocError, Global};
 use text_lines::{TextLine, push_number_or_none};
 
-/// The lines of the configuration: its digest, its relationships, its domains and its seeds.
+/// The lines of the configuration: its digest, its relationships, its domains, its seeds and its
+/// floors.
 pub(crate) fn config_lines(alloc: Global, config: &Config) -> Result<Vec<TextLine>, AllocError>
     ensures { IfOk result (λ lines. AreConfigLines config.now lines.items) }
 {
@@ -18,6 +19,7 @@ pub(crate) fn config_lines(alloc: Global, config: &Config) -> Result<Vec<TextLin
     push_relationships(alloc, &mut lines, config.relationships())?;
     push_domains(alloc, &mut lines, config.domains())?;
     push_seeds(alloc, &mut lines, config.seeds())?;
+    push_floors(alloc, &mut lines, config.floors())?;
     Ok(lines)
 }
 
@@ -94,5 +96,24 @@ fn seed_line(alloc: Global, seed: &Seed) -> Result<TextLine, AllocError>
     push_digits(&mut line, &seed.document.id(&seed.domain).0)?;
     line.extend_from_slice(b" sequence ")?;
     push_number_or_none(&mut line, seed.document.rank())?;
+    Ok(TextLine::new(line))
+}
+
+fn push_floors(alloc: Global, lines: &mut Vec<TextLine>, floors: &[Floor]) -> Result<(), AllocError>
+    ensures { OnOk result (lines.new.items ≡ lines.old.items ++ map floor_line floors.now) }
+{
+    for floor in floors {
+        lines.push(floor_line(alloc, floor)?)?;
+    }
+    Ok(())
+}
+
+fn floor_line(alloc: Global, floor: &Floor) -> Result<TextLine, AllocError>
+    ensures { IfOk result (λ line. line ≡ floor_line floor.now) }
+{
+    let mut line = Vec::from_slice(alloc, b"floor ")?;
+    line.extend_from_slice(floor.domain.as_str().as_bytes())?;
+    line.extend_from_slice(b" sequence ")?;
+    push_number(&mut line, floor.sequence)?;
     Ok(TextLine::new(line))
 }

@@ -1,4 +1,4 @@
--- What work over the domains of a configuration comes to.
+-- What work over the domains of a configuration results in.
 use Rattle.std.proofs.Common.{◌≡◌, ℕ, List, [], ◌∷◌, ◌++◌, Option, true, false, cond, refl, sym, ap, ◌∙◌, subst, arith, inl, inr, flat_map}
 use Rattle.std.proofs.Common.{append-nil, append_assoc}
 use Rattle.std.proofs.lemmas.List.{map-append, flat_map_more}
@@ -10,7 +10,7 @@ use Rattle.distrust_view.specs.DistrustEffect.{DistrustChange, DomainEffect, IsD
 use Rattle.distrust_view.specs.DistrustEffect.{effect_text, fall_line, current_text, is_concerned, warning_text}
 use Rattle.distrust_view.specs.Inside.Effects.{AddsEffect, HasEffects, HasAllEffects}
 
--- before the first domain there is no line
+-- before the first domain there are no lines
 pub effects_none : (change : DistrustChange) (new : List ℕ) → new ≡ [] → HasEffects change [] new
 effects_none change new empty = record { effects = []; domains_are = refl; each = λ e h. absurd (omega (arith, h.1)); now = empty }
 
@@ -43,7 +43,7 @@ effects_all change text whole all now = record {
 abbrev pub effect_of : List ℕ → Option Bundle → Option Bundle → List Bundle → DomainEffect
 effect_of domain before after fallen = record { domain = domain; before = before; after = after; fallen = fallen }
 
--- a domain whose current document stays, and which is not the record's, has the lines of what falls
+-- a domain that keeps its current document, and is not the record's, has the lines of what falls
 pub adds_fallen : (change : DistrustChange) (domain : List ℕ) (before after : Option Bundle) (fallen : List Bundle) (old new : List ℕ)
     → AreFallen change.old change.new domain fallen → IsCurrent change.old domain before → IsCurrent change.new domain after
     → is_concerned change.given domain before after ≡ false → new ≡ old ++ flat_map (fall_line domain) fallen

@@ -78,7 +78,7 @@ picked_complete P (y ∷ items) picked x (inr (lacks, are)) has is = elim (conta
   | inr there ↦ picked_complete P items picked x are there is
 ]
 
--- What is picked of a rising list rises.
+-- What is picked of a sorted list is sorted.
 pub picked_rising : {A : Type 0} (R : A → A → Ordering) (P : A → Type 0) (items picked : List A) → ArePicked P items picked
     → IsStrictlySortedBy R items → IsStrictlySortedBy R picked
 unfolding IsStrictlySortedBy

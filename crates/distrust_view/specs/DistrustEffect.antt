@@ -29,7 +29,7 @@ distrust_change old new given = record { old = old; new = new; given = given }
 
 -- ---- documents that fall
 
--- the domain's documents that are accepted before and not after, each once, rising
+-- the domain's documents that are accepted before and not after, each once, sorted
 pub record AreFallen (old new : Meaning) (domain : List ℕ) (documents : List Bundle)
     : Type 0 where
   pub rising : IsStrictlySortedBy document_cmp documents
@@ -64,7 +64,7 @@ is_same_current (Some d) (Some e) = same_text d e
 
 -- ---- its keys
 
--- the different key ids of the X.509 authorities of a current document, rising
+-- the different key ids of the X.509 authorities of a current document, sorted
 abbrev pub current_keys : Option Bundle → List KeyId
 current_keys None = []
 current_keys (Some d) = key_ids d.authorities
@@ -93,7 +93,7 @@ abbrev pub listed_lines : List ℕ → List KeyId → List KeyId → List ℕ
 listed_lines domain keys distrusted =
     flat_map (key_line_of (codes "lists ") domain) (filter (has_key distrusted) keys)
 
--- a line where none of the keys can vouch
+-- a line if none of the keys can vouch
 abbrev pub locked_out_line : List ℕ → List KeyId → List KeyId → List ℕ
 locked_out_line domain keys distrusted =
     cond (list_all (has_key distrusted) keys) (codes "locked-out " ++ (domain ++ codes "\n")) []
@@ -164,7 +164,7 @@ warning_text m given = cond (is_listed m given) [] (unknown_key_line given)
 
 -- ---- the whole
 
--- what is so of each domain of the configuration, rising, and then the warning, if there is one
+-- what is so of each domain of the configuration, sorted, and then the warning, if there is one
 pub record IsEffectText (change : DistrustChange) (text : List ℕ) : Type 0 where
   pub effects : List DomainEffect
   pub domains : AreDomains change.old.config (map (λ e. e.domain) effects)

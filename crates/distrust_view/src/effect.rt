@@ -20,9 +20,9 @@ use spiffe_name::TrustDomain;
 use std::alloc::{AllocError, Global};
 
 /// Writes what a record of distrust changes, from what is held before it is made and after. For
-/// each domain of the configuration, rising, these lines:
+/// each domain of the configuration, sorted, these lines:
 ///
-/// | Line | Where |
+/// | Line | When |
 /// |---|---|
 /// | `falls <domain> document <id> sequence <n>` | the document is accepted before and not after |
 /// | `current <domain> before <id> sequence <n> after <id> sequence <n>` | the current document
@@ -32,8 +32,8 @@ use std::alloc::{AllocError, Global};
 /// | `lists <domain> key <key id>` | the later one has the key, which is distrusted in the domain |
 /// | `locked-out <domain>` | none of the later one's keys can vouch, or there is no current one |
 ///
-/// The last four come only where the second does. Documents and keys rise. At the end a line
-/// `warning` where no document of the record's domain that is held, configured or received, has
+/// The last four come only if the second does. Documents and keys are sorted. At the end comes a
+/// line `warning` if no document of the record's domain that is held, configured or received, has
 /// the record's key. All keys are those of X.509 authorities.
 ///
 /// All memory is taken before the first byte is written.

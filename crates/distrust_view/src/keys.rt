@@ -56,7 +56,7 @@ fn push_change_of_keys(
     push_locked_out(out, domain, has, distrusted)
 }
 
-// The different keys of the document's X.509 authorities, rising.
+// The different keys of the document's X.509 authorities, sorted.
 fn keys_of(
     alloc: Global,
     domain: &TrustDomain,

@@ -1,5 +1,5 @@
 //! What a record of distrust changes, as lines for operators: before it is made, or as it is made.
-//! It knows closures by their trait alone.
+//! It knows closures only by their trait.
 #![tactic(auto)]
 
 mod effect;

@@ -16,7 +16,7 @@ use receipt_core::Distrust;
 use spiffe_name::TrustDomain;
 use std::alloc::AllocError;
 
-/// Adds the warning where no document of the record's domain has the record's key.
+/// Adds the warning if no document of the record's domain has the record's key.
 pub(crate) fn push_warning<C: Closure>(
     out: &mut Vec<u8>,
     closure: &C,

@@ -4,6 +4,7 @@ use crate::answer_pieces::pull_pieces;
 use crate::devices::in_pieces;
 use crate::messages::tell_messages;
 use crate::places::AMPLE_ROOM;
+use crate::quiet::{QuietFault, pull_quietly, serve_quietly};
 use crate::replica::{replica, tell_held};
 use crate::row_call::{RowCall, bucket_of};
 use crate::serving::serve_pieces;
@@ -130,6 +131,11 @@ fn perform_at<C: Closure, R: Source, W: Sink>(
             let pulled = pull_pieces(alloc, closure, source, sink, &mut journal);
             tell_pulled(closure, pulled, outcome)
         }
+        "asked" => Ok(tell_done(serve_quietly(alloc, closure, source, sink), outcome)?),
+        "marked" => {
+            let pulled = pull_quietly(alloc, closure, source, sink);
+            tell_pulled_quietly(closure, pulled, outcome)
+        }
         "journal" => {
             let pulled = pull_into_journal(alloc, closure, source, sink);
             tell_pulled(closure, pulled, outcome)
@@ -220,6 +226,22 @@ fn tell_served(served: Result<u64, SyncError>, outcome: &mut String) -> Result<(
     match served {
         Ok(count) => write!(outcome, "served {count}"),
         Err(fault) => write!(outcome, "{fault}"),
+    }
+}
+
+fn tell_pulled_quietly<C: Closure>(
+    closure: &C,
+    pulled: Result<u64, QuietFault>,
+    outcome: &mut String,
+) -> Result<(), Stop> {
+    match pulled {
+        Ok(count) => tell_pulled(closure, Ok(count), outcome),
+        Err(found) => {
+            if found.is_unanswered {
+                outcome.push_str("unanswered, ")?;
+            }
+            tell_pulled(closure, Err(found.fault), outcome)
+        }
     }
 }
 

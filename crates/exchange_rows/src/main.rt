@@ -13,6 +13,7 @@ mod devices;
 mod events;
 mod messages;
 mod places;
+mod quiet;
 mod replica;
 mod row_call;
 mod runs;

@@ -16,13 +16,13 @@ turn_of turns Short = turns.short
 turn_of turns Long = turns.long
 turn_of turns Change = turns.change
 
--- The work is there, beside the short one.
+-- The work is there, apart from the short one.
 abbrev pub IsThere : Bool → Bool → Work → Type 0
 IsThere has_long has_change Short = ⊥
 IsThere has_long has_change Long = IsTrue has_long
 IsThere has_long has_change Change = IsTrue has_change
 
--- which of the two has its turn where both are there
+-- which of the two has its turn if both are there
 abbrev pub work_next : Bool → Work
 work_next false = Long
 work_next true = Change

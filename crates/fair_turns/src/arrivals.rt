@@ -12,7 +12,7 @@ pub struct Arrivals {
 }
 
 impl Arrivals {
-    /// Nobody came. So many may come within one span.
+    /// Nobody came. At most `most` may come within one span.
     pub fn new(most: u64) -> Arrivals
         ensures most { result.most ≡ most }
         ensures none { (span : ℕ) → arrived_in result span ≡ 0 }
@@ -31,7 +31,7 @@ impl Arrivals {
         self.count_in(span) < self.most
     }
 
-    /// One came in this span. What came in another one is not known any more.
+    /// One came in this span. Those of other spans are forgotten.
     pub fn note(&mut self, span: u64)
         ensures most { self.new.most ≡ self.old.most }
         ensures counted { (arrived_in self.new span ≡ arrived_in self.old span + 1)

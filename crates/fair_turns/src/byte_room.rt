@@ -9,7 +9,7 @@ pub struct ByteRoom {
 }
 
 impl ByteRoom {
-    /// So many are held of those that may be.
+    /// `held` bytes are held, and at most `most` may be.
     pub fn new(most: u64, held: u64) -> ByteRoom
         ensures most { result.most ≡ most }
         ensures held { result.held ≡ held }
@@ -17,8 +17,8 @@ impl ByteRoom {
         ByteRoom { most, held }
     }
 
-    /// Takes room for so many more bytes. Returns whether there is room for all of them; else none
-    /// is taken.
+    /// Takes room for this many more bytes. Returns whether there is room for all of them; else
+    /// none is taken.
     pub fn take(&mut self, bytes: u64) -> bool
         ensures taken { IsTrue result ↔ (self.old.held + bytes ≤ self.old.most) }
         ensures held { self.new.held ≡ (if result then self.old.held + bytes else self.old.held) }

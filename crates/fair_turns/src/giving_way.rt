@@ -1,18 +1,18 @@
-//! Who gives way where a table is full.
+//! Who gives way if a table is full.
 ghost use Rattle.std.specs.Prelude.{◌≡◌, ◌⊎◌};
 ghost use Rattle.fair_turns.specs.GivingWay.{GoesFirst};
 
 /// A connection that may give way.
 #[derive(Clone, Copy, Debug)]
 pub struct Candidate {
-    /// Its number: one that came earlier has a lesser one.
+    /// Its number: one that came earlier has a lower one.
     pub serial: usize,
     /// For how many milliseconds it has asked nothing whole.
     pub quiet: u64,
 }
 
-/// Which of two gives way: the one that has asked nothing whole for longer, or, where both have for
-/// as long, the one that came earlier.
+/// Which of two gives way: the one that has asked nothing whole for longer, or, if it is the same
+/// for both, the one that came earlier.
 pub fn first_to_go(one: Candidate, other: Candidate) -> Candidate
     ensures among { (result ≡ one) ⊎ (result ≡ other) }
     ensures before_one { GoesFirst result one }

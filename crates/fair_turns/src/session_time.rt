@@ -1,8 +1,8 @@
 //! How long a session with another replica may last.
 ghost use Rattle.std.specs.Prelude.{◌≡◌, ◌/◌, max};
 
-/// For how many seconds a session may last in which so many bytes moved: ten, or one for each
-/// thousand bytes.
+/// For how many seconds a session in which this many bytes moved may last: ten, or one for each
+/// thousand bytes if that is more.
 pub fn most_seconds(bytes: u64) -> u64
     ensures { result ≡ max 10 (bytes / 1000) }
 {

@@ -3,7 +3,7 @@ ghost use Rattle.std.specs.Prelude.{◌≡◌, ◌↔◌, ◌||◌, IfNone, IfSo
 ghost use Rattle.fair_turns.specs.Turns.{ComesFirst, IsThere, change_after, turn_of, work_next};
 ghost use Rattle.fair_turns.specs.declared.turns.Work.{Work as SomeWork};
 
-/// What a connection waits for, beside its socket.
+/// What a connection waits for, apart from its socket.
 #[derive(Clone, Copy, Debug, PartialEq, Eq)]
 pub enum Work {
     /// An answer that takes little: to another replica, or to a request that shows little.
@@ -47,7 +47,7 @@ impl Turns {
         }
     }
 
-    /// The connection of this number has its turn. Those of other work stay.
+    /// The connection of this number has its turn. Those of other work do not change.
     pub fn note(&mut self, work: Work, serial: usize)
         ensures noted { turn_of self.new work ≡ serial }
         ensures others { (other : SomeWork) → (other ≡ work → ⊥)
@@ -61,8 +61,8 @@ impl Turns {
         }
     }
 
-    /// Which work comes after the short one, of that which is there. Where both are there, the one
-    /// comes that did not come last.
+    /// Which of the kinds of work that are there comes after the short one. If both are there, the
+    /// one that did not come last.
     pub fn after_short(&mut self, has_long: bool, has_change: bool) -> Option<Work>
         ensures some { IsSome result ↔ IsTrue (has_long || has_change) }
         ensures there { IfSome result (IsThere has_long has_change) }

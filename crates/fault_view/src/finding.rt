@@ -4,6 +4,7 @@ ghost use Rattle.serde_json.specs.View.{view};
 ghost use Rattle.fault_view.specs.Flaws.{HasFlaw, IsFoundFlaw, cause_of_flaw};
 
 use crate::flaws::{Flaw, FoundFlaw};
+use crate::floor_flaws::{floor_name_flaw, low_seed};
 use crate::part_flaws::{bad_url, bundle_flaw, double_flaw, name_flaw, profile_flaw};
 use crate::place::FlawPlace;
 use crate::shape_flaws::shape_flaw;
@@ -12,9 +13,9 @@ use serde_json::Value;
 use std::alloc::Global;
 
 /// A part of the configuration that is at fault with this cause, which `Config::read` returned for
-/// it. The whole is looked at first, then the relationships, and then the seeds; a part is passed
-/// over if memory runs out for it. `None` if none is found, and for the causes that are of no one
-/// part: no JSON, and too many parts.
+/// it. The whole is looked at first, then the relationships, the seeds and the floors; a part is
+/// passed over if memory runs out for it. `None` if none is found, and for the causes that are of
+/// no one part: no JSON, and too many parts.
 ///
 /// The work grows with the length of the configuration. For relationships with one domain it grows
 /// with the square of their number up to 1,024; those after that are compared with the first 1,024.
@@ -27,7 +28,10 @@ pub fn find_flaw<'a>(alloc: Global, config: &'a Value, cause: ConfigError) -> Op
     if let Some(found) = find_in_relationships(alloc, config, cause) {
         return Some(found);
     }
-    find_in_seeds(alloc, config, cause)
+    if let Some(found) = find_in_seeds(alloc, config, cause) {
+        return Some(found);
+    }
+    look_at(alloc, config, FlawPlace::Floors, cause)
 }
 
 fn find_in_relationships<'a>(
@@ -89,14 +93,33 @@ fn flaw_of<'a>(
 {
     match cause {
         ConfigError::Shape => shape_flaw(part, place),
-        ConfigError::BadName => name_flaw(alloc, part, place),
+        ConfigError::BadName => match place {
+            FlawPlace::Floors => floor_name_flaw(alloc, config, part),
+            _ => name_flaw(alloc, part, place),
+        },
         ConfigError::BadUrl => bad_url(alloc, part, place),
         ConfigError::BadProfile => profile_flaw(part, place),
-        ConfigError::BadSeed => bundle_flaw(alloc, part, place),
+        ConfigError::BadSeed => seed_flaw(alloc, config, part, place),
         ConfigError::DoubleRelationship => match place {
             FlawPlace::Relationship(number) => double_flaw(config, part, number),
             _ => None,
         },
         _ => None,
     }
+}
+
+// A bundle that is not one, or else one that is below its floor.
+fn seed_flaw<'a>(
+    alloc: Global,
+    config: &'a Value,
+    part: &'a Value,
+    place: FlawPlace,
+) -> Option<Flaw<'a>>
+    ensures flaw { IfSome result (HasFlaw (view config.now) place (view part.now)) }
+    ensures cause { IfSome result (λ f. cause_of_flaw f ≡ ConfigError.BadSeed) }
+{
+    if let Some(flaw) = bundle_flaw(alloc, part, place) {
+        return Some(flaw);
+    }
+    low_seed(alloc, config, part)
 }

@@ -17,6 +17,12 @@ pub enum Flaw<'a> {
     NotText(&'a str),
     /// This member is no array.
     NotArray(&'a str),
+    /// The floor of this name is not a whole number from 0 to 2^64 - 1.
+    NotNumber(&'a str),
+    /// The floor of this name is not that of a trust domain.
+    BadFloorName(&'a str, NameError),
+    /// The floor of this name is that of a trust domain which the configuration does not have.
+    UnknownDomain(&'a str),
     /// Its `domain` is this text, which names no trust domain.
     BadDomain(&'a str, NameError),
     /// Its `endpoint` is this text, which is no SPIFFE ID.
@@ -29,6 +35,11 @@ pub enum Flaw<'a> {
     SameDomain(&'a str, usize),
     /// Its `bundle` is no bundle.
     BadBundle(DocError),
+    /// The sequence number of its `bundle` is the first, and the floor of its domain is the second,
+    /// which is above it.
+    BelowFloor(u64, u64),
+    /// Its `bundle` has no sequence number, and its domain has this floor.
+    NoSequence(u64),
 }
 
 /// A place in a configuration, and what is wrong there.

@@ -7,6 +7,7 @@
 
 mod finding;
 mod flaws;
+mod floor_flaws;
 mod ignored_keys;
 mod json_place;
 mod part_flaws;

@@ -1,5 +1,6 @@
 //! Objects with a member too much or too little, or one that is not what it has to be.
-ghost use Rattle.std.specs.Prelude.{◌≡◌, false, IsTrue, IfSome, IsSome, option_map};
+ghost use Rattle.std.specs.Prelude.{◌≡◌, ℕ, false, IsTrue, IfSome, IsSome, Some, option_map};
+ghost use Rattle.serde_json.specs.Data.{number, unsigned};
 ghost use Rattle.serde_json.specs.View.{view};
 ghost use Rattle.serde_json.specs.Find.{get};
 ghost use Rattle.jwk_set.specs.Element.{HasText};
@@ -26,7 +27,32 @@ pub(crate) fn shape_flaw<'a>(part: &'a Value, place: FlawPlace) -> Option<Flaw<'
             return Some(flaw);
         }
     }
+    match place {
+        FlawPlace::Floors => number_flaw(part, members),
+        _ => None,
+    }
+}
+
+/// The first floor that is not a number.
+fn number_flaw<'a>(part: &'a Value, members: &'a Map<String, Value>) -> Option<Flaw<'a>>
+    ensures { IfSome result (IsFlawOf ConfigError.Shape FlawPlace.Floors (view part.now)) }
+{
+    'names: for name in members.keys() {
+        if is_not_number(part, name.as_str()) {
+            return Some(Flaw::NotNumber(name.as_str()));
+        }
+    }
     None
+}
+
+fn is_not_number(part: &Value, name: &str) -> bool
+    ensures { IsTrue result → IsSome (get name.now (view part.now))
+        × ((n : ℕ) → get name.now (view part.now) ≡ Some (number (unsigned n)) → ⊥) }
+{
+    match part.get(name) {
+        Some(member) => member.as_u64().is_none(),
+        None => false,
+    }
 }
 
 fn unknown_member<'a>(
@@ -55,7 +81,7 @@ fn is_unknown(part: &Value, place: FlawPlace, name: &str) -> bool
 fn member_flaw<'a>(part: &Value, place: FlawPlace, name: &'a str) -> Option<Flaw<'a>>
     ensures { IfSome result (IsFlawOf ConfigError.Shape place (view part.now)) }
 {
-    if !place.has_member(name) {
+    if !place.needs_member(name) {
         return None;
     }
     let Some(member) = part.get(name) else {

@@ -1,5 +1,5 @@
 -- The canonical text of a configuration is a text of it, and of no other.
-use Rattle.std.proofs.Common.{◌≡◌, ℕ, ◌≤◌, ◌↔◌, List, [], ◌∷◌, length, map, true, None, Ok, codes, IsAscii, refl, sym, ap, ap₂, subst, arith}
+use Rattle.std.proofs.Common.{◌≡◌, ℕ, ◌≤◌, ◌↔◌, inl, inr, List, [], ◌∷◌, length, map, true, Less, None, Ok, codes, IsAscii, refl, sym, ap, ap₂, subst, arith}
 use Rattle.std.specs.List.{AllByRecursion, AllZip}
 use Rattle.std.specs.List.Sorted.{IsStrictlySortedBy}
 use Rattle.std.specs.Str.{IsUtf8}
@@ -7,7 +7,7 @@ use Rattle.std.specs.declared.cmp.Ordering.{Ordering}
 use Rattle.std.proofs.lemmas.Str.{IsUtf8-from_ascii}
 use Rattle.std.proofs.lemmas.List.Sorted.{IsPermutation-refl}
 use Rattle.json.proofs.Printed.Utf8.{are_ascii, IsUtf8-are_ascii}
-use Rattle.serde_json.specs.Data.{Data, depth, items_depth}
+use Rattle.serde_json.specs.Data.{Data, Members, object, depth, items_depth, members_depth}
 use Rattle.serde_json.specs.Read.{max_depth}
 use Rattle.serde_json.specs.View.{items_of}
 use Rattle.serde_json.specs.Written.{compact_text}
@@ -17,22 +17,28 @@ use Rattle.url.specs.Scheme.{default_port, scheme_type}
 use Rattle.url.specs.declared.scheme.SchemeType.TheVariants.{SpecialNotFile}
 use Rattle.url.proofs.Theorems.{parse_url-serialize_special}
 use Rattle.url.proofs.ValidLemmas.{IsAscii-serialize}
-use Rattle.jwk_set.specs.Json.{IsJson, IsPlain, ArePlain}
+use Rattle.jwk_set.specs.Json.{IsJson, IsBelowNames, IsPlain, ArePlain, HasPlainMembers}
 use Rattle.spiffe_name.specs.Bytes.{IsPlainText}
 use Rattle.spiffe_name.specs.SpiffeId.{Id, IsId}
 use Rattle.spiffe_name.specs.TrustDomain.{IsDomainText}
 use Rattle.bundle_doc.specs.Bundle.{Bundle, IsBundle, Means, canonical_text, document_tree}
 use Rattle.fed_config.specs.EndpointUrl.{IsEndpointUrl, KeepsUrl}
 use Rattle.fed_config.specs.Written.{RelationshipText, SeedText, Written, SaysRelationshipText, SaysSeedText, SaysWritten, IsText}
-use Rattle.fed_config.specs.Configuration.{Configuration, HasShortUrls, IsConfiguration, IsRelationship, IsSeed}
-use Rattle.fed_config.specs.Configuration.{config_text, config_tree, relationship_tree, seed_tree}
+use Rattle.fed_config.specs.Configuration.{Configuration, HasShortUrls, IsConfiguration, IsFloor, IsRelationship, IsSeed}
+use Rattle.fed_config.specs.Configuration.{config_text, config_tree, floor_cmp, floor_members, relationship_tree, seed_tree, set_members, with_floors}
 use Rattle.fed_config.specs.Reading.{IsConfig, IsMeant, IsSetOf, SaysRelationship, SaysSeed}
+use Rattle.fed_config.specs.declared.floor.Floor.{Floor}
+use Rattle.fed_config.specs.declared.floor.Floor.{Floor}
 use Rattle.fed_config.specs.declared.relationship.Relationship.{Relationship}
 use Rattle.fed_config.specs.declared.seed.Seed.{Seed}
 use Rattle.fed_config.proofs.MeaningFacts.{same_written}
 use Rattle.fed_config.proofs.ReadFacts.{map_length, single_in}
 
 -- ---- what the canonical text writes
+
+-- a configuration from its parts
+abbrev configuration_of : List Relationship → List Seed → List Floor → Configuration
+configuration_of relationships seeds floors = record { relationships = relationships; seeds = seeds; floors = floors }
 
 -- a relationship as it is written in the canonical text
 text_of : Relationship → RelationshipText
@@ -44,7 +50,7 @@ seed_text_of s = record { bundle = document_tree s.document; domain = s.domain }
 
 -- a configuration as it is written in the canonical text
 texts_of : Configuration → Written
-texts_of c = record { relationships = map text_of c.relationships; seeds = map seed_text_of c.seeds }
+texts_of c = record { relationships = map text_of c.relationships; seeds = map seed_text_of c.seeds; floors = c.floors }
 
 -- the objects of relationships say their texts
 each_relationship_text : (rs : List Relationship) → AllZip SaysRelationshipText (map relationship_tree rs) (map text_of rs)
@@ -58,18 +64,31 @@ unfolding seed_text_of
 each_seed_text [] = tt
 each_seed_text (s ∷ ss) = (record { count = (_, refl, refl); bundle = refl; domain = refl }, each_seed_text ss)
 
--- the value of a configuration says its texts
-says_texts : (c : Configuration) → SaysWritten (config_tree c) (texts_of c)
+-- the value of a configuration says its texts, and has a third member if there are floors
+says_parts : (rs : List Relationship) (ss : List Seed) (fs : List Floor)
+    → SaysWritten (config_tree (configuration_of rs ss fs)) (texts_of (configuration_of rs ss fs))
 unfolding texts_of
-says_texts c = record {
-  count = (_, refl, refl);
-  relationships = map relationship_tree c.relationships;
+says_parts rs ss [] = record {
+  floors = inl ((_, refl, refl), refl);
+  relationships = map relationship_tree rs;
   has_relationships = refl;
-  each_relationship = each_relationship_text c.relationships;
-  seeds = map seed_tree c.seeds;
+  each_relationship = each_relationship_text rs;
+  seeds = map seed_tree ss;
   has_seeds = refl;
-  each_seed = each_seed_text c.seeds;
+  each_seed = each_seed_text ss;
 }
+says_parts rs ss (f ∷ fs) = record {
+  floors = inr ((_, refl, refl), refl);
+  relationships = map relationship_tree rs;
+  has_relationships = refl;
+  each_relationship = each_relationship_text rs;
+  seeds = map seed_tree ss;
+  has_seeds = refl;
+  each_seed = each_seed_text ss;
+}
+
+says_texts : (c : Configuration) → SaysWritten (config_tree c) (texts_of c)
+says_texts c = says_parts c.relationships c.seeds c.floors
 
 -- a text whose bytes pass the test for ASCII is UTF-8: for the names of members
 ascii : (t : List ℕ) → are_ascii t ≡ true → IsUtf8 t
@@ -81,6 +100,16 @@ ascii = IsUtf8-are_ascii
 shallow_relationships : (rs : List Relationship) → items_depth (items_of (map relationship_tree rs)) ≤ 1
 shallow_relationships [] = omega arith
 shallow_relationships (r ∷ rs) = omega (arith, shallow_relationships rs)
+
+-- the object of floors nests one level deep
+flat_floors : (fs : List Floor) → members_depth (floor_members fs) ≤ 0
+flat_floors [] = omega arith
+flat_floors (f ∷ fs) = omega (arith, flat_floors fs)
+
+-- beside other members it nests no deeper than one level, or these
+shallow_floors : (fs : List Floor) (others : Members) (n : ℕ) → 1 ≤ n → members_depth others ≤ n → members_depth (with_floors fs others) ≤ n
+shallow_floors [] others n some h = h
+shallow_floors (f ∷ fs) others n some h = omega (arith, flat_floors (f ∷ fs), h, some)
 
 -- ---- URLs
 
@@ -135,10 +164,6 @@ relationship_of domain endpoint url = record { domain = domain; endpoint = endpo
 seed_from : List ℕ → Bundle → Seed
 seed_from domain document = record { domain = domain; document = document }
 
--- a configuration from its parts
-configuration_of : List Relationship → List Seed → Configuration
-configuration_of relationships seeds = record { relationships = relationships; seeds = seeds }
-
 -- relationships with equal parts are equal
 same_relationship : (r s : Relationship) → r.domain ≡ s.domain → r.endpoint ≡ s.endpoint → r.url ≡ s.url → r ≡ s
 unfolding relationship_of
@@ -150,13 +175,17 @@ unfolding seed_from
 same_seed s u a b = let same : seed_from s.domain s.document ≡ seed_from u.domain u.document = cc in same
 
 -- configurations with equal parts are equal
-same_configuration : (b c : Configuration) → b.relationships ≡ c.relationships → b.seeds ≡ c.seeds → b ≡ c
-unfolding configuration_of
-same_configuration b c p q = let same : configuration_of b.relationships b.seeds ≡ configuration_of c.relationships c.seeds = cc in same
+same_configuration : (b c : Configuration) → b.relationships ≡ c.relationships → b.seeds ≡ c.seeds → b.floors ≡ c.floors → b ≡ c
+same_configuration b c p q r = let same : configuration_of b.relationships b.seeds b.floors ≡ configuration_of c.relationships c.seeds c.floors = cc in same
 
 -- a rising list is the list of its own set
 itself : {X : Type 0} (cmp : X → X → Ordering) (xs : List X) → IsStrictlySortedBy cmp xs → IsSetOf cmp xs xs
 itself cmp xs rising = record { rising = rising; members = λ x. (λ h. h, λ h. h) }
+
+-- a floor that is below others has a name below theirs
+below_each : (f : Floor) (fs : List Floor) → AllByRecursion (λ g. floor_cmp f g ≡ Less) fs → IsBelowNames f.domain (floor_members fs)
+below_each f [] below = tt
+below_each f (g ∷ fs) below = (below.0, below_each f fs below.1)
 
 -- what is written is plain
 module _ (plain_domain : (text : List ℕ) → IsDomainText text → IsPlainText text) (plain_id : (id : Id) → IsId id
@@ -201,9 +230,26 @@ module _ (plain_domain : (text : List ℕ) → IsDomainText text → IsPlainText
   plain_seeds [] h = tt
   plain_seeds (s ∷ ss) h = (plain_seed s h.0, plain_seeds ss h.1)
 
+  -- floors are plain members: their names rise, and their numbers are whole
+  plain_floors : (c : Configuration) (fs : List Floor) → IsStrictlySortedBy floor_cmp fs → AllByRecursion (IsFloor c) fs → HasPlainMembers (floor_members fs)
+  unfolding IsStrictlySortedBy
+  plain_floors c [] rising each = tt
+  plain_floors c (f ∷ fs) rising each = (
+    (plain_domain f.domain each.0.domain).utf8,
+    each.0.sequence,
+    below_each f fs rising.0,
+    plain_floors c fs rising.1 each.1,
+  )
+
+  -- so are they beside other members whose names are above theirs
+  plain_with_floors : (c : Configuration) (fs : List Floor) → IsStrictlySortedBy floor_cmp fs → AllByRecursion (IsFloor c) fs → (others : Members)
+      → IsBelowNames (codes "floors") others → HasPlainMembers others → HasPlainMembers (with_floors fs others)
+  plain_with_floors c [] rising each others below plain = plain
+  plain_with_floors c (f ∷ fs) rising each others below plain = (ascii (codes "floors") refl, plain_floors c (f ∷ fs) rising each, below, plain)
+
   -- the value of a configuration is plain, so its text is read back as it
   plain_configuration : (c : Configuration) → IsConfiguration c → IsPlain (config_tree c)
-  plain_configuration c h = (
+  plain_configuration c h = plain_with_floors c c.floors h.rising_floors h.each_floor (set_members c) ((refl, (refl, tt))) (
     ascii (codes "relationships") refl,
     plain_relationships c.relationships h.each_relationship,
     (refl, tt),
@@ -217,7 +263,9 @@ module _ (plain_domain : (text : List ℕ) → IsDomainText text → IsPlainText
 
   -- the value of a configuration nests seven levels deep at most, far below the limit of JSON texts
   shallow : (c : Configuration) → depth (config_tree c) ≤ 7
-  shallow c = omega (arith, shallow_relationships c.relationships, shallow_seeds c.seeds)
+  shallow c =
+      let sets : members_depth (set_members c) ≤ 6 = omega (arith, shallow_relationships c.relationships, shallow_seeds c.seeds) in
+      let all = shallow_floors c.floors (set_members c) 6 (omega arith) sets in omega (arith, all)
 
   -- the canonical text of a configuration is a JSON text that says the configuration's texts
   is_text : (c : Configuration) → IsConfiguration c → IsText (config_text c) (texts_of c)
@@ -249,7 +297,7 @@ module _ (plain_domain : (text : List ℕ) → IsDomainText text → IsPlainText
     one_of b c p q e =
         same_configuration b c
         (map_one IsRelationship text_of one_relationship b.relationships c.relationships p.each_relationship q.each_relationship (ap (λ w. w.relationships) e))
-        (map_one IsSeed seed_text_of one_seed b.seeds c.seeds p.each_seed q.each_seed (ap (λ w. w.seeds) e))
+        (map_one IsSeed seed_text_of one_seed b.seeds c.seeds p.each_seed q.each_seed (ap (λ w. w.seeds) e)) (ap (λ w. w.floors) e)
 
     -- configurations are equal exactly where their canonical texts are, as `laws::canonical_texts`
     -- says
@@ -298,6 +346,7 @@ module _ (plain_domain : (text : List ℕ) → IsDomainText text → IsPlainText
       seeds = c.seeds;
       each_seed = each_seed c.seeds h.each_seed;
       seed_set = itself _ c.seeds h.rising_seeds;
+      same_floors = refl;
     }
 
     -- the canonical text of a configuration with short URLs is a configuration of that meaning, as
@@ -308,10 +357,16 @@ module _ (plain_domain : (text : List ℕ) → IsDomainText text → IsPlainText
       written = texts_of c;
       text = is_text c h;
       meant = is_meant c h short;
-      single = single_in (map text_of c.relationships) (map seed_text_of c.seeds) c.relationships c.relationships
+      single = single_in (map text_of c.relationships) (map seed_text_of c.seeds) c.floors c.relationships c.relationships
           (each_relationship c.relationships h.each_relationship short) (IsPermutation-refl c.relationships)
           h.rising_relationships;
       few_relationships = subst (λ n. n ≤ 1024) (sym (map_length text_of c.relationships)) h.few_relationships;
       few_seeds = subst (λ n. n ≤ 4096) (sym (map_length seed_text_of c.seeds)) h.few_seeds;
       is = h;
     }
+
+-- without floors the canonical text is that of relationships and seeds, as `laws::canonical_texts`
+-- says
+pub no_floors : (c : Configuration) → c.floors ≡ [] → config_text c ≡ compact_text (object (set_members c))
+unfolding config_text
+no_floors c none = ap (λ fs. compact_text (object (with_floors fs (set_members c)))) none

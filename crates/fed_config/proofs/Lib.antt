@@ -4,6 +4,7 @@ mod CauseFacts
 mod CountFacts
 mod DocumentFacts
 mod DomainFacts
+mod FloorFacts
 mod GatherFacts
 mod MeaningFacts
 mod ReadFacts

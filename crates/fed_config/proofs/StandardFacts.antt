@@ -1,6 +1,6 @@
 -- Configurations, texts that are none, and canonical texts, said of the definitions: a slip in one of these does not
 -- check.
-use Rattle.std.proofs.Common.{◌≡◌, ℕ, List, [], ◌∷◌, length, None, Some, Result, Ok, Err, codes, refl, sym, ap, ◌∙◌, Less, Greater, arith, lit≤}
+use Rattle.std.proofs.Common.{◌≡◌, ℕ, List, [], ◌∷◌, inl, inr, length, None, Some, Result, Ok, Err, codes, refl, sym, ap, ◌∙◌, Less, Greater, arith, lit≤}
 use Rattle.url.specs.Parts.{Parts}
 use Rattle.url.specs.Parser.{parse_url}
 use Rattle.url.specs.declared.error.ParseError.{ParseError}
@@ -21,7 +21,7 @@ use Rattle.fed_config.specs.declared.seed.Seed.{Seed}
 
 -- the configuration that says nothing
 abbrev nothing : Configuration
-nothing = record { relationships = []; seeds = [] }
+nothing = record { relationships = []; seeds = []; floors = [] }
 
 -- its canonical text has two empty arrays
 pub text_of_nothing : config_text nothing ≡ codes "{\"relationships\":[],\"seeds\":[]}"
@@ -41,7 +41,7 @@ abbrev seed : Seed
 seed = record { domain = codes "a.example"; document = record { authorities = []; rank = None; hint = None } }
 
 -- the canonical text of both has the members in the order of their names, with no space
-pub text_of_both : config_text (record { relationships = relationship ∷ []; seeds = seed ∷ [] })
+pub text_of_both : config_text (record { relationships = relationship ∷ []; seeds = seed ∷ []; floors = [] })
     ≡ codes "{\"relationships\":[{\"domain\":\"a.example\",\"endpoint\":\"spiffe://a.example/bundle\",\"profile\":\"https_spiffe\",\"url\":\"https://bundles.a.example/\"}],\"seeds\":[{\"bundle\":{\"keys\":[]},\"domain\":\"a.example\"}]}"
 unfolding config_text escape_byte
 text_of_both = refl
@@ -77,7 +77,7 @@ fewer t h = let none = h.url in cc
 
 -- an array is no configuration
 pub no_array : (w : Written) → SaysWritten (array no_items) w → ⊥
-no_array w h = let none = h.count.1 in cc
+no_array w h = elim h.floors [ inl two ↦ (let none = two.0.1 in cc) | inr three ↦ (let none = three.0.1 in cc) ]
 
 -- ---- causes
 

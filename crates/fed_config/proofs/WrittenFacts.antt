@@ -4,11 +4,12 @@ use Rattle.std.specs.List.{AllZip}
 use Rattle.serde_json.specs.Data.{Data, array}
 use Rattle.serde_json.specs.View.{items_of, view}
 use Rattle.serde_json.specs.declared.value.Value.{Value}
-use Rattle.fed_config.specs.Written.{RelationshipText, SeedText, Written, HasArray, HasCount, SaysRelationshipText, SaysSeedText, SaysWritten}
+use Rattle.fed_config.specs.Written.{RelationshipText, SeedText, Written, HasArray, SaysFloors, SaysRelationshipText, SaysSeedText, SaysWritten}
 use Rattle.fed_config.specs.Inside.Entries.{seed_text}
 use Rattle.fed_config.specs.Reading.{Fails}
 use Rattle.fed_config.specs.declared.error.ConfigError.{ConfigError}
 use Rattle.fed_config.specs.declared.error.ConfigError.TheVariants.{Shape}
+use Rattle.fed_config.specs.declared.floor.Floor.{Floor}
 use Rattle.fed_config.specs.declared.written.SeedEntry.{SeedEntry}
 use Rattle.fed_config.proofs.ZipFacts.{zip_map, zip_unmap, zip_map_right}
 
@@ -59,14 +60,14 @@ seeds_of tree values has h =
     )
 
 -- the parts that were read one after another are what the value says
-pub says : (tree : Data) (values others : List Value) (ts : List RelationshipText) (es : List SeedEntry)
-    → HasCount tree 2 → HasArray tree (codes "relationships") (map view values)
+pub says : (tree : Data) (values others : List Value) (ts : List RelationshipText) (es : List SeedEntry) (fs : List Floor)
+    → SaysFloors tree fs → HasArray tree (codes "relationships") (map view values)
     → HasArray tree (codes "seeds") (map view others)
     → AllZip (λ value t. SaysRelationshipText (view value) t) values ts
     → AllZip (λ value e. SaysSeedText (view value) (seed_text e)) others es
-    → SaysWritten tree (record { relationships = ts; seeds = map seed_text es })
-says tree values others ts es count has has_seeds zip zip_seeds = record {
-  count = count;
+    → SaysWritten tree (record { relationships = ts; seeds = map seed_text es; floors = fs })
+says tree values others ts es fs floors has has_seeds zip zip_seeds = record {
+  floors = floors;
   relationships = map view values;
   has_relationships = has;
   each_relationship = zip_map SaysRelationshipText view values ts zip;

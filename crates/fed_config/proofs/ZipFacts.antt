@@ -1,6 +1,7 @@
 -- Lists side by side, and loops over them.
-use Rattle.std.proofs.Common.{◌≡◌, ℕ, zero, suc, ◌+◌, ◌<◌, ◌≤◌, List, [], ◌∷◌, ◌++◌, length, get_or, take, map, refl, sym, ap, subst, arith, add-one}
+use Rattle.std.proofs.Common.{◌≡◌, inl, inr, ℕ, zero, suc, ◌+◌, ◌<◌, ◌≤◌, List, [], ◌∷◌, ◌++◌, length, get_or, take, map, refl, sym, ap, subst, arith, add-one}
 use Rattle.std.specs.List.{AllByRecursion, AllZip}
+use Rattle.fed_config.proofs.SetFacts.{Has}
 
 module _ {X Y : Type 0} (R : X → Y → Type 0) where
   -- one more of each, with the length as a successor
@@ -47,6 +48,14 @@ module _ {X Y : Type 0} (R : X → Y → Type 0) where
   zip_one one (x ∷ xs) [] zs p q = absurd p
   zip_one one (x ∷ xs) (y ∷ ys) [] p q = absurd q
   zip_one one (x ∷ xs) (y ∷ ys) (z ∷ zs) p q = let first = one x y z p.0 q.0 in let rest = zip_one one xs ys zs p.1 q.1 in cc
+
+  -- a member of the right list has one of the left list beside it
+  pub zip_left : (xs : List X) (ys : List Y) (y : Y) → AllZip R xs ys → Has ys y → (x : X) × Has xs x × R x y
+  zip_left [] [] y zip h = absurd h
+  zip_left [] (z ∷ ys) y zip h = absurd zip
+  zip_left (x ∷ xs) [] y zip h = absurd zip
+  zip_left (x ∷ xs) (z ∷ ys) y zip (inl e) = (x, inl refl, subst (R x) (sym e) zip.0)
+  zip_left (x ∷ xs) (z ∷ ys) y zip (inr h) = let rest = zip_left xs ys y zip.1 h in (rest.0, inr rest.1, rest.2)
 
   -- what the relation shows of each left element holds of the left list
   pub each_left : (P : X → Type 0) → ((x : X) (y : Y) → R x y → P x) → (xs : List X) (ys : List Y) → AllZip R xs ys → AllByRecursion P xs

@@ -4,5 +4,6 @@ pub mod Domains
 pub mod EndpointUrl
 pub mod Reading
 pub mod Seeds
+pub mod UnknownFloors
 pub mod Written
 pub mod Inside

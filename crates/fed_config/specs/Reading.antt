@@ -16,7 +16,9 @@ use Rattle.url.specs.Parts.{Parts}
 use Rattle.fed_config.specs.EndpointUrl.{IsParsed, KeepsUrl}
 use Rattle.fed_config.specs.Written.{RelationshipText, SeedText, Written, SaysWritten, IsText}
 use Rattle.fed_config.specs.Configuration.{Configuration, IsConfiguration, IsRelationship, IsSeed}
-use Rattle.fed_config.specs.Configuration.{AreDomains, relationship_cmp, seed_cmp}
+use Rattle.fed_config.specs.Configuration.{AreDomains, IsFloor, ReachesEach, ReachesFloor}
+use Rattle.fed_config.specs.Configuration.{floor_cmp, relationship_cmp, seed_cmp}
+use Rattle.fed_config.specs.declared.floor.Floor.{Floor}
 use Rattle.fed_config.specs.declared.relationship.Relationship.{Relationship}
 use Rattle.fed_config.specs.declared.seed.Seed.{Seed}
 use Rattle.fed_config.specs.declared.names.Names.{Names}
@@ -59,6 +61,7 @@ pub record IsMeant (w : Written) (c : Configuration) : Type 0 where
   pub seeds : List Seed
   pub each_seed : AllZip SaysSeed w.seeds seeds
   pub seed_set : IsSetOf seed_cmp seeds c.seeds
+  pub same_floors : c.floors ≡ w.floors
 
 -- a trust domain has at most one relationship
 abbrev pub HasSingle : Written → Type 0
@@ -82,9 +85,19 @@ pub record HasName (t : RelationshipText) : Type 0 where
   pub endpoint_path : List ℕ
   pub endpoint : IsIdText t.endpoint endpoint_domain endpoint_path
 
-abbrev pub HasNames : Written → Type 0
-HasNames w = AllByRecursion HasName w.relationships
-    × AllByRecursion (λ t. IsDomainText t.domain) w.seeds
+-- the domain is that of a relationship, of its endpoint or of a seed
+abbrev pub NamesDomain : Written → List ℕ → Type 0
+NamesDomain w domain =
+    ((t : RelationshipText) × Contains w.relationships t × (t.domain ≡ domain))
+    ⊎ ((t : RelationshipText) × Contains w.relationships t × (path : List ℕ)
+    × IsIdText t.endpoint domain path)
+    ⊎ ((t : SeedText) × Contains w.seeds t × (t.domain ≡ domain))
+
+-- a floor has one of the configuration's domains
+pub record HasNames (w : Written) : Type 0 where
+  pub relationships : AllByRecursion HasName w.relationships
+  pub seeds : AllByRecursion (λ t. IsDomainText t.domain) w.seeds
+  pub floors : AllByRecursion (λ f. NamesDomain w f.domain) w.floors
 
 abbrev pub HasUrls : Written → Type 0
 HasUrls w = AllByRecursion (λ t. (parts : Parts) × IsParsed t.url parts) w.relationships
@@ -92,8 +105,15 @@ HasUrls w = AllByRecursion (λ t. (parts : Parts) × IsParsed t.url parts) w.rel
 abbrev pub HasProfiles : Written → Type 0
 HasProfiles w = AllByRecursion (λ t. IsProfile t.profile) w.relationships
 
+-- the value is a document, and it reaches the floor of its domain
+pub record IsSeedText (floors : List Floor) (t : SeedText) : Type 0 where
+  pub document : Bundle
+  pub means : Means t.bundle document
+  pub fits : Fits document
+  pub reaches : ReachesEach floors t.domain document
+
 abbrev pub HasDocuments : Written → Type 0
-HasDocuments w = AllByRecursion (λ t. (b : Bundle) × Means t.bundle b × Fits b) w.seeds
+HasDocuments w = AllByRecursion (IsSeedText w.floors) w.seeds
 
 -- at most 1,024 relationships and 4,096 seeds, as written, and at most 1,024 domains
 pub record HasFew (w : Written) : Type 0 where
@@ -181,8 +201,11 @@ HasFewDomains c = (domains : List (List ℕ)) → AreDomains c domains → lengt
 pub record HasRisingLists (c : Configuration) : Type 0 where
   pub rising_relationships : IsStrictlySortedBy relationship_cmp c.relationships
   pub rising_seeds : IsStrictlySortedBy seed_cmp c.seeds
+  pub rising_floors : IsStrictlySortedBy floor_cmp c.floors
   pub each_relationship : AllByRecursion IsRelationship c.relationships
   pub each_seed : AllByRecursion IsSeed c.seeds
+  pub each_floor : AllByRecursion (IsFloor c) c.floors
+  pub each_seed_reaches : AllByRecursion (λ s. ReachesFloor c s.domain s.document) c.seeds
   pub few_relationships : length c.relationships ≤ relationship_limit
   pub few_seeds : length c.seeds ≤ seed_limit
 

@@ -1,9 +1,10 @@
 //! Configurations, and what they are asked.
 ghost use Rattle.std.specs.Prelude.{◌≡◌, IfOk, option_copied};
 ghost use Rattle.fed_config.specs.Configuration.{AreDomains, IsConfiguration, IsRelationshipOf};
-ghost use Rattle.fed_config.specs.Configuration.{IsPlace, config_id_of};
+ghost use Rattle.fed_config.specs.Configuration.{IsFloorOf, IsPlace, config_id_of};
 
 use crate::config_id::ConfigId;
+use crate::floor::{Floor, sequence_of};
 use crate::relationship::Relationship;
 use crate::seed::Seed;
 use spiffe_name::TrustDomain;
@@ -11,15 +12,17 @@ use std::alloc::{AllocError, Global};
 use std::marker::Model;
 
 /// What an operator says to a replica out of band (SPIFFE Federation, section 5): at most one
-/// relationship with each foreign trust domain, and seeds, which are bundles of trust domains.
+/// relationship with each foreign trust domain, seeds, which are bundles of trust domains, and
+/// floors, which are the lowest sequence numbers that count.
 ///
 /// A configuration is its meaning: two of them are equal exactly where they have the same
-/// relationships and seeds, in whatever order these were written and however often a seed was. Each
-/// has one canonical text, and that text's digest is its id.
+/// relationships, seeds and floors, in whatever order these were written and however often a seed
+/// was. Each has one canonical text, and that text's digest is its id.
 #[derive(Debug, Drop)]
 pub struct Config {
     pub(crate) relationships: Vec<Relationship>,
     pub(crate) seeds: Vec<Seed>,
+    pub(crate) floors: Vec<Floor>,
     pub(crate) domains: Vec<TrustDomain>,
     pub(crate) id: ConfigId,
 }
@@ -29,11 +32,17 @@ impl Model for Config {
 
     ghost Value = { Configuration };
 
-    ghost view = { λ a. record { relationships = a.relationships.items; seeds = a.seeds.items } };
+    ghost view = { λ a. record {
+      relationships = a.relationships.items;
+      seeds = a.seeds.items;
+      floors = a.floors.items;
+    } };
 
-    ghost invariant = { λ a. IsStoredConfiguration
-        (record { relationships = a.relationships.items; seeds = a.seeds.items }) a.domains.items
-        a.id.0 };
+    ghost invariant = { λ a. IsStoredConfiguration (record {
+      relationships = a.relationships.items;
+      seeds = a.seeds.items;
+      floors = a.floors.items;
+    }) a.domains.items a.id.0 };
 }
 
 impl Config {
@@ -81,6 +90,21 @@ impl Config {
         self.seeds.as_slice()
     }
 
+    /// The floors, rising by their trust domains. There is at most one for each of
+    /// [`Config::domains`].
+    pub fn floors(&self) -> &[Floor]
+        ensures { result.now ≡ self.now.floors }
+    {
+        self.floors.as_slice()
+    }
+
+    /// The floor of a trust domain, found by binary search: the lowest sequence number that counts.
+    pub fn floor(&self, domain: &TrustDomain) -> Option<u64>
+        ensures { IsFloorOf self.now domain.now result }
+    {
+        sequence_of(self.floors.as_slice(), domain)
+    }
+
     /// The configuration's id, which equal configurations share.
     pub fn digest(&self) -> ConfigId
         ensures { result.0 ≡ config_id_of self.now }
@@ -98,6 +122,7 @@ impl Config {
         Ok(Config {
             relationships: copies_of_relationships(alloc, self.relationships.as_slice())?,
             seeds: copies_of_seeds(alloc, self.seeds.as_slice())?,
+            floors: copies_of_floors(alloc, self.floors.as_slice())?,
             domains: copies_of_domains(alloc, self.domains.as_slice())?,
             id: self.id,
         })
@@ -123,6 +148,16 @@ fn copies_of_seeds(alloc: Global, seeds: &[Seed]) -> Result<Vec<Seed>, AllocErro
     let mut copies = Vec::with_capacity(alloc, seeds.len())?;
     for seed in seeds {
         copies.push(seed.try_clone(alloc)?)?;
+    }
+    Ok(copies)
+}
+
+fn copies_of_floors(alloc: Global, floors: &[Floor]) -> Result<Vec<Floor>, AllocError>
+    ensures { IfOk result (λ v. v.items ≡ floors.now) }
+{
+    let mut copies = Vec::with_capacity(alloc, floors.len())?;
+    for floor in floors {
+        copies.push(floor.try_clone(alloc)?)?;
     }
     Ok(copies)
 }

@@ -1,23 +1,22 @@
 //! The trust domains that a configuration speaks of.
 ghost use Rattle.std.specs.Prelude.{◌≡◌, IfOk};
-ghost use Rattle.fed_config.specs.Configuration.{AreDomains, Configuration};
+ghost use Rattle.fed_config.specs.Configuration.{domain_cmp};
 ghost use Rattle.fed_config.specs.Domains.{gathered};
+ghost use Rattle.fed_config.specs.Reading.{IsSetOf};
 
-use crate::relationship::Relationship;
-use crate::seed::Seed;
+use crate::names::Names;
 use spiffe_name::TrustDomain;
 use std::alloc::{AllocError, Global};
 
-/// All domains, rising.
+/// All domains of relationships, of their endpoints and of seeds, rising.
 pub(crate) fn domains_of(
     alloc: Global,
-    relationships: &[Relationship],
-    seeds: &[Seed],
+    names: &[Names],
+    seeds: &[TrustDomain],
 ) -> Result<Vec<TrustDomain>, AllocError>
-    ensures { IfOk result (λ v. AreDomains
-        (record { relationships = relationships.now; seeds = seeds.now }) v.items) }
+    ensures { IfOk result (λ v. IsSetOf domain_cmp (gathered names.now seeds.now) v.items) }
 {
-    let mut domains = gather(alloc, relationships, seeds)?;
+    let mut domains = gather(alloc, names, seeds)?;
     domains.sort_unstable();
     domains.dedup();
     Ok(domains)
@@ -26,18 +25,18 @@ pub(crate) fn domains_of(
 /// All domains, in the order in which they stand.
 fn gather(
     alloc: Global,
-    relationships: &[Relationship],
-    seeds: &[Seed],
+    names: &[Names],
+    seeds: &[TrustDomain],
 ) -> Result<Vec<TrustDomain>, AllocError>
-    ensures { IfOk result (λ v. v.items ≡ gathered relationships.now seeds.now) }
+    ensures { IfOk result (λ v. v.items ≡ gathered names.now seeds.now) }
 {
     let mut domains = Vec::new(alloc);
-    for relationship in relationships {
-        domains.push(relationship.domain.try_clone(alloc)?)?;
-        domains.push(relationship.endpoint.domain().try_clone(alloc)?)?;
+    for named in names {
+        domains.push(named.domain.try_clone(alloc)?)?;
+        domains.push(named.endpoint.domain().try_clone(alloc)?)?;
     }
     for seed in seeds {
-        domains.push(seed.domain.try_clone(alloc)?)?;
+        domains.push(seed.try_clone(alloc)?)?;
     }
     Ok(domains)
 }

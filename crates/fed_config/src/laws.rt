@@ -1,7 +1,9 @@
 //! What follows from the definitions alone, for the crates above. No call does any work.
-ghost use Rattle.std.specs.Prelude.{◌≡◌, ◌↔◌, ℕ, List};
+ghost use Rattle.std.specs.Prelude.{◌≡◌, ◌↔◌, ℕ, List, []};
+ghost use Rattle.serde_json.specs.Data.{object};
+ghost use Rattle.serde_json.specs.Written.{compact_text};
 ghost use Rattle.fed_config.specs.Configuration.{Configuration, IsConfiguration, AreDomains};
-ghost use Rattle.fed_config.specs.Configuration.{HasShortUrls, config_text};
+ghost use Rattle.fed_config.specs.Configuration.{HasShortUrls, config_text, set_members};
 ghost use Rattle.fed_config.specs.Reading.{IsConfig, RefusesConfigBytes};
 ghost use Rattle.fed_config.specs.declared.error.ConfigError.{ConfigError};
 ghost use Rattle.fed_config.specs.declared.error.ConfigError.TheVariants.{NoMemory};
@@ -25,12 +27,14 @@ pub fn configurations()
 
 /// Configurations are equal exactly where their canonical texts are. The canonical text, read as a
 /// configuration, is that configuration, where each of its URLs is within the limit of 2,048 bytes
-/// also as it is kept.
+/// also as it is kept. Without floors it is the text of only the relationships and seeds.
 pub fn canonical_texts()
     ensures one_text { (b c : Configuration) → IsConfiguration b → IsConfiguration c
         → (b ≡ c) ↔ (config_text b ≡ config_text c) }
     ensures reads_back { (c : Configuration) → IsConfiguration c → HasShortUrls c
         → IsConfig (config_text c) c }
+    ensures no_floors { (c : Configuration) → c.floors ≡ []
+        → config_text c ≡ compact_text (object (set_members c)) }
 {
     jwk_set::laws::compact_texts();
     spiffe_name::laws::one_reading();

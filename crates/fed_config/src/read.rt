@@ -1,8 +1,8 @@
 //! Reading a configuration: what is written in its shape, then its parts, then these as sets, and
 //! its canonical text.
 ghost use Rattle.std.specs.Prelude.{◌≡◌, ◌↔◌, ◌≤◌, IsTrue, MatchResult, length};
-ghost use Rattle.fed_config.specs.Configuration.{IsConfiguration};
-ghost use Rattle.fed_config.specs.Inside.Entries.{written_of};
+ghost use Rattle.fed_config.specs.Configuration.{AreDomains, IsConfiguration};
+ghost use Rattle.fed_config.specs.Inside.Entries.{AreFloors, written_of};
 ghost use Rattle.fed_config.specs.Reading.{HasRisingLists, Fails, HasFewDomains, IsConfig, IsRead};
 ghost use Rattle.fed_config.specs.Reading.{RefusesConfigBytes, RefusesRead};
 ghost use Rattle.fed_config.specs.Limits.{relationship_limit, seed_limit};
@@ -11,6 +11,7 @@ use crate::canonical::id_of;
 use crate::config::Config;
 use crate::domains::domains_of;
 use crate::error::ConfigError;
+use crate::floor::{Floor, reach_floors, read_floors};
 use crate::names::{
     have_profile, join_relationships, join_seeds, read_documents, read_domains, read_names,
     read_urls,
@@ -20,6 +21,7 @@ use crate::seed::Seed;
 use crate::sets::{are_single, sort_relationships, sort_seeds};
 use crate::written::{Entries, read_entries};
 use serde_json::Value;
+use spiffe_name::TrustDomain;
 use std::alloc::Global;
 use std::str;
 
@@ -34,10 +36,15 @@ impl Config {
     /// counts, and arrays and objects may nest 127 levels deep.
     ///
     /// Objects have the members named here and no other: the whole has the arrays `relationships`
-    /// and `seeds`. In each relationship there are four texts: in `domain` a trust domain name, in
-    /// `endpoint` a SPIFFE ID, in `profile` `https_spiffe`, and in `url` a URL of at most 2,048
-    /// bytes with the scheme `https`, which has neither a user name nor a password. In each seed
-    /// there are `bundle`, a document, and `domain`, a trust domain name.
+    /// and `seeds`, and may have the object `floors`, in which each name is a trust domain of this
+    /// configuration and has a whole number from 0 to 2^64 - 1. No seed of such a domain may be
+    /// below this number, or be without a sequence number. An empty object says the same as no
+    /// object.
+    ///
+    /// In each relationship there are four texts: in `domain` a trust domain name, in `endpoint` a
+    /// SPIFFE ID, in `profile` `https_spiffe`, and in `url` a URL of at most 2,048 bytes with the
+    /// scheme `https`, which has neither a user name nor a password. In each seed there are
+    /// `bundle`, a document, and `domain`, a trust domain name.
     ///
     /// # Errors
     /// The first of [`ConfigError`]'s causes that holds anywhere. Where memory ran out it is
@@ -58,11 +65,16 @@ impl Config {
 
     /// The configuration of what is written.
     fn from_entries(alloc: Global, entries: &Entries) -> Result<Config, ConfigError>
+        requires { AreFloors entries.now.floors.items }
         ensures { MatchResult result (IsRead (written_of entries.now))
             (RefusesRead (written_of entries.now)) }
     {
+        spiffe_name::laws::one_reading();
+        bundle_doc::laws::values();
         let names = read_names(alloc, entries.relationships.as_slice())?;
-        let domains = read_domains(alloc, entries.seeds.as_slice())?;
+        let seed_domains = read_domains(alloc, entries.seeds.as_slice())?;
+        let domains = domains_of(alloc, names.as_slice(), seed_domains.as_slice())?;
+        let floors = read_floors(alloc, entries.floors.as_slice(), domains.as_slice())?;
         let urls = read_urls(alloc, entries.relationships.as_slice())?;
         if !have_profile(entries.relationships.as_slice()) {
             return Err(ConfigError::BadProfile);
@@ -73,36 +85,60 @@ impl Config {
             return Err(ConfigError::DoubleRelationship);
         }
         let documents = read_documents(alloc, entries.seeds.as_slice())?;
+        let mut seeds = join_seeds(alloc, seed_domains, documents)?;
+        if !reach_floors(floors.as_slice(), seeds.as_slice()) {
+            return Err(ConfigError::BadSeed);
+        }
         if !are_few(entries) {
             return Err(ConfigError::TooMany);
         }
-        let mut seeds = join_seeds(alloc, domains, documents)?;
         sort_seeds(&mut seeds);
-        Config::of_sets(alloc, relationships, seeds)
+        Config::of_sets(alloc, relationships, seeds, floors, domains)
     }
 
-    /// The configuration of these sets, where they have few enough domains.
+    /// The configuration of these sets, where these are few enough domains.
     fn of_sets(
         alloc: Global,
         relationships: Vec<Relationship>,
         seeds: Vec<Seed>,
+        floors: Vec<Floor>,
+        domains: Vec<TrustDomain>,
     ) -> Result<Config, ConfigError>
-        requires { HasRisingLists
-            (record { relationships = relationships.items; seeds = seeds.items }) }
+        requires lists { HasRisingLists (record {
+          relationships = relationships.items;
+          seeds = seeds.items;
+          floors = floors.items;
+        }) }
+        requires domains { AreDomains (record {
+          relationships = relationships.items;
+          seeds = seeds.items;
+          floors = floors.items;
+        }) domains.items }
         ensures { MatchResult result
-            (λ c. (c ≡ record { relationships = relationships.items; seeds = seeds.items })
-            × IsConfiguration c)
-            (Fails ConfigError.TooMany
-            (HasFewDomains (record { relationships = relationships.items; seeds = seeds.items }))) }
+            (λ c. (c ≡ record {
+              relationships = relationships.items;
+              seeds = seeds.items;
+              floors = floors.items;
+            }) × IsConfiguration c)
+            (Fails ConfigError.TooMany (HasFewDomains (record {
+              relationships = relationships.items;
+              seeds = seeds.items;
+              floors = floors.items;
+            }))) }
     {
-        let domains = domains_of(alloc, relationships.as_slice(), seeds.as_slice())?;
         if domains.len() > MAX_DOMAINS {
             return Err(ConfigError::TooMany);
         }
-        let id = id_of(alloc, relationships.as_slice(), seeds.as_slice())?;
+        let id = id_of(
+            alloc,
+            relationships.as_slice(),
+            seeds.as_slice(),
+            floors.as_slice(),
+        )?;
         Ok(Config {
             relationships,
             seeds,
+            floors,
             domains,
             id,
         })

@@ -8,7 +8,7 @@ use Rattle.std.specs.List.Sorted.{IsStrictlySortedBy}
 use Rattle.std.proofs.lemmas.List.{length-append, length_push}
 use Rattle.std.proofs.lemmas.List.Elements.{Contains-append_left, Contains-push, Contains-push_cases}
 use Rattle.std.proofs.lemmas.Option.{slice_get_within}
-use Rattle.fed_config.specs.Configuration.{Configuration}
+use Rattle.fed_config.specs.Configuration.{Configuration, IsConfiguration}
 use Rattle.byte_lines.specs.Lines.{Lines}
 use Rattle.receipt_core.proofs.OrderFacts.{cmp_less}
 use Rattle.receipt_core.proofs.RisingFacts.{Has, Contains-from_has}
@@ -159,9 +159,9 @@ low_rising c texts xs why are =
 
 -- a refused line adds one complaint, at the end
 pub complaints_more : (c : Configuration) (texts : List (List ℕ)) (text : List ℕ) (why : LineFault)
-    (xs : List Complaint) → AreComplaints c (only texts) xs → IsRefusedLine c text why
+    (xs : List Complaint) → IsConfiguration c → AreComplaints c (only texts) xs → IsRefusedLine c text why
     → AreComplaints c (only (texts ++ text ∷ [])) (xs ++ at_number (length texts + 1) why ∷ [])
-complaints_more c texts text why xs are refused = record {
+complaints_more c texts text why xs valid are refused = record {
   rising = low_rising c texts xs why are;
   sound = λ x has. elim (Contains-push_cases xs (at_number (length texts + 1) why) x has) [
     | inl before ↦ inl (of_line_before c texts (text ∷ []) x (whole_sound c texts xs x are before))
@@ -172,7 +172,7 @@ complaints_more c texts text why xs are refused = record {
     | inl of_line ↦ elim (last_cases c texts text x of_line) [
       | inl before ↦ Contains-append_left xs (at_number (length texts + 1) why ∷ []) x (are.complete x (inl before))
       | inr here ↦ subst (Contains (xs ++ at_number (length texts + 1) why ∷ []))
-          (λ i. record { number = sym here.0 i; why = one_cause c text why x.why refused here.1 i }) (Contains-push xs (at_number (length texts + 1) why))
+          (λ i. record { number = sym here.0 i; why = one_cause c text why x.why valid refused here.1 i }) (Contains-push xs (at_number (length texts + 1) why))
     ]
     | inr of_rest ↦ absurd (none_of_rest (texts ++ text ∷ []) x of_rest)
   ];

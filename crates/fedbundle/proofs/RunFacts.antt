@@ -200,7 +200,7 @@ so_far_told c stream left next old new told tells now number count text why vali
             (taken_same c so.read text old.held so.judged.taken (untaken c text why valid refused));
         few = subst (λ (m : Meaning). length m.held ≤ 65536) (sym same) so.judged.few;
         complaints = so.judged.complaints ++ x ∷ [];
-        all = complaints_more c so.read text why so.judged.complaints so.judged.all refused;
+        all = complaints_more c so.read text why so.judged.complaints valid so.judged.all refused;
         telling = told_more told tells now so.judged.complaints x so.judged.telling here_at;
         counted = ap (λ n. n + 1) so.judged.counted ∙ sym (length_push so.judged.complaints x);
       };
@@ -261,13 +261,13 @@ begun_so_far c (Some xs) (Some ys) m told tells now number count so kept = recor
 -- with a beginning of a refused line's complaint after those so far, a beginning of all is written
 pub begun_line : (c : Configuration) (stream left next : Option (List ℕ)) (m : Meaning)
     (told tells now : Option (List ℕ)) (number count : ℕ) (text : List ℕ) (why : LineFault)
-    → SoFar c stream left m told tells number count → HasLine left next text → IsRefusedLine c text why
+    → IsConfiguration c → SoFar c stream left m told tells number count → HasLine left next text → IsRefusedLine c text why
     → AppendsBeginning tells now (complaint_text (at_number (number + 1) why))
     → IfSome stream (λ bytes. BeginsTelling c (lines_of bytes) told now)
-begun_line c None left next m told tells now number count text why so has refused here = tt
-begun_line c (Some xs) None next m told tells now number count text why so has refused here = absurd so.passed
-begun_line c (Some xs) (Some ys) None m told tells now number count text why so has refused here = absurd has.1
-begun_line c (Some xs) (Some ys) (Some zs) m told tells now number count text why so has refused here =
+begun_line c None left next m told tells now number count text why valid so has refused here = tt
+begun_line c (Some xs) None next m told tells now number count text why valid so has refused here = absurd so.passed
+begun_line c (Some xs) (Some ys) None m told tells now number count text why valid so has refused here = absurd has.1
+begun_line c (Some xs) (Some ys) (Some zs) m told tells now number count text why valid so has refused here =
     let x = at_number (length so.read + 1) why in
     let here_at : AppendsBeginning tells now (complaint_text x) =
     subst (λ n. AppendsBeginning tells now (complaint_text (at_number (n + 1) why))) so.numbered here in
@@ -276,7 +276,7 @@ begun_line c (Some xs) (Some ys) (Some zs) m told tells now number count text wh
       first = first_whole c (so.read ++ text ∷ []) (lines_of zs).whole (lines_of xs) (so.judged.complaints ++ x ∷ [])
           (whole_after xs zs (so.read ++ text ∷ [])
           (passed_line (Some xs) (Some ys) (Some zs) so.read text so.passed has))
-          (complaints_more c so.read text why so.judged.complaints so.judged.all refused);
+          (complaints_more c so.read text why so.judged.complaints valid so.judged.all refused);
       begun = begun_more told tells now so.judged.complaints x so.judged.telling here_at;
     }
 
@@ -374,17 +374,17 @@ stops_io c (Some xs) told tells begins = begins
 -- an error at a line stops the judging after a beginning of the complaints
 pub stops_text : (c : Configuration) (stream left next : Option (List ℕ)) (old new : HeldAndRoom)
     (told tells now : Option (List ℕ)) (number count : ℕ) (text : List ℕ) (failed : Bool) (e : RunError)
-    → SoFar c stream left old.meaning told tells number count → HasLine left next text → TriesText old text (number + 1) new tells now failed (Err e)
-    → IfSome stream (λ bytes. StopsJudging c (lines_of bytes) told now e)
-stops_text c stream left next old new told tells now number count text failed Full so has (full, kept) =
+    → IsConfiguration c → SoFar c stream left old.meaning told tells number count → HasLine left next text
+    → TriesText old text (number + 1) new tells now failed (Err e) → IfSome stream (λ bytes. StopsJudging c (lines_of bytes) told now e)
+stops_text c stream left next old new told tells now number count text failed Full valid so has (full, kept) =
     full_too c stream told now (too_many c stream left next old told tells number count text so has full)
     (begun_so_far c stream left old.meaning told tells now number count so kept)
-stops_text c None left next old new told tells now number count text failed NoMemory so has kept = tt
-stops_text c (Some xs) left next old new told tells now number count text failed NoMemory so has kept =
+stops_text c None left next old new told tells now number count text failed NoMemory valid so has kept = tt
+stops_text c (Some xs) left next old new told tells now number count text failed NoMemory valid so has kept =
     begun_so_far c (Some xs) left old.meaning told tells now number count so kept
-stops_text c stream left next old new told tells now number count text failed Io so has (broken, begins) =
+stops_text c stream left next old new told tells now number count text failed Io valid so has (broken, begins) =
     stops_io c stream told now
-    (begun_line c stream left next old.meaning told tells now number count text begins.why so has
+    (begun_line c stream left next old.meaning told tells now number count text begins.why valid so has
     (refused_here c stream left old told tells number count text begins.why so begins.refused) begins.begun)
 
 -- ---- the whole run

@@ -1,10 +1,14 @@
 -- What each command does that shows what is held, by what its functions answer
-use Rattle.std.proofs.Common.{◌≡◌, ℕ, Bool, true, false, if◌then◌else◌, List, Option, Some, None, Result, Ok, Err, inr, refl, subst, sym}
+use Rattle.std.proofs.Common.{◌≡◌, ℕ, Bool, true, false, if◌then◌else◌, List, [], length, Option, Some, None, Result, Ok, Err, inl, inr, refl, ap, ◌∙◌, subst}
+use Rattle.std.proofs.Common.{sym}
+use Rattle.std.specs.Global.{Vec}
 use Rattle.fed_config.specs.Configuration.{Configuration}
 use Rattle.migration.specs.declared.carrying.Choice.{Choice}
 use Rattle.receipt_core.specs.Acceptance.{Meaning}
 use Rattle.reseeding.specs.Reseeding.{Reseeds}
+use Rattle.reseeding.specs.declared.starting_anew.NewConfig.{NewConfig}
 use Rattle.reseeding.specs.declared.starting_anew.Reseeded.{Reseeded}
+use Rattle.reseeding.specs.declared.starting_anew.Reseeded.TheVariants.{Refusals, Seeded}
 use Rattle.command_line.specs.declared.option_texts.OutputForm.{OutputForm}
 use Rattle.command_line.specs.declared.command_name.CommandName.{CommandName}
 use Rattle.command_line.specs.declared.command_name.CommandName.TheVariants as command
@@ -15,9 +19,12 @@ use Rattle.fedbundle.specs.CommandRun.{CommandRun, DeviceRun, HasFailed}
 use Rattle.fedbundle.specs.Errors.{of_read}
 use Rattle.fedbundle.specs.Migrate.{move_to}
 use Rattle.fedbundle.specs.Shown.{IsUntouched, ShownCall, ShowsBy}
-use Rattle.fedbundle.specs.ShownCommands.{ComparesConfigsIn, MovesTo, MovesToRead, PrintsReseeded, ReadsConfig}
-use Rattle.fedbundle.specs.ShownCommands.{ReseedsInto, ShowsConfig, ShowsConfigIn, ShowsMove, ShowsNamed, config_call}
+use Rattle.fedbundle.specs.ShownCommands.{ComparesConfigsIn, MovesTo, MovesToRead, PrintsBoth, PrintsWhole, ReadsConfig}
+use Rattle.fedbundle.specs.ShownCommands.{ReseedChoice, ReseedsInto, TwoTexts, reseed_texts, stay_line}
+use Rattle.fedbundle.specs.ShownCommands.{ShowsConfig, ShowsConfigIn, ShowsMove, ShowsNamed, config_call}
+use Rattle.fedbundle.specs.declared.error.CommandError.TheVariants.{Io}
 use Rattle.fedbundle.specs.declared.exits.Exit.{Exit}
+use Rattle.fedbundle.specs.declared.exits.Exit.TheVariants.{Refused}
 
 -- what the command of this name does is what the call does
 pub named_as : (name other : CommandName) (call : ShownCall) (run : CommandRun) (complaints : DeviceRun) (result : Result ℕ Exit) → name ≡ other
@@ -61,7 +68,45 @@ moves_here said choice lent m run complaints result is same moves unread =
     subst (λ text. MovesTo text choice m run complaints result) is (subst (λ c. ShowsMove (move_to choice c m) run.sink complaints result) same moves, unread)
 
 -- what comes of a start anew was printed
-pub reseeded_as : (m : Meaning) (allowed : Option (List ℕ)) (sink complaints : DeviceRun) (found outcome : Reseeded) (result : Result ℕ Exit)
-    → found ≡ outcome → Reseeds m allowed found → PrintsReseeded outcome sink complaints result → ReseedsInto m allowed sink complaints result
-reseeded_as m allowed sink complaints found outcome result is reseeds prints =
-    inr (record { outcome = outcome; reseeds = subst (Reseeds m allowed) is reseeds; prints = prints })
+pub reseeded_as : (m : Meaning) (choice : ReseedChoice) (sink complaints : DeviceRun) (found outcome : Reseeded) (result : Result ℕ Exit)
+    → found ≡ outcome → Reseeds m choice.allowed choice.floors found
+    → PrintsBoth (reseed_texts choice.floors (length m.held) outcome) sink complaints result → ReseedsInto m choice sink complaints result
+reseeded_as m choice sink complaints found outcome result is reseeds prints =
+    inr (record { outcome = outcome; reseeds = subst (Reseeds m choice.allowed choice.floors) is reseeds; prints = prints })
+
+abbrev two_texts : (output beside : List ℕ) (status : ℕ) → TwoTexts
+two_texts output beside status = record { output = output; beside = beside; status = status }
+
+-- the new configuration was printed, and what is said beside it
+pub seeded_as : (m : Meaning) (choice : ReseedChoice) (sink complaints : DeviceRun) (found : Reseeded) (new : NewConfig)
+    (output beside line : List ℕ) (held : ℕ) (result : Result ℕ Exit) → found ≡ Seeded new → Reseeds m choice.allowed choice.floors found
+    → output ≡ new.text.items → beside ≡ line → line ≡ stay_line choice.floors new.staying held → held ≡ length m.held
+    → PrintsBoth (record { output = output; beside = beside; status = 0 }) sink complaints result → ReseedsInto m choice sink complaints result
+seeded_as m choice sink complaints found new output beside line held result is reseeds text said lines all prints =
+    let says : beside ≡ stay_line choice.floors new.staying (length m.held) = said ∙ lines ∙ ap (stay_line choice.floors new.staying) all in
+    let texts : two_texts output beside 0 ≡ two_texts new.text.items (stay_line choice.floors new.staying (length m.held)) 0 =
+    λ i. two_texts (text i) (says i) 0 in
+    reseeded_as m choice sink complaints found (Seeded new) result is reseeds
+    (subst (λ (t : TwoTexts). PrintsBoth t sink complaints result) texts prints)
+
+-- the lines of refused domains were printed
+pub refused_as : (m : Meaning) (choice : ReseedChoice) (sink complaints : DeviceRun) (found : Reseeded) (lines : Vec ℕ) (beside : List ℕ)
+    (result : Result ℕ Exit) → found ≡ Refusals lines → Reseeds m choice.allowed choice.floors found → beside ≡ lines.items
+    → PrintsBoth (record { output = []; beside = beside; status = 1 }) sink complaints result → ReseedsInto m choice sink complaints result
+refused_as m choice sink complaints found lines beside result is reseeds said prints =
+    let texts : two_texts [] beside 1 ≡ two_texts [] lines.items 1 = λ i. two_texts [] (said i) 1 in
+    reseeded_as m choice sink complaints found (Refusals lines) result is reseeds
+    (subst (λ (t : TwoTexts). PrintsBoth t sink complaints result) texts prints)
+
+-- the first of two texts was written, and then the second, as far as it was
+pub both_printed : (texts : TwoTexts) (sink complaints : DeviceRun) (ended : ℕ) (result : Result ℕ Exit) → PrintsWhole texts.output 0 sink (Ok ended)
+    → PrintsWhole texts.beside texts.status complaints result → PrintsBoth texts sink complaints result
+both_printed texts sink complaints ended (Ok n) first second = ((refl, first.1, first.2), second)
+both_printed texts sink complaints ended (Err (Refused Io)) first second = inr ((refl, first.1, first.2), second)
+both_printed texts sink complaints ended (Err exit) first second = absurd second
+
+-- the first of them was cut off
+pub first_cut_off : (texts : TwoTexts) (sink complaints : DeviceRun) (exit : Exit) → PrintsWhole texts.output 0 sink (Err exit)
+    → IsUntouched complaints → PrintsBoth texts sink complaints (Err exit)
+first_cut_off texts sink complaints (Refused Io) cut silent = inl (cut, silent)
+first_cut_off texts sink complaints exit cut silent = absurd cut

@@ -1,11 +1,10 @@
 -- Which receipts are taken, line by line.
-use Rattle.std.proofs.Common.{◌≡◌, ℕ, ◌+◌, List, [], ◌∷◌, ◌++◌, length, inl, inr, refl, sym, ap, ◌∙◌, subst, arith}
+use Rattle.std.proofs.Common.{◌≡◌, ◌<◌, ℕ, ◌+◌, List, [], ◌∷◌, ◌++◌, length, inl, inr, refl, sym, ap, ◌∙◌, subst, arith}
 use Rattle.std.specs.Prelude.{Contains}
 use Rattle.std.specs.List.{AllByRecursion}
 use Rattle.std.specs.List.Sorted.{IsStrictlySortedBy}
 use Rattle.std.proofs.lemmas.List.Elements.{Contains-append_left, Contains-push, Contains-push_cases}
 use Rattle.fed_config.specs.Configuration.{Configuration, IsConfiguration}
-use Rattle.fed_config.specs.declared.relationship.Relationship.{Relationship}
 use Rattle.receipt_core.specs.Acceptance.{IsFitting}
 use Rattle.receipt_core.specs.Line.{IsLine}
 use Rattle.receipt_core.specs.Order.{receipt_total}
@@ -13,11 +12,12 @@ use Rattle.receipt_core.specs.Receipt.{Receipt, IsReceipt, line, receipt_cmp, wi
 use Rattle.receipt_core.specs.Sets.{AreSets}
 use Rattle.receipt_core.proofs.LineFacts.{one_line, one_receipt}
 use Rattle.receipt_core.proofs.ReadFacts.{length-line}
-use Rattle.receipt_core.proofs.SearchFacts.{one_relationship}
 use Rattle.receipt_core.proofs.RisingFacts.{Contains-from_has, all_from_has, AreSets-from_total}
+use Rattle.closure_core.specs.Refusals.{IsOfUnknownDomain, IsBelowFloor}
+use Rattle.closure_core.proofs.FitFacts.{fits_known, fits_right, fits_above, wrong_known, low_known, low_right}
 use Rattle.fedbundle.specs.Stream.{IsTaken, AreTaken, IsRefusedLine}
 use Rattle.fedbundle.specs.declared.complaint.LineFault.{LineFault}
-use Rattle.fedbundle.specs.declared.complaint.LineFault.TheVariants.{NotCanonical, TooLong, UnknownDomain, WrongEndpoint, Cut}
+use Rattle.fedbundle.specs.declared.complaint.LineFault.TheVariants.{NotCanonical, TooLong, UnknownDomain, WrongEndpoint, BelowFloor, Cut}
 
 -- ---- what is refused is not taken
 
@@ -28,41 +28,56 @@ untaken c text NotCanonical is refused r receipt fits e = refused.1 r (record { 
 untaken c text TooLong is refused r receipt fits e = let same = ap length e in omega (arith, length-line r receipt)
 untaken c text UnknownDomain is (s, read, unknown) r receipt fits e =
     let same : r ≡ s = one_line r s receipt read.is (sym e ∙ read.text) in
-    unknown fits.relationship fits.has (fits.domain ∙ ap (λ (x : Receipt). x.domain) same)
+    fits_known c s (subst (IsFitting c) same fits) unknown
 untaken c text WrongEndpoint is (s, read, wrong) r receipt fits e =
     let same : r ≡ s = one_line r s receipt read.is (sym e ∙ read.text) in
-    let one : wrong.relationship ≡ fits.relationship =
-    one_relationship c wrong.relationship fits.relationship is wrong.has fits.has (wrong.domain ∙ sym (fits.domain ∙ ap (λ (x : Receipt). x.domain) same)) in
-    wrong.other (ap (λ (x : Relationship). x.endpoint) one ∙ fits.endpoint ∙ ap (λ (x : Receipt). x.endpoint) same)
+    fits_right c s is (subst (IsFitting c) same fits) wrong
+untaken c text BelowFloor is (s, read, low) r receipt fits e =
+    let same : r ≡ s = one_line r s receipt read.is (sym e ∙ read.text) in
+    fits_above c s (subst (IsFitting c) same fits) low
 untaken c text Cut is refused r receipt fits e = absurd refused
 
+-- what holds of the receipt of a line holds of each receipt of that line
+same_read : (P : Receipt → Type 0) (text : List ℕ) (r s : Receipt) → IsLine text r → IsLine text s → P r → P s
+same_read P text r s read again holds = subst P (one_line r s read.is again.is (sym read.text ∙ again.text)) holds
+
+-- the line of a receipt is not too long
+not_too_long : (text : List ℕ) (r : Receipt) → IsLine text r → 8388608 < length text → ⊥
+not_too_long text r read long = let same = ap length read.text in omega (arith, long, length-line r read.is)
+
 -- a line is refused for one cause at most
-pub one_cause : (c : Configuration) (text : List ℕ) (a b : LineFault) → IsRefusedLine c text a → IsRefusedLine c text b → a ≡ b
-one_cause c text NotCanonical NotCanonical p q = refl
-one_cause c text NotCanonical TooLong p q = absurd (omega (arith, p.0, q))
-one_cause c text NotCanonical UnknownDomain p q = absurd (p.1 q.0 q.1)
-one_cause c text NotCanonical WrongEndpoint p q = absurd (p.1 q.0 q.1)
-one_cause c text TooLong NotCanonical p q = absurd (omega (arith, p, q.0))
-one_cause c text TooLong TooLong p q = refl
-one_cause c text TooLong UnknownDomain p (r, read, other) = absurd (let same = ap length read.text in omega (arith, p, length-line r read.is))
-one_cause c text TooLong WrongEndpoint p (r, read, other) = absurd (let same = ap length read.text in omega (arith, p, length-line r read.is))
-one_cause c text UnknownDomain NotCanonical p q = absurd (q.1 p.0 p.1)
-one_cause c text UnknownDomain TooLong (r, read, other) q = absurd (let same = ap length read.text in omega (arith, q, length-line r read.is))
-one_cause c text UnknownDomain UnknownDomain p q = refl
-one_cause c text UnknownDomain WrongEndpoint (r, read, unknown) (s, again, wrong) =
-    let same : r ≡ s = one_line r s read.is again.is (sym read.text ∙ again.text) in
-    absurd (unknown wrong.relationship wrong.has (wrong.domain ∙ sym (ap (λ (x : Receipt). x.domain) same)))
-one_cause c text WrongEndpoint NotCanonical p q = absurd (q.1 p.0 p.1)
-one_cause c text WrongEndpoint TooLong (r, read, other) q = absurd (let same = ap length read.text in omega (arith, q, length-line r read.is))
-one_cause c text WrongEndpoint UnknownDomain (s, again, wrong) (r, read, unknown) =
-    let same : r ≡ s = one_line r s read.is again.is (sym read.text ∙ again.text) in
-    absurd (unknown wrong.relationship wrong.has (wrong.domain ∙ sym (ap (λ (x : Receipt). x.domain) same)))
-one_cause c text WrongEndpoint WrongEndpoint p q = refl
-one_cause c text Cut b p q = absurd p
-one_cause c text NotCanonical Cut p q = absurd q
-one_cause c text TooLong Cut p q = absurd q
-one_cause c text UnknownDomain Cut p q = absurd q
-one_cause c text WrongEndpoint Cut p q = absurd q
+pub one_cause : (c : Configuration) (text : List ℕ) (a b : LineFault) → IsConfiguration c → IsRefusedLine c text a → IsRefusedLine c text b → a ≡ b
+one_cause c text NotCanonical NotCanonical is p q = refl
+one_cause c text NotCanonical TooLong is p q = absurd (omega (arith, p.0, q))
+one_cause c text NotCanonical UnknownDomain is p q = absurd (p.1 q.0 q.1)
+one_cause c text NotCanonical WrongEndpoint is p q = absurd (p.1 q.0 q.1)
+one_cause c text NotCanonical BelowFloor is p q = absurd (p.1 q.0 q.1)
+one_cause c text TooLong NotCanonical is p q = absurd (omega (arith, p, q.0))
+one_cause c text TooLong TooLong is p q = refl
+one_cause c text TooLong UnknownDomain is p q = absurd (not_too_long text q.0 q.1 p)
+one_cause c text TooLong WrongEndpoint is p q = absurd (not_too_long text q.0 q.1 p)
+one_cause c text TooLong BelowFloor is p q = absurd (not_too_long text q.0 q.1 p)
+one_cause c text UnknownDomain NotCanonical is p q = absurd (q.1 p.0 p.1)
+one_cause c text UnknownDomain TooLong is p q = absurd (not_too_long text p.0 p.1 q)
+one_cause c text UnknownDomain UnknownDomain is p q = refl
+one_cause c text UnknownDomain WrongEndpoint is p q = absurd (wrong_known c q.0 q.2 (same_read (IsOfUnknownDomain c) text p.0 q.0 p.1 q.1 p.2))
+one_cause c text UnknownDomain BelowFloor is p q = absurd (low_known c q.0 q.2 (same_read (IsOfUnknownDomain c) text p.0 q.0 p.1 q.1 p.2))
+one_cause c text WrongEndpoint NotCanonical is p q = absurd (q.1 p.0 p.1)
+one_cause c text WrongEndpoint TooLong is p q = absurd (not_too_long text p.0 p.1 q)
+one_cause c text WrongEndpoint UnknownDomain is p q = absurd (wrong_known c p.0 p.2 (same_read (IsOfUnknownDomain c) text q.0 p.0 q.1 p.1 q.2))
+one_cause c text WrongEndpoint WrongEndpoint is p q = refl
+one_cause c text WrongEndpoint BelowFloor is p q = absurd (low_right c p.0 is (same_read (IsBelowFloor c) text q.0 p.0 q.1 p.1 q.2) p.2)
+one_cause c text BelowFloor NotCanonical is p q = absurd (q.1 p.0 p.1)
+one_cause c text BelowFloor TooLong is p q = absurd (not_too_long text p.0 p.1 q)
+one_cause c text BelowFloor UnknownDomain is p q = absurd (low_known c p.0 p.2 (same_read (IsOfUnknownDomain c) text q.0 p.0 q.1 p.1 q.2))
+one_cause c text BelowFloor WrongEndpoint is p q = absurd (low_right c q.0 is (same_read (IsBelowFloor c) text p.0 q.0 p.1 q.1 p.2) q.2)
+one_cause c text BelowFloor BelowFloor is p q = refl
+one_cause c text Cut b is p q = absurd p
+one_cause c text NotCanonical Cut is p q = absurd q
+one_cause c text TooLong Cut is p q = absurd q
+one_cause c text UnknownDomain Cut is p q = absurd q
+one_cause c text WrongEndpoint Cut is p q = absurd q
+one_cause c text BelowFloor Cut is p q = absurd q
 
 -- the line of a receipt that fits is not refused
 pub unrefused : (c : Configuration) (text : List ℕ) (r : Receipt) (why : LineFault) → IsConfiguration c → IsLine text r

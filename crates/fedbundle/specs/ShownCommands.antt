@@ -1,6 +1,7 @@
 -- What each command does that shows what is held, or the configuration, with a sink for what it
 -- complains of: `config`, `diff`, `migrate` and `reseed` here, and the others by `Shown`.
-use Rattle.std.specs.Prelude.{◌≡◌, ◌≢◌, ◌↔◌, ◌⊎◌, ℕ, List, Bool, true, false, Option, Some, None}
+use Rattle.std.specs.Prelude.{◌≡◌, ◌≢◌, ◌↔◌, ◌⊎◌, ℕ, ◌++◌, List, [], length, codes, decimal, Bool}
+use Rattle.std.specs.Prelude.{true, false, Option, Some, None}
 use Rattle.std.specs.Prelude.{Result, Ok, Err, IfOk, IsTrue, if◌then◌else◌}
 use Rattle.byte_lines.specs.Device.{TakesUpTo}
 use Rattle.config_view.specs.ConfigJson.{IsConfigJson}
@@ -16,19 +17,21 @@ use Rattle.replica_core.specs.declared.error.SyncError.TheVariants.{Io as Stream
 use Rattle.replica_texts.specs.Snapshots.{IsSnapshot, RefusesSnapshot}
 use Rattle.replica_view.specs.HeldTexts.{HoldSame, IsHeldDifference}
 use Rattle.reseeding.specs.Reseeding.{Reseeds}
+use Rattle.reseeding.specs.declared.new_floors.FloorChoice.{FloorChoice}
+use Rattle.reseeding.specs.declared.new_floors.FloorChoice.TheVariants.{Kept, Raised}
 use Rattle.reseeding.specs.declared.starting_anew.Reseeded.{Reseeded}
-use Rattle.reseeding.specs.declared.starting_anew.Reseeded.TheVariants.{NewConfig, Refusals}
+use Rattle.reseeding.specs.declared.starting_anew.Reseeded.TheVariants.{Refusals, Seeded}
 use Rattle.spiffe_name.specs.TrustDomain.{RefusesDomain}
 use Rattle.command_line.specs.OptionTexts.{SaysFlag, SaysNoOutputForm, SaysOutputForm, option_said}
 use Rattle.command_line.specs.declared.command_name.CommandName.{CommandName}
 use Rattle.command_line.specs.declared.command_name.CommandName.TheVariants as command
 use Rattle.command_line.specs.declared.command_name.OptionName.{OptionName}
 use Rattle.command_line.specs.declared.command_name.OptionName.TheVariants.{Allow, Format, To, With}
-use Rattle.command_line.specs.declared.command_name.OptionName.TheVariants.{RecordsOnly}
+use Rattle.command_line.specs.declared.command_name.OptionName.TheVariants.{Floors, RecordsOnly}
 use Rattle.command_line.specs.declared.option_texts.OutputForm.{OutputForm}
 use Rattle.command_line.specs.declared.option_texts.OutputForm.TheVariants as output
 use Rattle.fedbundle.specs.CommandRun.{CommandRun, CutsOff, DeviceRun, HasFailed, IsReadOut}
-use Rattle.fedbundle.specs.CommandRun.{PrintsText}
+use Rattle.fedbundle.specs.CommandRun.{IsAsSound, PrintsText}
 use Rattle.fedbundle.specs.Migrate.{Move, RunsMigrate, move_to}
 use Rattle.fedbundle.specs.SaidValues.{EndsAtName, EndsWithout}
 use Rattle.fedbundle.specs.Shown.{IsUntouched, RefusesUnread, RefusesUnwritten, RunsWriter}
@@ -225,26 +228,68 @@ allowed_said name texts = option_said name texts Allow
 abbrev pub EndsAtAllowed : CommandName → List (Option (List ℕ)) → Exit → Type 0
 EndsAtAllowed name texts exit = EndsAtName RefusesDomain Allow name texts exit
 
+-- by the flag for floors
+abbrev pub SaysFloorChoice : Option (List ℕ) → FloorChoice → Type 0
+SaysFloorChoice text Raised = SaysFlag text true
+SaysFloorChoice text Kept = SaysFlag text false
+
+-- what the arguments say of a new start: the domain that they allow, if any, and the floors
+pub record ReseedChoice : Type 0 where
+  pub allowed : Option (List ℕ)
+  pub floors : FloorChoice
+
+-- how many of the receipts that are held fit the new configuration: said if floors are raised
+abbrev pub stay_line : FloorChoice → (staying held : ℕ) → List ℕ
+stay_line Kept staying held = []
+stay_line Raised staying held = (codes "receipts that stay: " ++ decimal staying)
+    ++ ((codes " of " ++ decimal held) ++ codes "\n")
+
+-- what is written on each of two devices, and the exit status
+pub record TwoTexts : Type 0 where
+  pub output : List ℕ
+  pub beside : List ℕ
+  pub status : ℕ
+
+-- The new configuration, and next to it how many of the receipts fit it; or nothing, and next to
+-- it the lines of the refused domains.
+abbrev pub reseed_texts : FloorChoice → (held : ℕ) → Reseeded → TwoTexts
+reseed_texts floors held (Seeded new) = record {
+  output = new.text.items;
+  beside = stay_line floors new.staying held;
+  status = 0;
+}
+reseed_texts floors held (Refusals lines) = record {
+  output = [];
+  beside = lines.items;
+  status = 1;
+}
+
 -- By the answer: all of the text was written, and this is the exit status; the device failed after
 -- a beginning of it. There is no other end.
 abbrev pub PrintsWhole : (text : List ℕ) (status : ℕ) → DeviceRun → Result ℕ Exit → Type 0
 PrintsWhole text status device (Ok ended) = (ended ≡ status) × PrintsText device text
+    × IsAsSound device
 PrintsWhole text status device (Err (Refused Io)) = CutsOff device text
 PrintsWhole text status device (Err _) = ⊥
 
--- the new configuration on the one device, or the lines of refused domains on the other
-abbrev pub PrintsReseeded : Reseeded → (sink complaints : DeviceRun) → Result ℕ Exit → Type 0
-PrintsReseeded (NewConfig text) sink complaints result = PrintsWhole text.items 0 sink result
-    × IsUntouched complaints
-PrintsReseeded (Refusals lines) sink complaints result =
-    PrintsWhole lines.items 1 complaints result × IsUntouched sink
+-- By the answer: all of both texts was written, and this is the exit status; the first device
+-- failed, and the second was left; or the first text was written, and the second device failed.
+-- There is no other end.
+abbrev pub PrintsBoth : TwoTexts → (sink complaints : DeviceRun) → Result ℕ Exit → Type 0
+PrintsBoth texts sink complaints (Ok ended) = PrintsWhole texts.output 0 sink (Ok 0)
+    × PrintsWhole texts.beside texts.status complaints (Ok ended)
+PrintsBoth texts sink complaints (Err (Refused Io)) =
+    (CutsOff sink texts.output × IsUntouched complaints)
+    ⊎ (PrintsWhole texts.output 0 sink (Ok 0) × CutsOff complaints texts.beside)
+PrintsBoth texts sink complaints (Err _) = ⊥
 
 -- What comes of a start anew was printed.
-pub record PrintsReseed (m : Meaning) (allowed : Option (List ℕ)) (sink complaints : DeviceRun)
+pub record PrintsReseed (m : Meaning) (choice : ReseedChoice) (sink complaints : DeviceRun)
     (result : Result ℕ Exit) : Type 0 where
   pub outcome : Reseeded
-  pub reseeds : Reseeds m allowed outcome
-  pub prints : PrintsReseeded outcome sink complaints result
+  pub reseeds : Reseeds m choice.allowed choice.floors outcome
+  pub prints : PrintsBoth (reseed_texts choice.floors (length m.held) outcome) sink complaints
+      result
 
 -- Memory ran out before anything was written.
 pub record LacksReseed (sink complaints : DeviceRun) (result : Result ℕ Exit) : Type 0 where
@@ -252,17 +297,25 @@ pub record LacksReseed (sink complaints : DeviceRun) (result : Result ℕ Exit) 
   pub unwritten : IsUntouched sink
   pub silent : IsUntouched complaints
 
-abbrev pub ReseedsInto : Meaning → Option (List ℕ) → (sink complaints : DeviceRun)
+abbrev pub ReseedsInto : Meaning → ReseedChoice → (sink complaints : DeviceRun)
     → Result ℕ Exit → Type 0
-ReseedsInto m allowed sink complaints result = LacksReseed sink complaints result
-    ⊎ PrintsReseed m allowed sink complaints result
+ReseedsInto m choice sink complaints result = LacksReseed sink complaints result
+    ⊎ PrintsReseed m choice sink complaints result
+
+-- with the floors that the words say
+pub record ReseedsFloored (call : ShownCall) (allowed : Option (List ℕ))
+    (sink complaints : DeviceRun) (result : Result ℕ Exit) : Type 0 where
+  pub floors : FloorChoice
+  pub is_floors : SaysFloorChoice (shown_said call Floors) floors
+  pub reseeds : ReseedsInto call.meaning (record { allowed = allowed; floors = floors }) sink
+      complaints result
 
 -- in spite of what stands against the domain that the words allow, if they allow one
 pub record ReseedsSaid (call : ShownCall) (sink complaints : DeviceRun)
     (result : Result ℕ Exit) : Type 0 where
   pub allowed : Option (List ℕ)
   pub is_allowed : SaysChosen (allowed_said call.name call.texts) allowed
-  pub reseeds : ReseedsInto call.meaning allowed sink complaints result
+  pub reseeds : ReseedsFloored call allowed sink complaints result
 
 abbrev pub ShowsReseed : ShownCall → (sink complaints : DeviceRun) → Result ℕ Exit → Type 0
 ShowsReseed call sink complaints result =

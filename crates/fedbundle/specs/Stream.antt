@@ -10,13 +10,13 @@ use Rattle.receipt_core.specs.Acceptance.{IsFitting}
 use Rattle.receipt_core.specs.Line.{IsLine, IsNoLine}
 use Rattle.byte_lines.specs.Lines.{Lines}
 use Rattle.receipt_core.specs.Receipt.{Receipt, IsReceipt, line, receipt_cmp}
-use Rattle.closure_core.specs.Refusals.{IsOfUnknownDomain, IsOfWrongEndpoint}
+use Rattle.closure_core.specs.Refusals.{IsOfUnknownDomain, IsOfWrongEndpoint, IsBelowFloor}
 use Rattle.receipt_core.specs.Limits.{receipt_limit}
 use Rattle.byte_lines.specs.Limits.{line_limit}
 use Rattle.fedbundle.specs.declared.complaint.LineFault.{LineFault}
 use Rattle.fedbundle.specs.declared.complaint.LineFault.TheVariants.{NotCanonical, TooLong}
 use Rattle.fedbundle.specs.declared.complaint.LineFault.TheVariants.{UnknownDomain, WrongEndpoint}
-use Rattle.fedbundle.specs.declared.complaint.LineFault.TheVariants.{Cut}
+use Rattle.fedbundle.specs.declared.complaint.LineFault.TheVariants.{BelowFloor, Cut}
 
 -- ---- what is taken
 
@@ -48,6 +48,7 @@ IsRefusedLine c text NotCanonical = (length text ≤ line_limit) × IsNoLine tex
 IsRefusedLine c text TooLong = line_limit < length text
 IsRefusedLine c text UnknownDomain = (r : Receipt) × IsLine text r × IsOfUnknownDomain c r
 IsRefusedLine c text WrongEndpoint = (r : Receipt) × IsLine text r × IsOfWrongEndpoint c r
+IsRefusedLine c text BelowFloor = (r : Receipt) × IsLine text r × IsBelowFloor c r
 IsRefusedLine c text _ = ⊥
 
 pub record Complaint : Type 0 where
@@ -94,6 +95,7 @@ why_text NotCanonical = codes ": not canonical\n"
 why_text TooLong = codes ": too long\n"
 why_text UnknownDomain = codes ": unknown domain\n"
 why_text WrongEndpoint = codes ": wrong endpoint\n"
+why_text BelowFloor = codes ": below floor\n"
 why_text Cut = codes ": cut\n"
 
 -- a complaint's line, as `line 2: not canonical`

@@ -18,6 +18,8 @@ pub(crate) enum LineFault {
     UnknownDomain,
     /// That relationship has another endpoint than the receipt.
     WrongEndpoint,
+    /// The receipt's document is below the floor of its domain.
+    BelowFloor,
     /// No line feed ends it.
     Cut,
 }
@@ -50,6 +52,7 @@ fn text_of(why: LineFault) -> &'static str
         LineFault::TooLong => ": too long\n",
         LineFault::UnknownDomain => ": unknown domain\n",
         LineFault::WrongEndpoint => ": wrong endpoint\n",
+        LineFault::BelowFloor => ": below floor\n",
         LineFault::Cut => ": cut\n",
     }
 }

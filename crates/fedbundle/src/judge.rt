@@ -122,6 +122,7 @@ fn take_receipt<C: Closure>(
     match refused.why {
         TakeError::UnknownDomain => Ok(Some(LineFault::UnknownDomain)),
         TakeError::WrongEndpoint => Ok(Some(LineFault::WrongEndpoint)),
+        TakeError::BelowFloor => Ok(Some(LineFault::BelowFloor)),
         TakeError::Full => Err(RunError::Full),
         TakeError::NoMemory | TakeError::ConfigDiffers => Err(RunError::NoMemory),
     }

@@ -32,6 +32,7 @@ use trust_closure::IndexedClosure;
 /// | `too long` | a longer line |
 /// | `unknown domain` | a receipt with whose domain the configuration has no relationship |
 /// | `wrong endpoint` | a receipt whose endpoint is another than that of the relationship |
+/// | `below floor` | a receipt whose document is below the floor of its domain |
 /// | `cut` | after the last line, bytes that no line feed ends, whatever they are |
 ///
 /// The report depends on the configuration and on the set of receipts that fit alone: neither on

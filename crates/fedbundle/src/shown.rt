@@ -53,7 +53,8 @@ pub struct Shown<'call, 'words, 'a> {
 
 /// Writes what the words ask for, of what is held, and returns the exit status: 1 for a `status`
 /// with a warning, for a `config` or a `diff` that found a difference, and for a `migrate` or a
-/// `reseed` that reports something on `complaints`; and otherwise 0. Only those two write there.
+/// `reseed` that leaves out or refuses something, which they say on `complaints`; and otherwise 0.
+/// Only those two write there; a `reseed` with `--floors` also says there how many receipts fit.
 ///
 /// `explain` and `polls`, and `status` with `--polls`, read the source, to its end or as far as
 /// [`run_explain`] and [`run_polls_in`] say. It has the other configuration for `config` with

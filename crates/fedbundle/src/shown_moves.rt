@@ -1,14 +1,17 @@
 //! What goes along to another configuration, and a configuration for a start anew, by what the
 //! words of `migrate` and of `reseed` say. Both write on two sinks.
-ghost use Rattle.std.specs.Prelude.{IfErr, IfOk, Ok, option_copied, option_map};
+ghost use Rattle.std.specs.Prelude.{◌≡◌, ◌++◌, IfErr, IfOk, Ok, OnOk, option_copied};
+ghost use Rattle.std.specs.Prelude.{decimal, option_map};
 ghost use Rattle.fedbundle.specs.CommandRun.{device_run, run_of};
 ghost use Rattle.fedbundle.specs.Migrate.{move_to};
 ghost use Rattle.fedbundle.specs.SaidValues.{texts_of_call};
 ghost use Rattle.fedbundle.specs.Shown.{SaysChosen, shown_call};
 ghost use Rattle.fedbundle.specs.ShownCommands.{EndsAtAllowed, EndsMove, MovesToRead};
-ghost use Rattle.fedbundle.specs.ShownCommands.{PrintsWhole};
+ghost use Rattle.fedbundle.specs.ShownCommands.{PrintsBoth, PrintsWhole};
 ghost use Rattle.fedbundle.specs.ShownCommands.{ReseedsInto, SaysChoice, ShowsMigration, ShowsMove};
-ghost use Rattle.fedbundle.specs.ShownCommands.{ShowsReseed, allowed_said};
+ghost use Rattle.reseeding.specs.declared.new_floors.FloorChoice.TheVariants.{Raised};
+ghost use Rattle.fedbundle.specs.ShownCommands.{SaysFloorChoice, ShowsReseed, allowed_said};
+ghost use Rattle.fedbundle.specs.ShownCommands.{ReseedsFloored, stay_line};
 
 use crate::config_source::read_config;
 use crate::error::CommandError;
@@ -16,14 +19,14 @@ use crate::exits::Exit;
 use crate::migrate::run_migrate;
 use crate::said_values::read_domain;
 use crate::shown::Shown;
-use byte_lines::{Sink, Source, write_all};
+use byte_lines::{Sink, Source, push_number, write_all};
 use closure_core::Closure;
 use command_line::{Call, OptionName, given, is_flag_given};
 use fed_config::Config;
 use migration::Choice;
-use reseeding::{Reseeded, reseed};
+use reseeding::{FloorChoice, Reseeded, reseed};
 use spiffe_name::TrustDomain;
-use std::alloc::Global;
+use std::alloc::{AllocError, Global};
 
 /// Writes the snapshot of what goes along to the configuration that the source has, or under the
 /// same one without `--to`, and on `complaints` a line for each that is left out, which makes the
@@ -99,8 +102,9 @@ fn status_of_left(count: u64) -> u8
     if count == 0 { 0 } else { 1 }
 }
 
-/// Writes the configuration for a start anew; or, on `complaints`, the lines of the domains that
-/// are refused, which make the exit status 1.
+/// Writes the configuration for a new start, and with `--floors` on `complaints` a line that says
+/// how many receipts fit it; or there the lines of the domains that are refused, which make the
+/// exit status 1.
 pub(crate) fn reseed_of<C: Closure, W: Sink, E: Sink>(
     alloc: Global,
     closure: &C,
@@ -113,7 +117,34 @@ pub(crate) fn reseed_of<C: Closure, W: Sink, E: Sink>(
         (device_run E.contents E.has_failed complaints.old complaints.new) result }
 {
     let allowed = allowed_domain(alloc, shown.call)?;
-    reseed_into(alloc, closure, allowed.as_ref(), sink, complaints)
+    reseed_floored(alloc, closure, shown, allowed.as_ref(), sink, complaints)
+}
+
+fn reseed_floored<C: Closure, W: Sink, E: Sink>(
+    alloc: Global,
+    closure: &C,
+    shown: Shown<'_, '_, '_>,
+    allowed: Option<&TrustDomain>,
+    sink: &mut W,
+    complaints: &mut E,
+) -> Result<u8, Exit>
+    ensures { ReseedsFloored (shown_call shown.entry (C.state closure.now).meaning)
+        (option_copied allowed.entry)
+        (device_run W.contents W.has_failed sink.old sink.new)
+        (device_run E.contents E.has_failed complaints.old complaints.new) result }
+{
+    let floors = floors_of(given(shown.call, OptionName::Floors));
+    reseed_into(alloc, closure, allowed, floors, sink, complaints)
+}
+
+fn floors_of(text: Option<&str>) -> FloorChoice
+    ensures { SaysFloorChoice (option_map (λ t. t.now) text.entry) result }
+{
+    if is_flag_given(text) {
+        FloorChoice::Raised
+    } else {
+        FloorChoice::Kept
+    }
 }
 
 fn allowed_domain(alloc: Global, call: &Call<'_>) -> Result<Option<TrustDomain>, Exit>
@@ -130,16 +161,70 @@ fn reseed_into<C: Closure, W: Sink, E: Sink>(
     alloc: Global,
     closure: &C,
     allowed: Option<&TrustDomain>,
+    floors: FloorChoice,
     sink: &mut W,
     complaints: &mut E,
 ) -> Result<u8, Exit>
-    ensures { ReseedsInto (C.state closure.now).meaning (option_copied allowed.entry)
+    ensures { ReseedsInto (C.state closure.now).meaning
+        (record { allowed = option_copied allowed.entry; floors = floors })
         (device_run W.contents W.has_failed sink.old sink.new)
         (device_run E.contents E.has_failed complaints.old complaints.new) result }
 {
-    match reseed(alloc, closure, allowed)? {
-        Reseeded::NewConfig(text) => print(text.as_slice(), 0, sink),
-        Reseeded::Refusals(lines) => print(lines.as_slice(), 1, complaints),
+    match reseed(alloc, closure, allowed, floors)? {
+        Reseeded::Seeded(new) => {
+            let beside = stay_line(alloc, floors, new.staying, closure.receipt_count())?;
+            print_both(new.text.as_slice(), beside.as_slice(), 0, sink, complaints)
+        }
+        Reseeded::Refusals(lines) => print_both(b"", lines.as_slice(), 1, sink, complaints),
+    }
+}
+
+// What is said beside the new configuration, if anything.
+fn stay_line(
+    alloc: Global,
+    floors: FloorChoice,
+    staying: usize,
+    held: usize,
+) -> Result<Vec<u8>, AllocError>
+    ensures { IfOk result (λ line. line.items ≡ stay_line floors staying held) }
+{
+    let mut line = Vec::new(alloc);
+    if floors == FloorChoice::Raised {
+        push_stay_line(&mut line, staying as u64, held as u64)?;
+    }
+    Ok(line)
+}
+
+fn push_stay_line(line: &mut Vec<u8>, staying: u64, held: u64) -> Result<(), AllocError>
+    ensures { OnOk result (line.new.items ≡ line.old.items ++ stay_line Raised staying held) }
+{
+    push_labelled(line, b"receipts that stay: ", staying)?;
+    push_labelled(line, b" of ", held)?;
+    line.extend_from_slice(b"\n")
+}
+
+fn push_labelled(line: &mut Vec<u8>, label: &[u8], number: u64) -> Result<(), AllocError>
+    ensures { OnOk result (line.new.items ≡ line.old.items ++ (label.now ++ decimal number)) }
+{
+    line.extend_from_slice(label)?;
+    push_number(line, number)
+}
+
+// Writes the output, and then what is said beside it, and returns the status.
+fn print_both<W: Sink, E: Sink>(
+    output: &[u8],
+    beside: &[u8],
+    status: u8,
+    sink: &mut W,
+    complaints: &mut E,
+) -> Result<u8, Exit>
+    ensures { PrintsBoth (record { output = output.now; beside = beside.now; status = status })
+        (device_run W.contents W.has_failed sink.old sink.new)
+        (device_run E.contents E.has_failed complaints.old complaints.new) result }
+{
+    match print(output, 0, sink) {
+        Ok(_) => print(beside, status, complaints),
+        failed => failed,
     }
 }
 

@@ -9,7 +9,7 @@ use Rattle.std_alloc.specs.Box.Ownership.{box_owns}
 use Rattle.fedbundle_c.specs.contracts.held_replica.Replica.{the_row}
 use Rattle.fedbundle_c.specs.declared.held_replica.Replica.{Replica}
 
--- nothing at null, and else the box of a replica
+-- nothing at null; otherwise the box of a replica
 abbrev pub handle_owns : Global → Ptr → Option Replica → Fml
 handle_owns a null_ptr None = ftrue
 handle_owns a (block_ptr b o) (Some x) = box_owns (ghosts.dealloc_token a) the_row (block_ptr b o) x

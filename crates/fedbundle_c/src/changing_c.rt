@@ -14,7 +14,7 @@ use replica_c_calls::{
 use std::alloc::Global;
 
 /// Takes the receipt of a line, without its line feed. It counts the bundles that are accepted now
-/// and were not, and returns [`ALREADY`] where the receipt was held.
+/// and were not, and returns [`ALREADY`] if the receipt was held.
 #[unsafe(no_mangle)]
 pub extern "C" fn fedbundle_raw_take(
     alloc: Global,
@@ -47,7 +47,7 @@ pub extern "C" fn fedbundle_raw_take(
 }
 
 /// Distrusts a key of 64 lower-case hexadecimal digits in a domain. It counts the bundles that are
-/// accepted no longer, and returns [`ALREADY`] where the record was held.
+/// accepted no longer, and returns [`ALREADY`] if the record was held.
 #[unsafe(no_mangle)]
 pub extern "C" fn fedbundle_raw_distrust(
     alloc: Global,
@@ -111,8 +111,8 @@ pub extern "C" fn fedbundle_raw_merge(
     }
 }
 
-/// Observes a bundle that was fetched, and writes the line of its receipt, with a line feed. Where
-/// there is no room for the line nothing is taken.
+/// Observes a bundle that was fetched, and writes the line of its receipt, with a line feed. If
+/// there is no room for the line, nothing is taken.
 #[unsafe(no_mangle)]
 pub extern "C" fn fedbundle_raw_observe(
     alloc: Global,

@@ -1,10 +1,10 @@
 //! Replicas for C: each export calls one function of `replica_c_calls` or `command_c_calls`, which
 //! has its contract.
 //!
-//! A handle is where a caller keeps a replica: a pointer that is null, or a box of a replica.
-//! `handle` and `loose` make the one of the other; they alone have raw pointers, and are proved by
-//! hand. Each export takes the box out of the handle, makes its call, and puts it back. So what a
-//! handle holds is known before and after each call, and a call on a closed one is refused.
+//! In a handle a caller keeps a replica: a pointer that is null, or a box of a replica. `handle`
+//! and `loose` turn one into the other; only they have raw pointers, and they are proved by hand.
+//! Each export takes the box out of the handle, makes its call, and puts it back. So what a handle
+//! holds is known before and after each call, and a call on a closed one is refused.
 //!
 //! `include/fedbundle.h` declares the exports, and says what a caller in C has to keep.
 #![tactic(auto)]

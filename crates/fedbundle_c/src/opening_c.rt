@@ -14,17 +14,17 @@ use trust_closure::ExchangeClosure;
 /// Writes the version of the library, without a line feed.
 #[unsafe(no_mangle)]
 pub extern "C" fn fedbundle_raw_version(out: &mut [u8], outcome: &mut CallOutcome) -> i64
-    ensures does { WritesOut (codes "0.7.0") (out_run out.old out.new outcome.new.length result) }
+    ensures does { WritesOut (codes "0.8.0") (out_run out.old out.new outcome.new.length result) }
     ensures count { outcome.new.count ≡ 0 }
     ensures fault { outcome.new.fault_length ≤ 240 }
     ensures told { TellsFault result outcome.new.fault_length }
 {
-    outcome.put(b"0.7.0", out)
+    outcome.put(b"0.8.0", out)
 }
 
 /// Opens a closed handle: it holds a replica of the configuration then, with what the snapshot
-/// holds, or with nothing where there are no bytes of a snapshot. Where it is refused the handle
-/// stays as it is.
+/// holds, or with nothing if there are no bytes of a snapshot. If it is refused, the handle stays
+/// as it is.
 #[unsafe(no_mangle)]
 pub extern "C" fn fedbundle_raw_open(
     alloc: Global,

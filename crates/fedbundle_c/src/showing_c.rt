@@ -70,7 +70,7 @@ pub extern "C" fn fedbundle_raw_snapshot(
 }
 
 /// Writes the current bundle of a domain in its canonical form, with a line feed, or returns
-/// [`NONE`](replica_c_calls::NONE) where there is none.
+/// [`NONE`](replica_c_calls::NONE) if there is none.
 #[unsafe(no_mangle)]
 pub extern "C" fn fedbundle_raw_current(
     alloc: Global,
@@ -101,7 +101,7 @@ pub extern "C" fn fedbundle_raw_current(
 }
 
 /// Writes the lines of a shortest chain of receipts to a document of a domain, or returns
-/// [`NONE`](replica_c_calls::NONE) where the document is not accepted.
+/// [`NONE`](replica_c_calls::NONE) if the document is not accepted.
 #[unsafe(no_mangle)]
 pub extern "C" fn fedbundle_raw_explain(
     alloc: Global,

@@ -1,4 +1,4 @@
-// What the words ask for: a running replica is asked (`--at`), this process becomes one
+// What the arguments ask for: a running replica is asked (`--at`), this process becomes one
 // (`replica`), or it carries out the command with its own files and streams (`subcommands`).
 use crate::replica_settings;
 use command_faults::{end_without_call, status_of};
@@ -11,8 +11,8 @@ use fedbundle::{
 use replica_client::{ask_distrust, ask_running};
 use subcommands::carry_out_here;
 
-/// What the words ask for, done: the exit status 0, or 1 where an input was refused and the rest is
-/// done.
+/// What the arguments ask for, done: the exit status 0, or 1 if an input was refused and the rest
+/// is done.
 pub(crate) fn run(rt: &HostRuntime) -> Result<u8, Exit> {
     let words = words_of_process(rt)?;
     let texts = texts_of(rt.alloc(), words.as_slice())?;
@@ -22,7 +22,7 @@ pub(crate) fn run(rt: &HostRuntime) -> Result<u8, Exit> {
     }
 }
 
-// The words are none of a command, or ask for help or for the version.
+// The arguments are not those of a command, or ask for help or for the version.
 fn end_by_words(rt: &HostRuntime, words: &[&str], error: &WordsError) -> Result<u8, Exit> {
     match error {
         WordsError::Words(shown) => Ok(print_clap(rt, shown)),
@@ -48,7 +48,7 @@ fn carry_out(rt: &HostRuntime, call: &Call<'_>) -> Result<u8, Exit> {
     }
 }
 
-// A running replica has a state, so nothing may stand for one that it has not.
+// A running replica has a state, so `--new` is refused.
 fn ask_at(rt: &HostRuntime, call: &Call<'_>, path: &str, seconds: u64) -> Result<u8, Exit> {
     if is_flag_given(given(call, OptionName::New)) {
         return Err(Exit::Usage);

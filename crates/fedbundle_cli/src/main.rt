@@ -1,6 +1,6 @@
-// The program `fedbundle`: it reads its words, hands its files and standard streams to the
-// command's function, and ends with the exit status that the function's answer has. Proved of it
-// are safety and, where the system's calls return, that it returns.
+// The program `fedbundle`: it reads its arguments, hands its files and standard streams to the
+// command's function, and ends with the exit status that the function's answer has. Proved are
+// safety and, if the system's calls return, that it returns.
 #![tactic(auto)]
 
 mod dispatch;

@@ -1,5 +1,5 @@
 // `replica`: what the words say of it, read, and the replica run.
-use command_line::number_given;
+use command_line::{VERSION, number_given};
 use command_streams::options::may_listen;
 use command_streams::{options, progress_mode, warn_of_anywhere};
 use fed_config::Config;
@@ -30,9 +30,6 @@ const PEER_QUIET: u64 = 600;
 
 const MAX_PEER_QUIET: u64 = 31_536_000;
 
-/// The version of the program, as `--version` prints it.
-const VERSION: &str = "0.7.0";
-
 /// From how many replicas one pulls at most.
 const MOST_PEERS: usize = 16;
 
@@ -61,7 +58,7 @@ fn settings_of<'a, 'p>(
         listen: listen_of(call)?,
         health: health_of(call)?,
         page_limits: page_limits_of(call)?,
-        version: VERSION,
+        version: first_line(VERSION),
         peers,
         every: Duration::from_secs(every_of(given(call, OptionName::Every))?),
         most_bytes: manner.most_bytes,
@@ -144,4 +141,12 @@ fn peers_of(alloc: Global, text: Option<&str>) -> Result<Vec<SocketAddr>, Exit> 
         }
     }
     Ok(peers)
+}
+
+// The first line of the text, without its end.
+fn first_line(text: &'static str) -> &'static str {
+    match text.split_once('\n') {
+        Some((line, _)) => line,
+        None => text,
+    }
 }

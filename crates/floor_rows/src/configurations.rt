@@ -1,11 +1,11 @@
 //! Configurations, and what they answer.
 use crate::words::tell;
-use fed_config::{Config, Relationship, Seed};
+use fed_config::{Config, Floor, Relationship, Seed};
 use row_script::Answers;
 use spiffe_name::TrustDomain;
 use std::alloc::{AllocError, Global};
 
-// The most relationships that are shown, and the most seeds.
+// The most relationships that are shown, the most seeds, and the most floors.
 const MOST_TOLD: usize = 3;
 
 /// Tells the configuration that the bytes say, or why they are not one.
@@ -49,7 +49,7 @@ fn tell_counts(config: &Config, told: &mut String) -> Result<(), AllocError> {
     write!(told, "relationships {relationships}\nseeds {seeds}\n")
 }
 
-// The first relationships and the first seeds.
+// The first relationships, the first seeds and the first floors.
 fn tell_first(config: &Config, told: &mut String) -> Result<(), AllocError> {
     for relationship in config.relationships().iter().take(MOST_TOLD) {
         tell_relationship(relationship, told)?;
@@ -57,7 +57,16 @@ fn tell_first(config: &Config, told: &mut String) -> Result<(), AllocError> {
     for seed in config.seeds().iter().take(MOST_TOLD) {
         tell_seed(seed, told)?;
     }
+    for floor in config.floors().iter().take(MOST_TOLD) {
+        tell_floor(floor, told)?;
+    }
     Ok(())
+}
+
+fn tell_floor(floor: &Floor, told: &mut String) -> Result<(), AllocError> {
+    let domain = floor.domain.as_str();
+    let sequence = floor.sequence;
+    write!(told, "floor {domain} {sequence}\n")
 }
 
 fn tell_relationship(relationship: &Relationship, told: &mut String) -> Result<(), AllocError> {
@@ -116,5 +125,38 @@ fn tell_place(place: Option<usize>, answer: &mut String) -> Result<(), AllocErro
     match place {
         Some(place) => write!(answer, "domain number {place}\n"),
         None => answer.push_str("no domain of it\n"),
+    }
+}
+
+/// Tells the floor of the domain in the configuration.
+pub(crate) fn look_up_floor(
+    alloc: Global,
+    domain: &str,
+    bytes: &[u8],
+    answer: &mut String,
+) -> Result<(), AllocError> {
+    match Config::read(alloc, bytes) {
+        Ok(config) => look_up_floor_of(alloc, &config, domain, answer),
+        Err(error) => tell(&error, answer),
+    }
+}
+
+fn look_up_floor_of(
+    alloc: Global,
+    config: &Config,
+    domain: &str,
+    answer: &mut String,
+) -> Result<(), AllocError> {
+    let copy = config.try_clone(alloc)?;
+    match TrustDomain::read(alloc, domain) {
+        Ok(domain) => tell_sequence(copy.floor(&domain), answer),
+        Err(error) => tell(&error, answer),
+    }
+}
+
+fn tell_sequence(floor: Option<u64>, answer: &mut String) -> Result<(), AllocError> {
+    match floor {
+        Some(sequence) => write!(answer, "floor {sequence}\n"),
+        None => answer.push_str("no floor\n"),
     }
 }

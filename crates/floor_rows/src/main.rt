@@ -53,6 +53,7 @@ fn call_with_bytes(
         "has_key" => documents::has_key(alloc, row.words, text, answer),
         "config" => configurations::read(alloc, text, answer),
         "relationship" => configurations::look_up(alloc, row.words, text, answer),
+        "floor" => configurations::look_up_floor(alloc, row.words, text, answer),
         "flaw" => found_flaws::find(alloc, text, answer),
         "json" => found_flaws::place(alloc, text, answer),
         "ignored" => found_flaws::ignored(alloc, text, answer),

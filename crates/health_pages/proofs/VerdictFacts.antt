@@ -15,14 +15,14 @@ use Rattle.health_pages.specs.Heads.{asked_of, head_end, head_limit, is_head, re
 
 -- ---- the place at which a head ends
 
--- what stands within the bytes stands there with more after them
+-- what is in the bytes is there with more after them
 occurs_more : (bytes more : List ℕ) (k : ℕ) → OccursAt bytes head_end k → OccursAt (bytes ++ more) head_end k
 occurs_more bytes more k at = record {
   fits = omega (arith, at.fits, length-append bytes more);
   reads = λ j low. get_or-append bytes more 0 (k + j) (omega (arith, at.fits, low)) ∙ at.reads j low;
 }
 
--- and where that reaches no further than the bytes, the other way round
+-- and if that reaches no further than the bytes, the other way round
 occurs_less : (bytes more : List ℕ) (k : ℕ) → k + 4 ≤ length bytes → OccursAt (bytes ++ more) head_end k → OccursAt bytes head_end k
 occurs_less bytes more k fits at = record {
   fits = fits;
@@ -134,7 +134,7 @@ joined_pieces bytes first second short =
     ap (λ k. with_piece bytes first ++ take k second) (room_left bytes first short)
     ∙ append_assoc bytes (take n first) (take (n - length first) second) ∙ ap (λ t. bytes ++ t) (take_parts n first second)
 
--- what is full stays as it is
+-- what is full does not change
 full : (bytes piece : List ℕ) → length bytes ≡ head_limit → with_piece bytes piece ≡ bytes
 full bytes piece long =
     let none : head_limit - length bytes ≡ 0 = omega (arith, long) in

@@ -48,7 +48,8 @@ abbrev pub is_bodiless : List ℕ × List ℕ → Bool
 is_bodiless field = not (has_field_name (codes "transfer-encoding") field.0)
     && (not (has_field_name (codes "content-length") field.0) || bytes_eq field.1 (codes "0"))
 
--- as many fields `Host` as the version wants: one, or with HTTP/1.0 at most one (section 3.2)
+-- the number of `Host` fields is right for the version: one, or with HTTP/1.0 at most one (section
+-- 3.2)
 abbrev pub is_hosted : ℕ → ℕ → Bool
 is_hosted minor count = if minor == 1 then count == 1 else nat_le count 1
 
@@ -64,7 +65,7 @@ asked_with None fine = Err NoPage
 asked_with (Some asked) true = Ok asked
 asked_with (Some asked) false = Err BadFields
 
--- what a head with this method and target asks for: of several causes of a refusal the first one
+-- what a head with this method and target asks for, or the first of the causes of a refusal
 abbrev pub asked_by : (method target : List ℕ) → (fine : Bool)
     → Result (Page × Option (List ℕ)) PageFault
 asked_by method target fine = if is_get method || is_head method
@@ -84,7 +85,7 @@ pub record IsHead (bytes : List ℕ) (h : RequestHead) : Type 0 where
   pub reads : ReadsRequest bytes h []
   pub few : length h.fields ≤ field_limit
 
--- the bytes are no such head
+-- the bytes are not such a head
 abbrev pub IsNoHead : List ℕ → Type 0
 IsNoHead bytes = (h : RequestHead) → IsHead bytes h → ⊥
 

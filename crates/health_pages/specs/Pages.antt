@@ -43,7 +43,7 @@ is_name bytes = list_all is_name_byte bytes
 abbrev pub domain_prefix : List ℕ
 domain_prefix = codes "/graph.dot?domain="
 
--- the graph of the domain that the bytes are, where they are a name
+-- the graph of the domain that the bytes are, if they are a name
 abbrev pub graph_of : List ℕ → Option (Page × Option (List ℕ))
 graph_of name = if is_name name then Some (Graph, Some name) else None
 

@@ -65,7 +65,7 @@ abbrev pub further_lines : ResponseStatus → ContentType → List ℕ
 further_lines status content = fixed_lines
     ++ (allow_line status ++ (policy_line content ++ codes "\r\n"))
 
--- the head of a response whose body has so many bytes
+-- the head of a response whose body has this many bytes
 abbrev pub response_head : ResponseStatus → ContentType → ℕ → List ℕ
 response_head status content count = status_line status
     ++ (length_line count ++ (content_line content ++ further_lines status content))

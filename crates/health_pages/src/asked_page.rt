@@ -17,7 +17,7 @@ pub enum Page {
     Metrics,
     /// Whether the replica runs.
     Live,
-    /// Whether it is heard by a peer, where it has some.
+    /// Whether a peer hears it, if it has peers.
     Ready,
     Status,
     Report,
@@ -65,7 +65,7 @@ impl Page {
 #[derive(Clone, Copy, Debug)]
 pub struct AskedPage<'a> {
     pub page: Page,
-    /// The trust domain of the graph, where one is named: lower-case letters, digits, dots, hyphens
+    /// The trust domain of the graph, if one is named: lower-case letters, digits, dots, hyphens
     /// and underscores, at least one.
     pub domain: Option<&'a str>,
 }
@@ -79,9 +79,9 @@ pub enum PageFault {
     BadHead,
     /// The method is neither GET nor HEAD.
     BadMethod,
-    /// The target is none of the pages.
+    /// The target is not one of the pages.
     NoPage,
-    /// A body is announced, or there is not the one field `Host` that has to be.
+    /// A body is announced, or the number of `Host` fields is wrong.
     BadFields,
 }
 

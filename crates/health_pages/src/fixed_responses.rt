@@ -4,7 +4,7 @@ ghost use Rattle.health_pages.specs.Responses.{response_text};
 ghost use Rattle.health_pages.specs.declared.response.ContentType.TheVariants.{Text};
 ghost use Rattle.health_pages.specs.declared.response.ResponseStatus.TheVariants.{Unavailable};
 
-/// What is replied where memory ran out.
+/// The reply if memory ran out.
 pub fn memory_response<'a>(is_head: bool) -> &'a [u8]
     ensures { result.now ≡ response_text Unavailable Text (codes "out of memory\n") is_head }
 {
@@ -20,7 +20,7 @@ pub fn memory_response<'a>(is_head: bool) -> &'a [u8]
     }
 }
 
-/// What is replied where there is no room for one more request.
+/// The reply if there is no room for one more request.
 pub fn crowd_response<'a>() -> &'a [u8]
     ensures { result.now ≡ response_text Unavailable Text (codes "too many requests\n") false }
 {

@@ -1,4 +1,4 @@
-//! What came of a request's head, out of the pieces in which its bytes come.
+//! What came of a request's head, from the pieces in which its bytes come.
 ghost use Rattle.std.specs.Prelude.{◌≤◌, length};
 ghost use Rattle.health_pages.specs.Heads.{IsVerdict, head_limit};
 
@@ -13,8 +13,8 @@ const MOST_HEAD: usize = 8_192;
 /// The end of a line, and the empty line that ends a head.
 const HEAD_END: &[u8] = b"\r\n\r\n";
 
-/// The bytes that came of a request, as far as its head may reach. Where one piece ends and the
-/// next begins means nothing.
+/// The bytes of a request that came, as far as its head may reach. How they are cut into pieces
+/// means nothing.
 #[derive(Drop)]
 pub struct HeadBytes {
     bytes: Vec<u8>,

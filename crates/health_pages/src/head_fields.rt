@@ -6,7 +6,7 @@ ghost use Rattle.health_pages.specs.Heads.{are_fine, is_bodiless, is_hosted, has
 
 use httparse::spans::HeaderSpan;
 
-/// Whether the fields announce no body, and there are as many `Host` as the version wants.
+/// Whether the fields announce no body, and the number of `Host` fields is right for the version.
 pub(crate) fn are_fine(head: &[u8], minor: u8, fields: &[HeaderSpan]) -> bool
     requires { All (IsHeaderWithin (length head.now)) fields.now }
     ensures { result ≡ are_fine minor (map (header_bytes head.now) fields.now) }

@@ -1,14 +1,14 @@
-//! What follows from the definitions alone.
+//! What follows from the definitions.
 ghost use Rattle.std.specs.Prelude.{◌≡◌, ◌≤◌, ◌++◌, ℕ, List, None, Some, length};
 ghost use Rattle.health_pages.specs.Heads.{IsVerdict, head_limit, result_view, with_piece};
 ghost use Rattle.health_pages.specs.declared.head_verdict.HeadVerdict.{HeadVerdict};
 
 /// However a stream is cut into pieces, a request has one verdict.
 ///
-/// - `joined`: two pieces, one after the other, come to the same as one.
-/// - `kept`: a verdict stays, whatever comes after it.
+/// - `joined`: two pieces, one after the other, are the same as one.
+/// - `kept`: a verdict does not change, whatever comes after it.
 /// - `one`: two verdicts on the same bytes are equal: the causes of a refusal exclude each other.
-/// - `whole`: where there is a verdict, it is not that more has to come.
+/// - `whole`: bytes with a verdict are not bytes of which more have to come.
 pub fn verdicts()
     ensures joined { (bytes first second : List ℕ) → length bytes ≤ head_limit
         → with_piece (with_piece bytes first) second ≡ with_piece bytes (first ++ second) }

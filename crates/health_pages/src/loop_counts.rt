@@ -18,11 +18,11 @@ pub struct LoopCounts {
     pub pages: u64,
     /// Sessions with other replicas that ended.
     pub sessions: u64,
-    /// Connections that ended by a fault.
+    /// Connections that ended by an error.
     pub faults: u64,
     pub received_bytes: u64,
     pub sent_bytes: u64,
-    /// How often the snapshot was written anew.
+    /// How often the snapshot was written again.
     pub folds: u64,
     /// The Unix second at which it began.
     pub began: u64,

@@ -36,11 +36,11 @@ pub enum ContentType {
 #[derive(Debug, Drop)]
 pub struct PageResponse {
     pub head: Vec<u8>,
-    /// Empty where the method is HEAD.
+    /// Empty if the method is HEAD.
     pub body: Vec<u8>,
 }
 
-/// The response with this body, which is left out where the method is HEAD.
+/// The response with this body, which is left out if the method is HEAD.
 ///
 /// # Errors
 /// Memory ran out.

@@ -58,7 +58,7 @@ abbrev pub kind_member : ConflictKind → List ℕ
 kind_member Keys = codes ",\"kind\":\"keys\""
 kind_member HintOnly = codes ",\"kind\":\"hint\""
 
--- where it is, and in what the documents differ
+-- its domain and sequence number, and in what the documents differ
 unfoldable pub conflict_members : ReportedConflict → List ℕ
 conflict_members c = string_member (codes "{\"domain\":") c.domain
     ++ (number_member (codes ",\"sequence\":") (Some c.sequence) ++ kind_member c.kind)
@@ -80,7 +80,7 @@ report_lists domains conflicts records = array_member (codes ",\"domains\":") do
     ++ (array_member (codes ",\"conflicts\":") conflicts
     ++ (array_member (codes ",\"records\":") records ++ codes "}\n"))
 
--- The counts; what is accepted of each domain of the configuration, rising; the conflicts of all
+-- The counts; what is accepted of each domain of the configuration, sorted; the conflicts of all
 -- domains, and the records of distrust. An object, and a line feed.
 pub record IsReportJson (m : Meaning) (text : List ℕ) : Type 0 where
   pub pending : ℕ

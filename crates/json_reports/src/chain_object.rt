@@ -41,7 +41,7 @@ pub fn chain_json(
 }
 
 /// The id of the configured document from which the chain leads to the document: the voucher of its
-/// first receipt, and the document's own where the chain is empty.
+/// first receipt, and the document's own if the chain is empty.
 pub fn root_id(domain: &TrustDomain, document: &Document, chain: &[Receipt]) -> DocId
     ensures { result.0
         ≡ root_id (record { domain = domain.now; document = document.now }) chain.now }

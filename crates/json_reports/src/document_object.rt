@@ -17,7 +17,7 @@ use text_lines::TextLine;
 /// | Member | What it has |
 /// |---|---|
 /// | `document` | the document's id |
-/// | `sequence`, `refresh_hint` | its numbers, each `null` where it is absent |
+/// | `sequence`, `refresh_hint` | its numbers, each `null` if it is absent |
 /// | `keys` | the key id of each X.509 authority, in the order of the canonical text |
 /// | `bundle` | the canonical text, which is JSON itself |
 ///

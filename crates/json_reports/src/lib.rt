@@ -1,5 +1,5 @@
-//! What documents say and what a replica accepts, as compact JSON. It knows closures by their trait
-//! alone.
+//! What documents say and what a replica accepts, as compact JSON. It knows closures only by their
+//! trait.
 #![tactic(auto)]
 
 mod accepted_json;

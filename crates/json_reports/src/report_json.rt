@@ -25,18 +25,18 @@ use text_lines::TextLine;
 /// | `config` | the configuration's digest |
 /// | `receipts`, `pending` | how many receipts are held, and how many of these are pending |
 /// | `domains` | `domain`, `current` and `accepted` of each trust domain of the configuration,
-/// rising |
+/// sorted |
 /// | `conflicts` | `domain`, `sequence`, `kind` and `documents` of each conflict
 /// ([`bundle_view::conflicts`]); `kind` is `keys` or `hint`, and `documents` has ids |
 /// | `records` | `distrust` with the key's id, and `domain`, of each record of distrust |
 ///
-/// `current` is `null` where no document of the domain is accepted; else it has `document` with the
-/// id of the current document, and `sequence`, which is `null` where it is absent. `accepted` has
-/// the same two members for each accepted document, in their order, and `authorities` with how many
-/// it has.
+/// `current` is `null` if no document of the domain is accepted; else it has `document` with the id
+/// of the current document, and `sequence`, which is `null` if it is absent. `accepted` has the
+/// same two members for each accepted document, in their order, and `authorities` with how many it
+/// has.
 ///
-/// The text depends on the configuration, the set of receipts and the set of records of distrust
-/// alone. All memory is taken before the first byte is written.
+/// The text depends only on the configuration, the set of receipts and the set of records of
+/// distrust. All memory is taken before the first byte is written.
 ///
 /// # Errors
 /// - [`DeviceError::Io`]: the sink failed, and holds a beginning of the text.

@@ -1,6 +1,6 @@
--- Texts of JSON, as pieces that stand one after another. An object is made of members, of which
--- each has its label before it: what opens the object or parts it from the member before, its name,
--- and the colon.
+-- Texts of JSON, as pieces one after another. An object is made of members. Each has its label
+-- before it: the brace that opens the object or the comma after the member before, its name, and
+-- the colon.
 use Rattle.std.specs.Prelude.{ℕ, List, [], ◌∷◌, ◌++◌, Bool, true, false}
 use Rattle.std.specs.Prelude.{codes, decimal, Option, Some, None}
 use Rattle.hex.specs.Hex.{encode_lower}
@@ -26,8 +26,8 @@ abbrev pub comma_where : Bool → List ℕ
 comma_where true = codes ","
 comma_where false = []
 
--- the texts of the items, with a comma before each but the first; before that too where something
--- stands there
+-- the texts of the items, with a comma before each but the first; before that too if something is
+-- there before
 abbrev pub parted_texts : {A : Type 0} → (A → List ℕ) → Bool → List A → List ℕ
 parted_texts text later [] = []
 parted_texts text later (x ∷ items) =

@@ -45,7 +45,7 @@ fn push_own(out: &mut Vec<u8>, item: &TextLine) -> Result<(), AllocError>
     out.extend_from_slice(item.as_slice())
 }
 
-/// Adds a comma where something stands before.
+/// Adds a comma if something is there before.
 ///
 /// # Errors
 /// Memory ran out. Nothing is said then of what is there.

@@ -1,4 +1,4 @@
-//! Values that are no arrays and no objects.
+//! Values that are neither arrays nor objects.
 ghost use Rattle.std.specs.Prelude.{◌≡◌, ◌++◌, OnOk};
 ghost use Rattle.json.specs.Print.{quoted};
 ghost use Rattle.json_text.specs.JsonText.{digest_member, number_member, number_or_null};
@@ -9,7 +9,7 @@ use byte_lines::{push_digits, push_number};
 use serde_json::Value;
 use std::alloc::{AllocError, Global};
 
-/// Adds a string, with an escape where JSON wants one, after its label.
+/// Adds a string, with the escapes that JSON wants, after its label.
 ///
 /// # Errors
 /// Memory ran out. Nothing is said then of what is there.
@@ -53,7 +53,7 @@ fn push_quoted_digest(out: &mut Vec<u8>, digest: &[u8; 32]) -> Result<(), AllocE
     out.extend_from_slice(b"\"")
 }
 
-/// Adds a number, or `null` where there is none, after its label.
+/// Adds a number, or `null` if there is none, after its label.
 ///
 /// # Errors
 /// Memory ran out. Nothing is said then of what is there.
@@ -65,7 +65,7 @@ pub fn push_optional(out: &mut Vec<u8>, label: &[u8], number: Option<u64>) -> Re
     push_number_or_null(out, number)
 }
 
-/// Adds a number, or `null` where there is none.
+/// Adds a number, or `null` if there is none.
 ///
 /// # Errors
 /// Memory ran out. Nothing is said then of what is there.

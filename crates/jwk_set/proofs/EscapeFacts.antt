@@ -1,4 +1,4 @@
--- What stands in a JSON string as it is.
+-- What is written in a JSON string without an escape.
 use Rattle.std.proofs.Common.{◌≡◌, ℕ, suc, ◌⊎◌, ◌<◌, ◌≤◌, ◌/◌, ◌%◌, ◌*◌, ◌+◌, ◌==◌, ◌&&◌, ◌||◌, nat_le, true, List, []}
 use Rattle.std.proofs.Common.{◌∷◌, ◌++◌, slice_index, refl, ap₂, inl, inr, get_or, arith}
 use Rattle.std.specs.List.{AllPass}
@@ -13,7 +13,7 @@ use Rattle.json.proofs.Printed.Strings.{escape_byte_plain}
 use Rattle.jwk_set.specs.Forms.{IsCertificate, IsUrlText, is_url_symbol}
 use Rattle.jwk_set.specs.Json.{is_unescaped}
 
--- a byte that needs no escape stands for itself
+-- a byte that needs no escape is written as itself
 byte_itself : (b : ℕ) → is_unescaped b ≡ true → escape_byte b ≡ b ∷ []
 byte_itself b h =
     let none = or_parts _ _ (not-true _ h) in
@@ -29,7 +29,7 @@ escape_itself (b ∷ text) h =
 
 -- ---- texts in base64url
 
--- a byte that is none of those that need an escape
+-- a byte that is not one of those that need an escape
 unescaped : (b : ℕ) → 35 ≤ b → (b ≡ 92 → ⊥) → is_unescaped b ≡ true
 unescaped b low other = rw (ne_eqb b 34 (λ e. omega arith), ne_eqb b 92 other, le-ltb b 32 (omega arith))
 

@@ -77,7 +77,7 @@ abbrev join : Members → Members → Members
 join no_members ms = ms
 join (member k d found) ms = member k d (join found ms)
 
--- joined with none, the members stay as they are
+-- joined with none, the members are as they were
 join_nil : (found : Members) → join found no_members ≡ found
 join_nil no_members = refl
 join_nil (member k d found) = ap (member k d) (join_nil found)
@@ -99,7 +99,7 @@ join_one : (found : Members) (k : List ℕ) (d : Data) (ms : Members) → join (
 join_one no_members k d ms = refl
 join_one (member l e found) k d ms = ap (member l e) (join_one found k d ms)
 
--- the lists stay apart when the first name that comes is found
+-- the lists are still apart when the first name that comes is found
 Apart_one : (found : Members) (k : List ℕ) (d : Data) (ms : Members) → Apart found (member k d ms) → IsBelowNames k ms
     → Apart (join found (member k d no_members)) ms
 Apart_one no_members k d ms h below = (below, tt)
@@ -138,7 +138,7 @@ IsUtf8-comma_if : (later : Bool) → IsUtf8 (comma_if later)
 IsUtf8-comma_if true = IsUtf8-are_ascii (44 ∷ []) refl
 IsUtf8-comma_if false = IsUtf8-nil
 
--- UTF-8 stays so after an ASCII byte
+-- UTF-8 with an ASCII byte in front is UTF-8
 ascii : (x : ℕ) (xs : List ℕ) → are_ascii (x ∷ []) ≡ true → IsUtf8 xs → IsUtf8 (x ∷ xs)
 ascii x xs e h = IsUtf8-append (x ∷ []) xs (IsUtf8-are_ascii (x ∷ []) e) h
 

@@ -29,19 +29,19 @@ exponent = url_text _ (λ e. cc) refl (λ e. cc)
 pub each_symbol : IsUrlText (codes "AZaz09-_")
 each_symbol = url_text _ (λ e. cc) refl (λ e. cc)
 
--- the padding sign is no symbol
+-- the padding sign is not a symbol
 pub no_padding : is_url_symbol 61 ≡ false
 no_padding = refl
 
--- the plus sign and the slash of the other base64 alphabet are no symbols
+-- the plus sign and the slash of the other base64 alphabet are not symbols
 pub not_the_other_alphabet : (is_url_symbol 43 ≡ false) × (is_url_symbol 47 ≡ false)
 not_the_other_alphabet = (refl, refl)
 
--- five symbols leave one over and are no url text
+-- five symbols leave one over and are not a url text
 pub no_symbol_over : IsUrlText (codes "AQABA") → ⊥
 no_symbol_over h = h.whole refl
 
--- an empty text is no url text
+-- an empty text is not a url text
 pub nothing : IsUrlText (codes "") → ⊥
 nothing h = h.some refl
 
@@ -68,7 +68,7 @@ chain base64 = member (codes "x5c") (array (item (string base64) no_items)) no_m
 nil_bytes : IsBytes []
 nil_bytes i = lit< tt
 
--- bytes below 256 stay so with one more in front
+-- bytes with one more below 256 in front are below 256
 cons_bytes : (b : ℕ) (rest : List ℕ) → b < 256 → IsBytes rest → IsBytes (b ∷ rest)
 cons_bytes b rest h hs zero = h
 cons_bytes b rest h hs (suc i) = hs i
@@ -82,7 +82,7 @@ pub base64_of_abc : encode_of standard (codes "abc") ≡ codes "YWJj"
 unfolding base64_on_literals
 base64_of_abc = refl
 
--- an RSA key with a certificate, beside a member that counts for nothing
+-- an RSA key with a certificate, and a member that counts for nothing
 abbrev rsa_element : Data
 rsa_element =
     element ((codes "kty", codes "RSA") ∷ (codes "alg", codes "RS256") ∷ (codes "n", codes "AQAB") ∷

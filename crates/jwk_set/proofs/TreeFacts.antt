@@ -20,7 +20,7 @@ IsElement-tree_of (Jwt kid (Ec crv x y)) h = (refl, (refl, refl, refl, refl), re
 
 -- ---- its text
 
--- the parts that are written, where the texts between quotation marks need no escape
+-- the parts that are written, if the texts between quotation marks need no escape
 rsa_parts : (n e der : List ℕ) → escape n ≡ n → escape e ≡ e → escape (encode_of standard der) ≡ encode_of standard der
     → x509_rsa_text n e der ≡ element_text (X509 (Rsa n e) der)
 unfolding escape_byte

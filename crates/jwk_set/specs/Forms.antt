@@ -5,7 +5,7 @@ use Rattle.std.specs.List.{AllPass}
 use Rattle.std.specs.Str.{IsUtf8}
 use Rattle.base64.specs.GeneralPurpose.{IsBytes}
 
--- what was found has the property, and where nothing was found nothing has it
+-- what was found has the property, and if nothing was found nothing has it
 abbrev pub FindsMember : {X : Type 0} → Option X → (X → Type 0) → Type 0
 FindsMember None P = (x : _) → P x → ⊥
 FindsMember (Some x) P = P x

@@ -23,8 +23,8 @@ abbrev pub IsBelowNames : List ℕ → Members → Type 0
 IsBelowNames name no_members = ⊤
 IsBelowNames name (member other d ms) = (slice_cmp nat_cmp name other ≡ Less) × IsBelowNames name ms
 
--- A value whose compact text stands for nothing else: its numbers are unsigned and whole, its texts
--- are UTF-8, and the names of each object rise.
+-- A value whose compact text means nothing else: its numbers are unsigned and whole, its texts are
+-- UTF-8, and the names of each object are strictly sorted.
 abbrev mutual
   pub IsPlain : Data → Type 0
   IsPlain null = ⊤
@@ -43,7 +43,7 @@ abbrev mutual
   HasPlainMembers (member name d ms) = IsUtf8 name × IsPlain d × IsBelowNames name ms
       × HasPlainMembers ms
 
--- a byte that stands for itself in a string (RFC 8259, section 7): no quotation mark, no backslash,
--- no control
+-- a byte that a string has without an escape (RFC 8259, section 7): no quotation mark, no
+-- backslash, no control
 abbrev pub is_unescaped : ℕ → Bool
 is_unescaped b = not ((b == 34) || (b == 92) || nat_lt b 32)

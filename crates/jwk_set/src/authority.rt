@@ -56,7 +56,7 @@ impl PublicKey {
     /// A key that is equal to this one. Both share their texts, so it takes no memory.
     ///
     /// # Errors
-    /// As many keys share the texts as can be counted, which no memory can hold.
+    /// Too many keys share the texts to count one more, and no memory can hold that many.
     pub fn try_clone(&self) -> Result<PublicKey, AllocError>
         ensures { IfOk result (λ key. key ≡ self.now) }
     {
@@ -76,8 +76,8 @@ impl PublicKey {
 
 impl Authority {
     /// The element that says just this authority: `use`, `kty`, the members of its key, and `x5c`
-    /// or `kid`. No other member stands in it, and what [`read_element`](crate::read_element) reads
-    /// from it is this authority.
+    /// or `kid`. It has no other member, and what [`read_element`](crate::read_element) reads from
+    /// it is this authority.
     ///
     /// # Errors
     /// Memory ran out.
@@ -98,8 +98,8 @@ impl Authority {
         write_text(alloc, self)
     }
 
-    /// The id of the key with which an endpoint can be authenticated, so the one of an X.509
-    /// authority. A JWT authority has none.
+    /// The id of an X.509 authority's key, with which an endpoint can be authenticated. A JWT
+    /// authority has none.
     pub fn key_id(&self) -> Option<KeyId>
         ensures { result ≡ key_id_of self.now }
     {
@@ -113,7 +113,7 @@ impl Authority {
     /// takes no memory.
     ///
     /// # Errors
-    /// As many authorities share these as can be counted, which no memory can hold.
+    /// Too many authorities share these to count one more, and no memory can hold that many.
     pub fn try_clone(&self) -> Result<Authority, AllocError>
         ensures { IfOk result (λ authority. authority ≡ self.now) }
     {

@@ -1,4 +1,4 @@
-//! Reading an element of `keys`: the authority that it says, where it says one.
+//! Reading an element of `keys`: the authority that it says, if it says one.
 ghost use Rattle.std.specs.Prelude.{◌≡◌, ◌↔◌, IsTrue, IfOk, MatchResult, Some, [], ◌∷◌, codes};
 ghost use Rattle.std.specs.Prelude.{option_map};
 ghost use Rattle.serde_json.specs.Data.{array, item, string, no_items};
@@ -19,11 +19,11 @@ use std::alloc::{AllocError, Global};
 /// certificate is the one text in the array `x5c`, in padded base64. With `jwt-svid` it says a JWT
 /// authority, named by `kid`. In both roles `kty` decides which members are the public key: `n` and
 /// `e` with `RSA`, or `crv`, `x` and `y` with `EC`. Each of these is a text in its form:
-/// [`UrlText`], [`NonEmptyText`] or [`Certificate`]. What else stands in the element is not looked
-/// at, so a `kid` in the first role, or an `x5c` in the second, changes nothing.
+/// [`UrlText`], [`NonEmptyText`] or [`Certificate`]. The other members of the element are not
+/// looked at, so a `kid` in the first role, or an `x5c` in the second, changes nothing.
 ///
-/// Where one of these is missing or malformed, or the value is no object at all, the element says
-/// no authority. That is no fault: the answer is `None`, and the caller goes on to the next
+/// If one of these is missing or malformed, or the value is not an object at all, the element says
+/// no authority. That is not an error: the answer is `None`, and the caller goes on to the next
 /// element.
 ///
 /// # Errors

@@ -18,9 +18,9 @@ use std::marker::Model;
 use std::sync::Arc;
 
 /// A text in the form of base64url without padding, as `n`, `e`, `x` and `y` are written (RFC 7518,
-/// sections 6.2.1 and 6.3.1; RFC 4648, section 5): some letters, digits, hyphens and low lines, in
-/// such a number that no symbol is left over after the groups of four. It is kept as it was
-/// written, and nothing is decoded, so texts are equal exactly when their bytes are.
+/// sections 6.2.1 and 6.3.1; RFC 4648, section 5): some letters, digits, hyphens and low lines,
+/// whose number is not one more than a multiple of four. It is kept as it was written, and nothing
+/// is decoded, so texts are equal exactly when their bytes are.
 #[derive(Debug, Drop)]
 pub struct UrlText {
     text: KeptText,
@@ -35,7 +35,7 @@ impl Model for UrlText {
 }
 
 impl UrlText {
-    /// The text, where it has the form of this type, and else `None`.
+    /// The text, if it has the form of this type, and else `None`.
     ///
     /// # Errors
     /// Memory ran out.
@@ -61,7 +61,7 @@ impl UrlText {
     /// A text that is equal to this one. Both share their bytes, so it takes no memory.
     ///
     /// # Errors
-    /// As many texts share the bytes as can be counted, which no memory can hold.
+    /// Too many texts share the bytes to count one more, and no memory can hold that many.
     pub fn try_clone(&self) -> Result<UrlText, AllocError>
         ensures { IfOk result (λ t. t ≡ self.now) }
     {
@@ -101,7 +101,7 @@ impl Model for NonEmptyText {
 }
 
 impl NonEmptyText {
-    /// The text, where it is not empty, and else `None`.
+    /// The text, if it is not empty, and else `None`.
     ///
     /// # Errors
     /// Memory ran out.
@@ -127,7 +127,7 @@ impl NonEmptyText {
     /// A text that is equal to this one. Both share their bytes, so it takes no memory.
     ///
     /// # Errors
-    /// As many texts share the bytes as can be counted, which no memory can hold.
+    /// Too many texts share the bytes to count one more, and no memory can hold that many.
     pub fn try_clone(&self) -> Result<NonEmptyText, AllocError>
         ensures { IfOk result (λ t. t ≡ self.now) }
     {
@@ -167,8 +167,8 @@ impl Model for Certificate {
 }
 
 impl Certificate {
-    /// The certificate that the text is the base64 of (RFC 4648, section 4), and `None` where it is
-    /// none: padding stands where it is due, the unused bits are zero, and at least one byte is
+    /// The certificate that the text is the base64 of (RFC 4648, section 4), or else `None`. In
+    /// such a text padding is where it is due, the unused bits are zero, and at least one byte is
     /// encoded.
     ///
     /// # Errors
@@ -218,7 +218,7 @@ impl Certificate {
     /// A certificate that is equal to this one. Both share their bytes, so it takes no memory.
     ///
     /// # Errors
-    /// As many certificates share the bytes as can be counted, which no memory can hold.
+    /// Too many certificates share the bytes to count one more, and no memory can hold that many.
     pub fn try_clone(&self) -> Result<Certificate, AllocError>
         ensures { IfOk result (λ t. t ≡ self.now) }
     {
@@ -248,7 +248,7 @@ fn is_url_text(text: &[u8]) -> bool
     !text.is_empty() && text.len() % 4 != 1 && are_url_symbols(text)
 }
 
-// Each byte is tested, also after one that is no symbol: so the processor tests many at once.
+// Each byte is tested, also after one that is not a symbol: so the processor tests many together.
 fn are_url_symbols(text: &[u8]) -> bool
     ensures { IsTrue result ↔ AllPass url_symbol text.now }
 {

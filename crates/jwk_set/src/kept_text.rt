@@ -36,7 +36,7 @@ impl KeptText {
     /// The same text once more, which takes no memory.
     ///
     /// # Errors
-    /// As many values share the text as can be counted, which no memory can hold.
+    /// Too many values share the text to count one more, and no memory can hold that many.
     pub(crate) fn shared(&self) -> Result<KeptText, AllocError>
         ensures { IfOk result (λ kept. bytes_of kept ≡ bytes_of self.now) }
     {

@@ -1,4 +1,4 @@
-//! What follows from the definitions alone, for the crates above.
+//! What follows from the definitions, for the crates above.
 ghost use Rattle.std.specs.Prelude.{◌≡◌, ◌≤◌, ℕ, List, false};
 ghost use Rattle.std.specs.List.{AllPass};
 ghost use Rattle.json.specs.Print.{escape};
@@ -27,8 +27,8 @@ pub fn compact_texts()
     ensures no_float { (value : Data) → IsPlain value → has_float value ≡ false }
 {}
 
-/// A text with no quotation mark, no backslash and no control character stands in a JSON string as
-/// it is.
+/// A text with no quotation mark, no backslash and no control character is written in a JSON string
+/// without an escape.
 pub fn plain_texts()
     ensures { (text : List ℕ) → AllPass is_unescaped text → escape text ≡ text }
 {}

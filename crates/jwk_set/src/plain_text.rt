@@ -1,14 +1,14 @@
-//! Texts that stand in a JSON string as they are.
+//! Texts that are written in a JSON string without an escape.
 ghost use Rattle.std.specs.Prelude.{◌≡◌, ◌↔◌, IsTrue};
 ghost use Rattle.std.specs.List.{AllPass};
 ghost use Rattle.jwk_set.specs.Json.{is_unescaped};
 
-/// Whether the text stands in a JSON string as it is (RFC 8259, section 7): it has no quotation
-/// mark, no backslash and no control character.
+/// Whether the text is written in a JSON string without an escape (RFC 8259, section 7): it has no
+/// quotation mark, no backslash and no control character.
 pub fn is_plain(text: &[u8]) -> bool
     ensures { IsTrue result ↔ AllPass is_unescaped text.now }
 {
-    // Each byte is tested, also after one that fails: so the processor tests many at once.
+    // Each byte is tested, also after one that fails: so the processor tests many together.
     let mut passed = true;
     for byte in text {
         passed &= is_plain_byte(*byte);
@@ -16,7 +16,7 @@ pub fn is_plain(text: &[u8]) -> bool
     passed
 }
 
-/// Whether the byte stands in a JSON string as it is (RFC 8259, section 7).
+/// Whether the byte is written in a JSON string without an escape (RFC 8259, section 7).
 pub fn is_plain_byte(byte: u8) -> bool
     ensures { result ≡ is_unescaped byte }
 {

@@ -1,5 +1,5 @@
 //! The text of an authority's element, member by member in the order of their names: the texts of
-//! its members, and between them what each element of its kind has.
+//! its members, and between them what all elements of its kind have.
 ghost use Rattle.std.specs.Prelude.{◌≡◌, ◌++◌, IfOk, OnOk, string_bytes};
 ghost use Rattle.json.specs.Print.{quoted};
 ghost use Rattle.jwk_set.specs.Element.{element_text};
@@ -12,7 +12,7 @@ use crate::plain_text::is_plain;
 use serde_json::Value;
 use std::alloc::{AllocError, Global};
 
-/// What an element has beside the texts of its members, or a little more.
+/// How many bytes an element has without the texts of its members, or a few more.
 const FIXED_BYTES: usize = 80;
 
 pub(crate) fn write_text(alloc: Global, authority: &Authority) -> Result<String, AllocError>
@@ -23,7 +23,7 @@ pub(crate) fn write_text(alloc: Global, authority: &Authority) -> Result<String,
     Ok(out)
 }
 
-/// About how long the text is, so that it grows once: less only by what is escaped in it.
+/// About how long the text is, to make room once: the text is longer only by its escapes.
 fn length_of(authority: &Authority) -> usize {
     let role = match authority {
         Authority::X509 { der, .. } => der.as_bytes().len() / 3 * 4,

@@ -1,4 +1,4 @@
--- What work over the domains of a configuration comes to.
+-- What work over the domains of a configuration results in.
 use Rattle.std.proofs.Common.{◌≡◌, ℕ, List, [], ◌∷◌, ◌++◌, map, sym, ap, ◌∙◌, subst, arith, inl, inr}
 use Rattle.std.specs.Prelude.{Contains}
 use Rattle.std.proofs.lemmas.List.{map-append}
@@ -9,7 +9,7 @@ use Rattle.key_view.specs.declared.key_listing.DomainKeys.{DomainKeys}
 use Rattle.key_view.specs.KeyEntries.{AreAllKeys, IsDomainKeys}
 use Rattle.key_view.specs.Inside.KeysSoFar.{AreKeysOf}
 
--- before the first domain there are none
+-- before the first domain there are no keys
 pub keys_none : (m : Meaning) (new : List DomainKeys) → new ≡ [] → AreKeysOf m [] new
 keys_none m new empty = record {
   domains_are = ap (map (λ (k : DomainKeys). k.domain)) empty;

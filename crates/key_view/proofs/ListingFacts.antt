@@ -118,7 +118,7 @@ listed_all id number authorities k old new high so = subst (λ xs. AddsListed id
 
 -- ---- the documents
 
--- so many documents were looked at
+-- this many documents were looked at
 pub record AreListed (domain : List ℕ) (accepted : List Bundle) (k : ℕ) (listings : BTreeMap KeyId Listing) : Type 0 where
   pub are : AreListings domain (take k accepted) listings
   pub before : ListsBefore (k + 1) listings

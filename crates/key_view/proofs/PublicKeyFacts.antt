@@ -59,7 +59,7 @@ trusted_more e old is = record {
   same = λ wanted. of_trusted e.is_distrusted (has_digest old wanted) (is_one_public_key e.parts wanted) is;
 }
 
--- before the first key there are none
+-- before the first key there are no public keys
 pub public_keys_none : (new : BTreeSet (List ℕ)) → new.keys ≡ [] → HasPublicKeys [] new
 public_keys_none new empty = record {
   same = λ wanted. ap (λ ks. list_any (is_at (slice_cmp nat_cmp wanted)) ks) empty;

@@ -81,7 +81,7 @@ pub record IsDomainKeys (m : Meaning) (k : DomainKeys) : Type 0 where
       (IsKeyEntry (record { domain = k.domain; accepted = accepted; records = m.records }))
       (known_keys m.held k.domain accepted) k.keys.items
 
--- all domains of the configuration, rising
+-- all domains of the configuration, sorted
 pub record AreAllKeys (m : Meaning) (all : List DomainKeys) : Type 0 where
   pub domains : AreDomains m.config (map (λ k. k.domain) all)
   pub each : (k : DomainKeys) → Contains all k → IsDomainKeys m k

@@ -15,7 +15,7 @@ use Rattle.key_view.specs.declared.keys_writer.KeysForm.{KeysForm}
 use Rattle.key_view.specs.declared.keys_writer.KeysForm.TheVariants.{Lines, Json}
 use Rattle.key_view.specs.KeyEntries.{AreAllKeys, IsDomainKeys, has_distrusted_key}
 
--- ---- words
+-- ---- parts of lines and objects
 
 -- a text after its label
 unfoldable pub labelled : List ℕ → List ℕ → List ℕ
@@ -58,7 +58,7 @@ abbrev pub bundles_text : List DocId → List ℕ
 bundles_text [] = codes " bundles none"
 bundles_text (id ∷ others) = labelled (codes " bundles") [] ++ bundle_words (id ∷ others)
 
--- a subject as it is, which is no word here: it has a `=` if it is not empty
+-- a subject as it is, which is not `none` or `empty`: it has a `=` if it is not empty
 abbrev pub subject_words : Option (List ℕ) → List ℕ
 subject_words None = codes "none"
 subject_words (Some []) = codes "empty"

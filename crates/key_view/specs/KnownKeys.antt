@@ -20,7 +20,7 @@ knows known key = list_any (λ own. is_one_key own.key key) known
 abbrev pub id_of_der : List ℕ → KeyId
 id_of_der der = record { 0 = sha256 der }
 
--- a certificate's key is added where it is not known yet
+-- a certificate's key is added if it is not known yet
 abbrev pub with_der : List KnownKey → List ℕ → List KnownKey
 with_der known der = cond (knows known (id_of_der der)) known
     (known ++ record { key = id_of_der der; der = der } ∷ [])
@@ -40,7 +40,7 @@ with_documents known (d ∷ others) = with_documents (with_authorities known d.a
 abbrev pub keys_of_documents : List Bundle → List KnownKey
 keys_of_documents documents = with_documents [] documents
 
--- a receipt's document counts where it is one of the domain
+-- a receipt's document counts if it is one of the domain
 abbrev pub with_keys_of_receipt : List ℕ → List KnownKey → Receipt → List KnownKey
 with_keys_of_receipt domain known r =
     cond (bytes_eq r.domain domain) (with_authorities known r.document.authorities) known
@@ -50,6 +50,6 @@ with_keys_of_receipts domain known [] = known
 with_keys_of_receipts domain known (r ∷ others) = with_keys_of_receipts domain
     (with_keys_of_receipt domain known r) others
 
--- of the held receipts, the domain and its accepted documents
+-- the known keys, by the held receipts, the domain and its accepted documents
 abbrev pub known_keys : List Receipt → List ℕ → List Bundle → List KnownKey
 known_keys held domain accepted = with_keys_of_receipts domain (keys_of_documents accepted) held

@@ -13,7 +13,7 @@ use Rattle.key_view.specs.KeyEntries.{IsDomainKeys, has_distrusted_key, is_one_p
 abbrev pub has_record : List ℕ → List Distrust → Bool
 has_record domain records = list_any (λ r. bytes_eq r.domain domain) records
 
--- of some of a domain's keys, those that have the public key of a distrusted one
+-- those of some of a domain's keys that have the public key of a distrusted one
 abbrev pub same_ids_among : List KeyEntry → List KeyEntry → List KeyId
 same_ids_among keys [] = []
 same_ids_among keys (e ∷ others) = cond (has_distrusted_key keys e)

@@ -8,7 +8,7 @@ use std::alloc::{AllocError, Global};
 use std::collections::BTreeSet;
 use std::marker::Model;
 
-/// The keys of a domain. In the public keys of those that are distrusted one is looked up.
+/// The keys of a domain. The public keys of those that are distrusted are kept for look-ups.
 #[derive(Drop)]
 pub(crate) struct DomainEntries<'a> {
     entries: &'a [KeyEntry],
@@ -40,8 +40,8 @@ impl<'a> DomainEntries<'a> {
         })
     }
 
-    /// Whether the entry is a key that is in an accepted document and is not distrusted, though
-    /// its certificate has the public key of one of these that is.
+    /// Whether the entry is a key that is in an accepted document and is not distrusted, though its
+    /// certificate has the public key of a distrusted one.
     pub(crate) fn has_distrusted_key(&self, entry: &KeyEntry) -> bool
         ensures { result ≡ has_distrusted_key self.now entry.now }
     {

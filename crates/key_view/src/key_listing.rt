@@ -40,7 +40,7 @@ pub struct DomainKeys {
     pub keys: Vec<KeyEntry>,
 }
 
-/// The keys of X.509 authorities of each domain of the configuration, rising by domain: those that
+/// The keys of X.509 authorities of each domain of the configuration, sorted by domain: those that
 /// its accepted documents list and then those of the documents of held receipts, each once, in the
 /// order of the documents, of the receipts' lines and of the authorities.
 ///

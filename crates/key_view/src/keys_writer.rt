@@ -31,10 +31,10 @@ use text_lines::TextLine;
 pub enum KeysForm {
     /// A line for each: `key <key id> domain <domain> public-key <digest> from <time> to <time>
     /// distrusted <yes or no> same-public-key <yes or no> bundles <document id>.. subject
-    /// <subject>`. The digest is the SHA-256 of the certificate's public key, a time is a date
-    /// and a time in UTC, `YYYY-MM-DDTHH:MM:SSZ`, and the subject is a text of RFC 4514
+    /// <subject>`. The digest is the SHA-256 of the certificate's public key, a time is a date and
+    /// a time in UTC, `YYYY-MM-DDTHH:MM:SSZ`, and the subject is a text of RFC 4514
     /// ([`cert_key::name_text`]); if the certificate is not read, they are `none`. The subject is
-    /// also `none` if it alone is not read, and `empty` if it is empty. A key has the same public
+    /// also `none` if only it is not read, and `empty` if it is empty. A key has the same public
     /// key if an accepted document lists it and it is not distrusted, though a distrusted key of
     /// the domain has its public key. The bundles are `none` if no accepted document lists the key.
     Lines,
@@ -42,7 +42,7 @@ pub enum KeysForm {
     /// `key`, `domain`, `public_key`, `not_before` and `not_after` in seconds since the Unix epoch,
     /// `valid_from` and `valid_until` as in a line, `subject`, which all are `null` if the
     /// certificate is not read, `distrusted`, `same_public_key` and `bundles`. The subject is also
-    /// `null` if it alone is not read.
+    /// `null` if only it is not read.
     Json,
 }
 
@@ -63,7 +63,7 @@ pub fn keys_text<C: Closure>(
     keys_in(alloc, form, chosen, all.as_slice())
 }
 
-/// A line for each accepted document of the domain and each key that it lists, where that is not
+/// A line for each accepted document of the domain and each key that it lists and that is not
 /// distrusted in the domain, though a key with its public key is: `same public key: <key id> of
 /// <domain> in <document id>`.
 ///

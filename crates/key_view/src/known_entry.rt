@@ -29,8 +29,8 @@ pub struct KeyParts {
     pub valid_from: String,
     /// Until when it is valid, in UTC.
     pub valid_until: String,
-    /// Its subject ([`cert_key::name_text`]), and `None` where that is not of the form that is
-    /// read. It is empty if the subject is.
+    /// Its subject ([`cert_key::name_text`]), and `None` if that is not of the form that is read.
+    /// It is empty if the subject is.
     pub subject: Option<String>,
 }
 
@@ -39,7 +39,7 @@ pub struct KeyParts {
 pub struct KeyEntry {
     /// The key's id.
     pub key: KeyId,
-    /// What its certificate says, and `None` where that is not of the form that is read.
+    /// What its certificate says, and `None` if that is not of the form that is read.
     pub parts: Option<KeyParts>,
     /// The ids of the domain's accepted documents that list it, in the order of the documents.
     pub bundles: Vec<DocId>,

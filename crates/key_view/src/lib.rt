@@ -1,6 +1,6 @@
 //! The keys of X.509 authorities that a replica knows, for operators: what their certificates say,
-//! which accepted documents list them, and which of them are distrusted or have the public key of
-//! a distrusted one. It knows closures by their trait alone.
+//! which accepted documents list them, and which of them are distrusted or have the public key of a
+//! distrusted one. It knows closures only by their trait.
 //!
 //! `met_keys` finds the different keys, `listings` which documents list each, and `known_entry`
 //! what is known of one; `key_listing` puts that together. `domain_entries` has the public keys of

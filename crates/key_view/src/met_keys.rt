@@ -20,7 +20,7 @@ pub(crate) struct KnownKey {
     pub(crate) der: Certificate,
 }
 
-/// The keys that were met, and their ids, in which one is looked up.
+/// The keys that were met, and their ids for look-ups.
 #[derive(Debug, Drop)]
 pub(crate) struct MetKeys {
     pub(crate) keys: Vec<KnownKey>,

@@ -1,4 +1,4 @@
--- The labels that are meant are listed by their numbers, and closed at once
+-- The labels that are meant are listed by their numbers, and closed together
 use Rattle.std.proofs.Common.{◌≡◌, ℕ, ◌+◌, ◌<◌, ◌≤◌, inl, inr, ◌⊎◌, List, [], ◌∷◌, ◌++◌}
 use Rattle.std.proofs.Common.{length, Some, arith, refl, sym, ap, ◌∙◌, subst}
 use Rattle.std.specs.Prelude.{All, Contains, slice_get, ◌↔◌}
@@ -13,7 +13,7 @@ use Rattle.label_index.specs.Labels.{AreNumbersOf, HasClosed}
 
 -- ---- the numbers of the labels that are meant, among the first ones
 
--- of the labels before the place, the listed numbers are those of the ones that are meant
+-- the listed numbers are those of the labels before the place that are meant
 pub record AreNumbersBelow (labels : List Label) (IsMeant : Label → Type 0) (count : ℕ)
     (numbers : List ℕ) : Type 0 where
   pub within : All (λ number. number < count) numbers
@@ -99,9 +99,9 @@ module _ (labels : List Label) (IsMeant : Label → Type 0) where
         h.exactly number label (omega (arith, within, least)) at;
   }
 
-  -- ---- they are closed at once
+  -- ---- they are closed together
 
-  -- When the listed labels are closed, exactly the ones that are meant are closed besides.
+  -- When the listed labels are closed, exactly the ones that are meant are closed in addition.
   pub closed-at-once : (numbers : List ℕ) (net : Net) → AreNumbersOf labels IsMeant numbers
       → length net.closed ≡ length labels
       → HasClosed net labels IsMeant (with_all_closed net numbers)

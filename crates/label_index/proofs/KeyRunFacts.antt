@@ -23,7 +23,7 @@ use Rattle.label_index.specs.declared.label.Label.{Label}
 use Rattle.label_index.specs.Labels.{label_cmp, cmp_to_key, IsInOrder, AreNumbersOf, IsOfKey}
 use Rattle.label_index.proofs.LabelOrderFacts.{then-first}
 
--- ---- the labels of a key stand together
+-- ---- the labels of a key are together
 
 -- the order of labels by domain and key, without the document
 abbrev by_key : Label → Label → Ordering
@@ -44,7 +44,7 @@ then-less Equal Equal c e = inr refl
 then-less Equal Greater c e = absurd (cc)
 then-less Greater b c e = absurd (cc)
 
--- A label before another stands to what is sought no later than that.
+-- A label before another compares to what is sought no greater than that.
 rises-less : (a b x : Label) → by_key a b ≡ Less → (o : Ordering) → by_key b x ≡ o
     → ordering_index (by_key a x) ≤ ordering_index o
 rises-less a b x l Less e =
@@ -90,7 +90,7 @@ key-rises labels domain key h = record {
       ];
 }
 
--- A label is in the place of the key exactly where it is one of the key.
+-- A label is in the place of the key exactly if it is one of the key.
 pub of_key-compared : (domain : ℕ) (key : KeyId) (label : Label)
     → (cmp_to_key domain key label ≡ Equal) ↔ IsOfKey domain key label
 of_key-compared domain key label = (from, to)
@@ -159,7 +159,7 @@ equal-from Greater e = absurd (cc)
 -- ---- the numbers of the labels of a key
 
 module _ (stock : ArenaView Label) (domain : ℕ) (key : KeyId) where
-  -- how the label with the number stands to those of the key
+  -- how the label with the number compares to those of the key
   abbrev stands : ℕ → Ordering
   stands number = compared_at (cmp_to_key domain key) stock.items number
 

@@ -49,7 +49,7 @@ label-exact a b e =
 
 -- ---- what is sought among labels in order
 
--- A label before another stands to what is sought no later than that.
+-- A label before another compares to what is sought no greater than that.
 index-rises : (a b x : Label) → label_cmp a b ≡ Less → (o : Ordering) → label_cmp b x ≡ o → ordering_index (label_cmp a x) ≤ ordering_index o
 index-rises a b x l Less e = let f : label_cmp a x ≡ Less = label-total.trans a b x l e in omega (arith, ap ordering_index f)
 index-rises a b x l Equal e =
@@ -81,7 +81,7 @@ rising-from_in_order labels x h = record {
 
 -- a label that is missing comes into its place
 
--- What stands after a label has that before it.
+-- What comes after a label has that before it.
 after-less : (a x : Label) → label_cmp a x ≡ Greater → label_cmp x a ≡ Less
 after-less a x e = label-total.antisymm x a ∙ ap ordering_reverse e
 
@@ -132,7 +132,7 @@ in_order-insert labels place x h m i j d l within =
           ]
     ]
 
--- each item of an arena stands in its order
+-- each item of an arena is in its order
 
 -- What was in the list still is after an option is put in front.
 Contains-cons_option_later : {A : Type 0} (o : Option A) (rest : List A) (x : A) → Contains rest x → Contains (cons_option o rest) x

@@ -13,23 +13,23 @@ use Rattle.wait_index.specs.Net.{Net, is_closed, ListsReached, with_node, with_l
 use Rattle.wait_index.specs.Net.{with_wait, with_root, has_wait, visits_of, ClosesIn, TellsFallen}
 use Rattle.label_index.specs.declared.label.Label.{Label}
 
--- labels are ordered by domain number, key id and document id, so those of a key stand together
+-- labels are ordered by domain number, key id and document id, so those of a key are together
 abbrev pub label_cmp : Label → Label → Ordering
 label_cmp a b =
     ordering_then (nat_cmp a.domain b.domain)
     (ordering_then (slice_cmp nat_cmp a.key.0 b.key.0)
     (slice_cmp nat_cmp a.document.0 b.document.0))
 
--- how a label stands to those of a key in a domain
+-- how a label compares to those of a key in a domain
 abbrev pub cmp_to_key : ℕ → KeyId → Label → Ordering
 cmp_to_key domain key label =
     ordering_then (nat_cmp label.domain domain) (slice_cmp nat_cmp label.key.0 key.0)
 
--- each stands before those after it
+-- each comes before those after it
 abbrev pub IsInOrder : List Label → Type 0
 IsInOrder labels = AllPairs (λ a b. label_cmp a b ≡ Less) labels
 
--- what each label stands for, the net, the marked nodes, what the last close did, and for how many
+-- what each label means, the net, the marked nodes, what the last close did, and for how many
 -- nodes, and for how many edges with new labels, there is room
 pub record LabelIndexView : Type 0 where
   pub labels : List Label
@@ -39,8 +39,8 @@ pub record LabelIndexView : Type 0 where
   pub nodes : ℕ
   pub edges : ℕ
 
--- for how many edges there is room, should each come with a new label, where a list of labels has
--- room for `listed`
+-- for how many edges there is room, if each comes with a new label and the list of labels has room
+-- for `listed`
 abbrev pub labelled_edges_room : ArenaView Label → Index → ℕ → ℕ
 labelled_edges_room stock index listed = min (min index.room.labels index.room.edges)
     (min stock.capacity listed - length stock.items)
@@ -64,7 +64,7 @@ pub record IsLabelIndex (stock : ArenaView Label) (index : Index) (listed : ℕ)
 
 -- ---- what one call does
 
--- Nothing but the room has changed, and that has grown or stayed.
+-- Nothing but the room may have changed, and that may have grown.
 pub record IsRoomierIndex (old new : LabelIndexView) : Type 0 where
   pub labels : new.labels ≡ old.labels
   pub net : new.net ≡ old.net
@@ -92,7 +92,7 @@ pub record HasNode (old : LabelIndexView) (new : LabelIndexView) (node : ℕ) : 
   pub nodes : old.nodes ≡ new.nodes + 1
   pub edges : new.edges ≡ old.edges
 
--- The node offers the label from now on; where that is new, it is closed as it is said.
+-- The node offers the label from now on; if that is new, it is closed as `closed` says.
 pub record Offers (old : LabelIndexView) (node : ℕ) (label : Label) (closed : Bool)
     (new : LabelIndexView) : Type 0 where
   pub number : ℕ
@@ -104,7 +104,7 @@ pub record Offers (old : LabelIndexView) (node : ℕ) (label : Label) (closed : 
   pub nodes : new.nodes ≡ old.nodes
   pub edges : old.edges ≤ new.edges + 1
 
--- The node awaits the label from now on; where that is new, it is closed as it is said.
+-- The node awaits the label from now on; if that is new, it is closed as `closed` says.
 pub record Awaits (old : LabelIndexView) (node : ℕ) (label : Label) (closed : Bool)
     (new : LabelIndexView) : Type 0 where
   pub number : ℕ
@@ -136,7 +136,7 @@ pub record AreNumbersOf (labels : List Label) (IsMeant : Label → Type 0) (numb
   pub exactly : (number : ℕ) (label : Label) → slice_get labels number ≡ Some label
       → Contains numbers number ↔ IsMeant label
 
--- The labels that are meant are closed from now on, and the others stay as they are.
+-- The labels that are meant are closed from now on, and the others are as they were.
 pub record HasClosed (net : Net) (labels : List Label) (IsMeant : Label → Type 0) (after : Net)
     : Type 0 where
   pub flags : List Bool
@@ -145,8 +145,9 @@ pub record HasClosed (net : Net) (labels : List Label) (IsMeant : Label → Type
       → (slice_index_or flags number false ≡ true) ↔ ((is_closed net number ≡ true) ⊎ IsMeant label)
   pub net_is : after ≡ record net { closed = flags }
 
--- The labels that are meant are closed from now on, all at once, with so much work: so many
--- times an edge was looked at. There are no more visits than before. The last close says what fell.
+-- The labels that are meant are closed from now on, all together, with this much work: the number
+-- of times that an edge was looked at. There are no more visits than before. The last close says
+-- what fell.
 pub record Closes (old : LabelIndexView) (IsMeant : Label
     → Type 0) (new : LabelIndexView) (count : ℕ)
     : Type 0 where

@@ -1,4 +1,4 @@
-//! A net whose labels are found by what they stand for.
+//! A net whose labels are found by what they mean.
 ghost use Rattle.std.specs.Prelude.{◌≡◌, ◌+◌, ◌-◌, ◌^◌, ◌<◌, ◌≤◌, false, [], length, vec_capacity};
 ghost use Rattle.std.specs.Prelude.{IsOk, OnOk};
 ghost use Rattle.wait_index.specs.Net.{ListsReached, has_wait, with_label};
@@ -11,8 +11,7 @@ use std::alloc::{AllocError, Global};
 use std::marker::Model;
 use wait_index::{LabelNo, NodeNo, Reach};
 
-/// An index of nodes which offer labels and await at most one, whose labels are found by what they
-/// stand for.
+/// An index of nodes which offer labels and await at most one; labels are found by what they mean.
 #[derive(Drop)]
 pub struct LabelIndex {
     labels: LabelTable,
@@ -72,7 +71,7 @@ impl LabelIndex {
         if nodes <= spare_nodes && edges <= spare_edges {
             return Ok(());
         }
-        // That the labels are fewer than 2 to the power of 32 stands on this call.
+        // This call shows that the labels are fewer than 2 to the power of 32.
         let _count = self.reach.label_count();
         self.labels.try_reserve(edges)?;
         reserve_list(&mut self.closing, self.labels.len(), edges)?;
@@ -80,7 +79,7 @@ impl LabelIndex {
         Ok(())
     }
 
-    /// Adds a node that is no root and has no edge. There is room for it.
+    /// Adds a node that is not a root and has no edge. There is room for it.
     pub fn add_node(&mut self) -> NodeNo
         requires { 0 < self.old.nodes }
         ensures node { HasNode self.old self.new result }
@@ -99,7 +98,7 @@ impl LabelIndex {
     }
 
     /// The node, which is of this index, offers the label from now on. A label that is new is
-    /// closed from the start where `closed` says so. There is room for an edge.
+    /// closed from the start if `closed` says so. There is room for an edge.
     pub fn add_offer(&mut self, node: NodeNo, label: Label, closed: bool)
         requires room { 0 < self.old.edges }
         requires node { node < length self.old.net.roots }
@@ -111,8 +110,7 @@ impl LabelIndex {
     }
 
     /// The node, which is of this index and awaited no label before, awaits the label from now on.
-    /// A label that is new is closed from the start where `closed` says so. There is room for an
-    /// edge.
+    /// A label that is new is closed from the start if `closed` says so. There is room for an edge.
     pub fn add_wait(&mut self, node: NodeNo, label: Label, closed: bool)
         requires room { 0 < self.old.edges }
         requires node { node < length self.old.net.roots }
@@ -124,7 +122,7 @@ impl LabelIndex {
         self.reach.add_wait(number, node);
     }
 
-    /// Closes the labels of a key in a domain, of whatever document, all at once, and returns how
+    /// Closes the labels of a key in a domain, of whatever document, all together, and returns how
     /// many times it looked at an edge. It takes no memory.
     pub fn close_key(&mut self, domain: u32, key: KeyId) -> usize
         ensures closes { Closes self.old (IsOfKey domain key) self.new result }
@@ -134,8 +132,8 @@ impl LabelIndex {
         self.reach.close_labels(&self.closing)
     }
 
-    /// Closes the labels that are meant, all at once, and returns how many times it looked
-    /// at an edge. It takes no memory.
+    /// Closes the labels that are meant, all together, and returns how many times it looked at an
+    /// edge. It takes no memory.
     pub fn close_where<T: LabelTest>(&mut self, test: &T) -> usize
         ensures closes { Closes self.old (T.IsMeant test.now) self.new result }
         ensures reached { ListsReached self.new.net self.new.marked }
@@ -199,7 +197,7 @@ fn newest_or_number_of(
     }
 }
 
-/// The number of the label, which is added where it is new, closed or not. There is room for it.
+/// The number of the label, which is added if it is new, closed or not. There is room for it.
 fn number_of(labels: &mut LabelTable, reach: &mut Reach, label: Label, closed: bool) -> LabelNo
     requires sizes { length reach.old.net.closed ≡ length labels.old.items }
     requires reached { ListsReached reach.old.net reach.old.marked }
@@ -222,7 +220,7 @@ fn number_of(labels: &mut LabelTable, reach: &mut Reach, label: Label, closed: b
         Ok(number) => LabelNo::new(number),
         Err(place) => {
             let number = add_label(reach, closed);
-            // That the labels are fewer than 2 to the power of 32 stands on this call.
+            // This call shows that the labels are fewer than 2 to the power of 32.
             let _count = reach.label_count();
             labels.insert(place, label);
             number

@@ -1,4 +1,4 @@
-//! What labels stand for.
+//! What labels mean.
 ghost use Rattle.std.specs.Prelude.{◌≡◌, ◌↔◌, IsTrue};
 ghost use Rattle.std.specs.Ordering.{nat_cmp, ordering_then};
 ghost use Rattle.std.specs.Cmp.Lexicographic.{slice_cmp};
@@ -70,8 +70,8 @@ fn front_of(digest: &[u8; 32]) -> u64 {
     u64::from(u32::from_be_bytes([digest[0], digest[1], digest[2], digest[3]]) >> 5)
 }
 
-// Labels of one domain are ordered by the key, and by the document where that is the same: those of
-// a key stand together.
+// Labels of one domain are ordered by the key, and by the document if that is the same: those of a
+// key are together.
 fn compare_ids(a: &Label, b: &Label) -> Ordering
     ensures { result ≡ ordering_then (slice_cmp nat_cmp a.now.key.0 b.now.key.0)
         (slice_cmp nat_cmp a.now.document.0 b.now.document.0) }

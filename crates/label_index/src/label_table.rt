@@ -1,4 +1,4 @@
-//! Labels that are found by what they stand for, and listed by their keys.
+//! Labels that are found by what they mean, and listed by their keys.
 ghost use Rattle.std.specs.Prelude.{◌≡◌, ℕ, ◌+◌, ◌^◌, ◌<◌, ◌≤◌, ◌∷◌, ◌++◌, [], length, IfSome};
 ghost use Rattle.std.specs.Prelude.{IsTrue, OnOk, Some, slice_get, vec_capacity};
 ghost use Rattle.std.specs.List.{filter};
@@ -13,9 +13,8 @@ use std::alloc::{AllocError, Global};
 use std::marker::Model;
 use wait_index::LabelNo;
 
-/// Different labels, numbered as they came, beside their order. In it the labels of a key in a
-/// domain are one run, so that no choice of keys makes a search pass over others: it looks at so
-/// many labels as halving takes.
+/// Different labels, numbered as they came, and their order. In it the labels of a key in a domain
+/// are one run, so that no choice of keys makes a search pass over others: it is a binary search.
 #[derive(Drop)]
 pub(crate) struct LabelTable {
     labels: Arena<Label>,
@@ -78,7 +77,7 @@ impl LabelTable {
         self.labels.items()
     }
 
-    /// The number of the label, or, as an error, the place in the order where it would stand.
+    /// The number of the label, or, as an error, the place in the order where it would be.
     pub(crate) fn find(&self, label: Label) -> Result<u32, usize>
         ensures { FindsNumber (λ item. label_cmp item label) self.now result }
     {
@@ -97,7 +96,7 @@ impl LabelTable {
         self.labels.insert_with_hint(at, label, hint);
     }
 
-    /// The number of the label, where it is the newest of all.
+    /// The number of the label, if it is the newest of all.
     pub(crate) fn find_newest(&self, label: Label) -> Option<u32>
         ensures { IfSome result (λ number. slice_get self.now.items number ≡ Some label) }
     {

@@ -1,5 +1,5 @@
 -- What the commands that show what is held answer over memory, and what is replied to their calls.
-use Rattle.std.proofs.Common.{◌≡◌, ◌⊎◌, inl, inr, ℕ, ℤ, Bool, List, [], ◌++◌, Option, Some, None, Ok, Err, Result, IfErr, IfOk}
+use Rattle.std.proofs.Common.{◌≡◌, ◌⊎◌, inl, inr, ℕ, ℤ, Bool, List, [], ◌++◌, length, Option, Some, None, Ok, Err, Result, IfErr, IfOk}
 use Rattle.std.proofs.Common.{true, false, refl, sym, ap, ◌∙◌, subst}
 use Rattle.receipt_core.specs.Acceptance.{Meaning}
 use Rattle.receipt_core.specs.declared.distrust.Distrust.{Distrust}
@@ -13,13 +13,11 @@ use Rattle.fedbundle.specs.Shown.{IsReportIn, RunsWriter, ShownCall, ShowsBundle
 use Rattle.fedbundle.specs.Shown.{ShowsGraph, ShowsList, ShowsPolls, ShowsReport, ShowsSight, ShowsStanding, ShowsStatus, StatusSight, exit_if_done}
 use Rattle.fedbundle.specs.Shown.{exit_if_warned, exit_if_written, polls_form, shown_said, sight_of_call, watched_by}
 use Rattle.fedbundle.specs.Migrate.{Move, RunsMigrate}
-use Rattle.fedbundle.specs.ShownCommands.{Compares, ComparesConfigsIn, ConfigCall, EndsMove, IsConfigIn, MovesTo, PrintsReseeded, PrintsWhole, RunsShown}
+use Rattle.fedbundle.specs.ShownCommands.{Compares, ComparesConfigsIn, ConfigCall, EndsMove, IsConfigIn, MovesTo, PrintsBoth, RunsShown, TwoTexts}
 use Rattle.fedbundle.specs.ShownCommands.{ShowsConfig, ShowsConfigIn, ShowsDifference, ShowsMove}
-use Rattle.fedbundle.specs.ShownCommands.{ShowsNamed, ShowsReseed, config_call, config_said, exit_if_same}
+use Rattle.fedbundle.specs.ShownCommands.{ShowsNamed, ShowsReseed, config_call, config_said, reseed_texts, exit_if_same}
 use Rattle.fed_config.specs.Configuration.{Configuration}
 use Rattle.migration.specs.declared.carrying.Choice.{Choice}
-use Rattle.reseeding.specs.declared.starting_anew.Reseeded.{Reseeded}
-use Rattle.reseeding.specs.declared.starting_anew.Reseeded.TheVariants.{NewConfig, Refusals}
 use Rattle.status_warnings.specs.declared.seen.Fetch.{Fetch}
 use Rattle.command_line.specs.declared.command_name.OptionName.TheVariants.{Polls, To, With}
 use Rattle.status_warnings.specs.WarnedStatus.{IsWarnedStatusIn}
@@ -251,21 +249,16 @@ moves_unwritten (Some path) choice m run complaints exit (inl ended) sound memor
 moves_unwritten (Some path) choice m run complaints exit (inr on) sound memory = move_unwritten _ run.sink complaints exit on.moves sound memory
 
 -- of `reseed`, on both sinks
-whole_failed : (text : List ℕ) (status : ℕ) (device : DeviceRun) (exit : Exit) → PrintsWhole text status device (Err exit) → exit ≡ Refused Io
-whole_failed text status device (Refused Io) whole = refl
-whole_failed text status device exit whole = absurd whole
-
-reseeded_failed : (outcome : Reseeded) (sink complaints : DeviceRun) (exit : Exit) → PrintsReseeded outcome sink complaints (Err exit)
-    → exit ≡ Refused Io
-reseeded_failed (NewConfig text) sink complaints exit prints = whole_failed text.items 0 sink exit prints.0
-reseeded_failed (Refusals lines) sink complaints exit prints = whole_failed lines.items 1 complaints exit prints.0
+both_failed : (texts : TwoTexts) (sink complaints : DeviceRun) (exit : Exit) → PrintsBoth texts sink complaints (Err exit) → exit ≡ Refused Io
+both_failed texts sink complaints (Refused Io) prints = refl
+both_failed texts sink complaints exit prints = absurd prints
 
 reseed_unwritten : (call : ShownCall) (sink complaints : DeviceRun) (exit : Exit) → ShowsReseed call sink complaints (Err exit)
     → (exit ≡ Refused Io → ⊥) → WritesNothing sink × WritesNothing complaints
 reseed_unwritten call sink complaints exit (inl refused) sound = (refused.0.unwritten.0, refused.1.0)
-reseed_unwritten call sink complaints exit (inr said) sound = elim said.reseeds [
+reseed_unwritten call sink complaints exit (inr said) sound = elim said.reseeds.reseeds [
   | inl lacks ↦ (lacks.unwritten.0, lacks.silent.0)
-  | inr prints ↦ absurd (sound (reseeded_failed prints.outcome sink complaints exit prints.prints))
+  | inr prints ↦ absurd (sound (both_failed (reseed_texts said.reseeds.floors (length call.meaning.held) prints.outcome) sink complaints exit prints.prints))
 ]
 
 -- of a command by its name

@@ -13,19 +13,18 @@ use Rattle.std.proofs.lemmas.Result.{IfOk-weaker}
 use Rattle.byte_lines.specs.Device.{AppendsBeginning}
 use Rattle.byte_lines.specs.declared.error.DeviceError.{DeviceError}
 use Rattle.fed_config.specs.Configuration.{Configuration, IsConfiguration, HasDomain}
-use Rattle.fed_config.specs.declared.relationship.Relationship.{Relationship}
 use Rattle.receipt_core.specs.Acceptance.{IsFitting, Meaning, IsMeaning}
 use Rattle.receipt_core.specs.Receipt.{Receipt, IsReceipt, receipt_cmp, with_receipt, distrust_cmp, with_distrust}
 use Rattle.receipt_core.specs.Sets.{AreSets, Always}
 use Rattle.receipt_core.specs.declared.distrust.Distrust.{Distrust}
 use Rattle.receipt_core.proofs.RisingFacts.{Has-from_contains, each_has}
-use Rattle.receipt_core.proofs.SearchFacts.{one_relationship}
 use Rattle.closure_core.specs.Changes.{HeldAndRoom, TakesOk, Distrusts}
-use Rattle.closure_core.specs.Refusals.{IsOfUnknownDomain, IsOfWrongEndpoint}
+use Rattle.closure_core.specs.Refusals.{IsOfUnknownDomain, IsOfWrongEndpoint, IsBelowFloor}
 use Rattle.closure_core.specs.declared.outcome.Taken.{Taken}
 use Rattle.closure_core.specs.declared.outcome.Taken.TheVariants.{New as TakenNew, Already as TakenAlready}
 use Rattle.closure_core.specs.declared.outcome.Distrusted.{Distrusted}
 use Rattle.closure_core.specs.declared.outcome.Distrusted.TheVariants.{New as DistrustedNew, Already as DistrustedAlready}
+use Rattle.closure_core.proofs.FitFacts.{fits_known, fits_right, fits_above}
 use Rattle.closure_core.proofs.RisingFacts.{with_item_longer}
 use Rattle.migration.specs.Carry.{AreLeftOut, ReportsReceipt, ReportsRecord, left_record, left_receipt, chosen_receipts}
 use Rattle.migration.specs.Carry.{AreLinesOf, CarriesOver, StopsCarrying, carry_run}
@@ -129,7 +128,7 @@ pub unknown_stays : (old new : Meaning) (r : Receipt) (before after : Option (Li
 unknown_stays old new r before after result unknown same wrote =
     IfOk-weaker result _ _ (λ n w. inr (
       record {
-        stays = λ fits. unknown fits.relationship fits.has fits.domain;
+        stays = λ fits. fits_known old.config r fits unknown;
         same = ap (λ (m : Meaning). m.held) same;
         line = left_receipt r (codes ": unknown domain\n");
         reported = inl (unknown, refl);
@@ -146,11 +145,26 @@ pub wrong_stays : (old new : Meaning) (r : Receipt) (before after : Option (List
 wrong_stays old new r before after result form wrong same wrote =
     IfOk-weaker result _ _ (λ n w. inr (
       record {
-        stays = λ fits. wrong.other (ap (λ (x : Relationship). x.endpoint)
-            (one_relationship old.config wrong.relationship fits.relationship form wrong.has fits.has (wrong.domain ∙ sym fits.domain)) ∙ fits.endpoint);
+        stays = λ fits. fits_right old.config r form fits wrong;
         same = ap (λ (m : Meaning). m.held) same;
         line = left_receipt r (codes ": wrong endpoint\n");
-        reported = inr (wrong, refl);
+        reported = inr (inl (wrong, refl));
+        written = w.1;
+      },
+      w.0,
+    )) wrote
+
+-- the same for a receipt that is below a floor
+pub low_stays : (old new : Meaning) (r : Receipt) (before after : Option (List ℕ)) (result : Result ℕ DeviceError)
+    → IsBelowFloor old.config r → new ≡ old → IfOk result (λ n. (n ≡ 1) × Appends before after (left_receipt r (codes ": below floor\n")))
+    → IfOk result (SortsItem (IsFitting old.config) (ReportsReceipt old.config) r old.held new.held (sink_run before after))
+low_stays old new r before after result low same wrote =
+    IfOk-weaker result _ _ (λ n w. inr (
+      record {
+        stays = λ fits. fits_above old.config r fits low;
+        same = ap (λ (m : Meaning). m.held) same;
+        line = left_receipt r (codes ": below floor\n");
+        reported = inr (inr (low, refl));
         written = w.1;
       },
       w.0,
@@ -168,7 +182,14 @@ pub wrong_stops : (c : Configuration) (r : Receipt) (before after : Option (List
     → (after ≡ before) ⊎ AppendsBeginning before after (left_receipt r (codes ": wrong endpoint\n"))
     → StopsAtItem (ReportsReceipt c) r (sink_run before after)
 wrong_stops c r before after wrong begun =
-    elim begun [ inl same ↦ inl same | inr some ↦ inr (left_receipt r (codes ": wrong endpoint\n"), inr (wrong, refl), some) ]
+    elim begun [ inl same ↦ inl same | inr some ↦ inr (left_receipt r (codes ": wrong endpoint\n"), inr (inl (wrong, refl)), some) ]
+
+-- the same where the document is below a floor
+pub low_stops : (c : Configuration) (r : Receipt) (before after : Option (List ℕ)) → IsBelowFloor c r
+    → (after ≡ before) ⊎ AppendsBeginning before after (left_receipt r (codes ": below floor\n"))
+    → StopsAtItem (ReportsReceipt c) r (sink_run before after)
+low_stops c r before after low begun =
+    elim begun [ inl same ↦ inl same | inr some ↦ inr (left_receipt r (codes ": below floor\n"), inr (inr (low, refl)), some) ]
 
 -- ---- lists
 

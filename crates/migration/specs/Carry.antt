@@ -10,7 +10,7 @@ use Rattle.fed_config.specs.Configuration.{Configuration, HasDomain}
 use Rattle.receipt_core.specs.declared.distrust.Distrust.{Distrust}
 use Rattle.receipt_core.specs.Receipt.{Receipt, receipt_id_of}
 use Rattle.receipt_core.specs.Acceptance.{IsFitting, Meaning, IsMeaning}
-use Rattle.closure_core.specs.Refusals.{IsOfUnknownDomain, IsOfWrongEndpoint}
+use Rattle.closure_core.specs.Refusals.{IsOfUnknownDomain, IsOfWrongEndpoint, IsBelowFloor}
 use Rattle.migration.specs.declared.carrying.Choice.{Choice}
 use Rattle.migration.specs.declared.carrying.Choice.TheVariants.{All, RecordsOnly}
 
@@ -50,6 +50,7 @@ abbrev pub ReportsReceipt : Configuration → Receipt → List ℕ → Type 0
 ReportsReceipt c r line =
     (IsOfUnknownDomain c r × (line ≡ left_receipt r (codes ": unknown domain\n")))
     ⊎ (IsOfWrongEndpoint c r × (line ≡ left_receipt r (codes ": wrong endpoint\n")))
+    ⊎ (IsBelowFloor c r × (line ≡ left_receipt r (codes ": below floor\n")))
 
 -- the configuration does not have the record's domain, and the line says so
 abbrev pub ReportsRecord : Configuration → Distrust → List ℕ → Type 0

@@ -40,9 +40,9 @@ pub struct Carried<C> {
 }
 
 /// Carries over what is held to another configuration: every record of distrust whose domain that
-/// configuration has, and, where they are chosen, every receipt that fits it. What is held stays.
-/// Of each chosen record and receipt that is left out it writes a line on `lines`, records first
-/// and each in the order in which they are held.
+/// configuration has, and, if they are chosen, every receipt that fits it. What is held does not
+/// change. For each chosen record and receipt that is left out it writes a line on `lines`, records
+/// first and each in the order in which they are held.
 ///
 /// | Line | Cause |
 /// |---|---|
@@ -52,6 +52,8 @@ pub struct Carried<C> {
 /// receipt's domain |
 /// | `left out receipt <receipt id> of <domain>: wrong endpoint` | the relationship has another
 /// endpoint |
+/// | `left out receipt <receipt id> of <domain>: below floor` | the document is below the floor of
+/// the receipt's domain |
 ///
 /// What is carried over is never too much, since all of it was held.
 ///
@@ -256,6 +258,7 @@ fn carry_receipt<C: Closure, E: Sink>(
     match refused.why {
         TakeError::UnknownDomain => leave_out_receipt(alloc, receipt, b": unknown domain\n", lines),
         TakeError::WrongEndpoint => leave_out_receipt(alloc, receipt, b": wrong endpoint\n", lines),
+        TakeError::BelowFloor => leave_out_receipt(alloc, receipt, b": below floor\n", lines),
         TakeError::NoMemory => Err(DeviceError::NoMemory),
         TakeError::Full | TakeError::ConfigDiffers => unreachable!(),
     }

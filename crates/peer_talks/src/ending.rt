@@ -14,13 +14,16 @@ pub enum Ending {
     TooManyBytes,
     /// It gave way to a later one.
     GaveWay,
+    /// The other side ended it at the question about sums, which it may not know: the session
+    /// continues without them, on another connection.
+    WithoutSums,
 }
 
 impl Ending {
     /// Why it failed, where it did.
     pub fn fault(self) -> Option<PeerFault> {
         match self {
-            Ending::Well => None,
+            Ending::Well | Ending::WithoutSums => None,
             Ending::Fault(why) => Some(PeerFault::Session(why)),
             Ending::TooManyBytes => Some(PeerFault::TooManyBytes),
             Ending::GaveWay => Some(PeerFault::Session(SyncError::Io)),

@@ -1,4 +1,5 @@
 //! What a replica holds, and what of it is not on the disk yet.
+use bucket_sums::KeptSums;
 use change_view::JournalledChange;
 use closure_core::Closure;
 use std::alloc::Global;
@@ -8,6 +9,9 @@ use std::alloc::Global;
 pub struct HeldState<C: Closure> {
     /// What it holds.
     pub closure: C,
+    /// The sums of that, as they were last asked for. They are those of this closure, which is
+    /// never put in the place of another one.
+    pub sums: KeptSums,
     /// The journal's lines of what its peers brought.
     pub fresh: Vec<u8>,
     /// The changes whose lines these are, in their order.
@@ -21,6 +25,7 @@ impl<C: Closure> HeldState<C> {
     pub fn new(alloc: Global, closure: C) -> HeldState<C> {
         HeldState {
             closure,
+            sums: KeptSums::new(alloc),
             fresh: Vec::new(alloc),
             pulled: Vec::new(alloc),
             has_unreported: false,

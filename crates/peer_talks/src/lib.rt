@@ -2,9 +2,10 @@
 //! come, and bytes to be written come out.
 //!
 //! In a `pull_talk` this replica asks, and in a `served_talk` another one does: both keep
-//! `unread_bytes`, and work on what the replica holds (`held_state`). `ending` is how a connection
-//! ended, and `peers` has what `status` shows of the peers. What the sessions do is said by the
-//! contracts of `replica_sync`: proved here is safety.
+//! `unread_bytes`, and work on what the replica holds (`held_state`). `session_start` is how a
+//! session begins and `ending` how a connection ended. `peers` has what `status` shows of the
+//! peers, and which of them do not know sums. What the sessions do is said by the contracts of
+//! `replica_sync` and `bucket_sums`: proved here is safety.
 #![tactic(auto)]
 
 mod ending;
@@ -12,10 +13,12 @@ mod held_state;
 mod peers;
 mod pull_talk;
 mod served_talk;
+mod session_start;
 mod unread_bytes;
 
 pub use ending::Ending;
 pub use held_state::HeldState;
-pub use peers::Peers;
+pub use peers::{DueSession, Peers, SessionEnd};
 pub use pull_talk::PullTalk;
 pub use served_talk::ServedTalk;
+pub use session_start::{PeerAnswer, SessionStart};

@@ -1,10 +1,13 @@
 //! A connection on which this replica asks another one.
 use crate::ending::Ending;
 use crate::held_state::HeldState;
+use crate::peers::DueSession;
+use crate::session_start::{PeerAnswer, SessionStart};
 use crate::unread_bytes::UnreadBytes;
+use bucket_sums::QuietPulling;
 use change_view::{HeldChange, JournalledChange, NewEntries, count_entries, last_line_digest};
 use closure_core::Closure;
-use replica_sync::{Pulling, SyncError};
+use replica_sync::SyncError;
 use std::alloc::{AllocError, Global};
 use std::net::SocketAddr;
 
@@ -16,7 +19,8 @@ pub struct PullTalk {
     peer: SocketAddr,
     // How many records came that were not held.
     records: u64,
-    pulling: Pulling,
+    pulling: QuietPulling,
+    answer: PeerAnswer,
     rest: UnreadBytes,
     // How many more bytes may come.
     bytes_left: u64,
@@ -25,18 +29,19 @@ pub struct PullTalk {
 }
 
 impl PullTalk {
+    /// The beginning of a session that is due, in which this many bytes may come.
     pub fn new<C: Closure>(
         alloc: Global,
-        closure: &C,
-        number: usize,
-        peer: SocketAddr,
+        held: &mut HeldState<C>,
+        due: DueSession,
         most_bytes: u64,
     ) -> Result<PullTalk, SyncError> {
         Ok(PullTalk {
-            number,
-            peer,
+            number: due.number,
+            peer: due.address,
             records: 0,
-            pulling: Pulling::new(alloc, closure)?,
+            pulling: begin(alloc, held, due.start)?,
+            answer: PeerAnswer::Nothing,
             rest: UnreadBytes::new(alloc),
             bytes_left: most_bytes,
             has_too_many: false,
@@ -58,6 +63,7 @@ impl PullTalk {
 
     /// Keeps bytes that came, as many as may come.
     pub fn take(&mut self, piece: &[u8]) -> Result<(), AllocError> {
+        self.answer = PeerAnswer::Came;
         let left = usize::try_from(self.bytes_left).unwrap_or(usize::MAX);
         let room = left.min(piece.len());
         self.bytes_left = self.bytes_left.saturating_sub(room as u64);
@@ -105,9 +111,32 @@ impl PullTalk {
         Ok(())
     }
 
+    /// The other side sends nothing more.
     pub fn end_input(&self) -> Result<(), Ending> {
+        if self.is_unanswered() {
+            return Err(Ending::WithoutSums);
+        }
         self.pulling.end()?;
         Ok(())
+    }
+
+    /// How the session ends if its connection fails.
+    pub fn broken(&self) -> Ending {
+        if self.is_unanswered() {
+            Ending::WithoutSums
+        } else {
+            Ending::Fault(SyncError::Io)
+        }
+    }
+
+    // Whether sums are asked for, and nothing came.
+    fn is_unanswered(&self) -> bool {
+        self.answer == PeerAnswer::Nothing && self.pulling.is_unanswered()
+    }
+
+    /// What the other side answered.
+    pub fn answer(&self) -> PeerAnswer {
+        self.answer
     }
 
     pub fn output(&self) -> &[u8] {
@@ -140,6 +169,18 @@ impl PullTalk {
     /// How many records of distrust came that were not held.
     pub fn records(&self) -> u64 {
         self.records
+    }
+}
+
+// The machine of a session that begins so.
+fn begin<C: Closure>(
+    alloc: Global,
+    held: &mut HeldState<C>,
+    start: SessionStart,
+) -> Result<QuietPulling, SyncError> {
+    match start {
+        SessionStart::Sums => QuietPulling::new(alloc, &held.closure, &mut held.sums),
+        SessionStart::Haves => QuietPulling::without_sums(alloc, &held.closure),
     }
 }
 

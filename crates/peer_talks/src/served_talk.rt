@@ -1,14 +1,15 @@
 //! A connection on which another replica asks.
 use crate::ending::Ending;
+use crate::held_state::HeldState;
 use crate::unread_bytes::UnreadBytes;
+use bucket_sums::QuietServing;
 use closure_core::Closure;
-use replica_sync::Serving;
 use std::alloc::{AllocError, Global};
 
 /// A connection on which another replica asks, and is answered.
 #[derive(Drop)]
 pub struct ServedTalk {
-    serving: Serving,
+    serving: QuietServing,
     rest: UnreadBytes,
     // Whether the other side has sent all that it will.
     has_ended: bool,
@@ -17,13 +18,13 @@ pub struct ServedTalk {
 impl ServedTalk {
     pub fn new(alloc: Global) -> ServedTalk {
         ServedTalk {
-            serving: Serving::new(alloc),
+            serving: QuietServing::new(alloc),
             rest: UnreadBytes::new(alloc),
             has_ended: false,
         }
     }
 
-    /// Whether there is room for bytes that come: an answer is written before the next have is
+    /// Whether there is room for bytes that come: an answer is written before the next question is
     /// looked at.
     pub fn wants_bytes(&self) -> bool {
         !self.has_ended && self.rest.is_empty() && self.output().is_empty()
@@ -39,9 +40,16 @@ impl ServedTalk {
         self.rest.keep(piece)
     }
 
-    /// Takes what is left of the bytes that came, up to the end of a have.
-    pub fn go_on<C: Closure>(&mut self, alloc: Global, closure: &C) -> Result<(), Ending> {
-        let used = self.serving.read(alloc, closure, self.rest.left())?;
+    /// Takes what is left of the bytes that came, up to the end of the sums or of a have.
+    pub fn go_on<C: Closure>(
+        &mut self,
+        alloc: Global,
+        held: &mut HeldState<C>,
+    ) -> Result<(), Ending> {
+        let piece = self.rest.left();
+        let used = self
+            .serving
+            .read(alloc, &held.closure, &mut held.sums, piece)?;
         self.rest.took(used);
         Ok(())
     }

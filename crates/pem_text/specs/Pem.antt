@@ -7,7 +7,7 @@ use Rattle.jwk_set.specs.declared.authority.Authority.TheVariants.{X509, Jwt}
 
 -- ---- lines of 64 symbols, and a last one with those that are left
 
--- a symbol, after a line feed where 64 symbols are before it on its line
+-- a symbol, after a line feed if 64 symbols are before it on its line
 abbrev pub break_before : ℕ → ℕ → List ℕ
 break_before column symbol = cond (column == 64) (10 ∷ symbol ∷ []) (symbol ∷ [])
 
@@ -19,7 +19,7 @@ next_column column = cond (column == 64) 1 (column + 1)
 abbrev pub last_break : ℕ → List ℕ
 last_break column = cond (column == 0) [] (10 ∷ [])
 
--- the symbols in lines, where so many are on the line already
+-- the symbols in lines, if this many are on the line already
 abbrev pub wrapped_from : ℕ → List ℕ → List ℕ
 wrapped_from column [] = last_break column
 wrapped_from column (symbol ∷ symbols) =

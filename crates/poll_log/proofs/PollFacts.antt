@@ -58,13 +58,13 @@ counted : (n : ℕ) (ok : Bool) → min 12 (cond (not ok) (1 + n) 0) ≡ (if ok 
 counted n true = refl
 counted n false = omega arith
 
--- the moment of the last poll is that of one more, where it counts, and else what it was
+-- the time of the last poll is that of one more, if it counts, and else what it was
 last_moment-more : (polls : List Poll) (p : Poll) (counts : Bool)
     → last_moment (polls ++ cond counts (p ∷ []) []) ≡ (if counts then Some p.moment else last_moment polls)
 last_moment-more polls p true = ap first_moment (reverse-append polls (p ∷ []))
 last_moment-more polls p false = ap last_moment (append-nil polls)
 
--- one more poll is the last success where it succeeded
+-- one more poll is the last success if it succeeded
 last_success-more : (polls : List Poll) (p : Poll)
     → last_moment (filter has_succeeded (polls ++ p ∷ [])) ≡ (if p.ok then Some p.moment else last_moment (filter has_succeeded polls))
 last_success-more polls p = ap last_moment (filter-append has_succeeded polls (p ∷ [])) ∙ last_moment-more (filter has_succeeded polls) p p.ok
@@ -83,7 +83,7 @@ standing_of-same polls p =
     ap (λ l. min 12 (prefix_len has_failed l)) turned ∙ counted (prefix_len has_failed (reverse qs)) p.ok in
     λ i. record { domain = p.domain; last = last i; succeeded = succeeded i; failures = failures i }
 
--- what is kept of another domain stays
+-- what is kept of another domain does not change
 standing_of-other : (polls : List Poll) (p : Poll) (domain : List ℕ) → (p.domain ≡ domain → ⊥) → standing_of (polls ++ p ∷ []) domain ≡ standing_of polls domain
 standing_of-other polls p domain differ =
     let more : polls_of domain (polls ++ p ∷ []) ≡ polls_of domain polls =
@@ -161,7 +161,7 @@ IsLog-more old new p is adds = record {
 
 -- ---- searches
 
--- what the log keeps for a domain stands at the domain's place
+-- what the log keeps for a domain is at the domain's place
 pub standing_in-at : (log : List PollStatus) (domain : List ℕ) (k : ℕ) (d : PollStatus)
     → IsStrictlySortedBy domain_cmp (polled_domains log) → slice_get (polled_domains log) k ≡ Some domain
     → standing_in log domain ≡ Some (get_or log k d)
@@ -189,7 +189,7 @@ module _ {X : Type 0} (key : X → List ℕ) where
   falls_back : (x y : List ℕ) → domain_cmp x y ≡ Less → is_lt (domain_cmp y x) ≡ false
   falls_back x y below = let above : domain_cmp y x ≡ Greater = nat_list_cmp_total.antisymm y x ∙ ap ordering_reverse below in ap is_lt above
 
-  -- items whose keys rise are sorted by their keys, as a binary search asks for
+  -- items whose keys are strictly sorted are sorted by their keys, as a binary search asks for
   sorted_by_key : (xs : List X) → IsStrictlySortedBy domain_cmp (map key xs) → IsSorted (λ a b. domain_cmp (key a) (key b)) xs
   sorted_by_key xs rising k d low below =
       let size : length (map key xs) ≡ length xs = length-map xs key in
@@ -207,7 +207,7 @@ module _ {X : Type 0} (key : X → List ℕ) where
     | inr later ↦ let found = from_map xs x later in (found.0, (contains_later z xs found.0 found.1.0, found.1.1))
   ]
 
-  -- what a binary search does not find is no key
+  -- what a binary search does not find is not a key
   not_found : (xs : List X) (x : List ℕ) (i : ℕ) → IsStrictlySortedBy domain_cmp (map key xs)
       → (IsNonDecreasingBy (λ y. ordering_index (domain_cmp (key y) x)) xs
       → IsPartitionPoint (λ y. domain_cmp (key y) x ≡ Less) (λ y. domain_cmp (key y) x ≡ Greater) xs i)
@@ -229,7 +229,7 @@ module _ {X : Type 0} (key : X → List ℕ) where
   slice_get_key (y ∷ xs) zero x below here = ap Some (here y)
   slice_get_key (y ∷ xs) (suc k) x below here = slice_get_key xs k x (omega arith) here
 
-  -- a binary search returns the place of the key, or none where no item has it
+  -- a binary search returns the place of the key, or none if no item has it
   pub place_found : (xs : List X) (x : List ℕ) (r : Result ℕ ℕ) → IsStrictlySortedBy domain_cmp (map key xs)
       → IsSearchInRange r (length xs) → IsBinarySearchResult (λ y. domain_cmp (key y) x) xs r
       → IsIn (map key xs) x (result_ok r)
@@ -285,13 +285,13 @@ IsLog-new c rs log form same is = record {
 
 -- ---- the statuses as they are held
 
--- the standing at a place in memory is the log's at that place
+-- the status at a place in memory is the log's at that place
 kept_at : (items : List held.PollStatus) (log : List PollStatus) (k : ℕ) (x : held.PollStatus) → map kept_status items ≡ log
     → x ≡ get_or items k x → k < length items → get_or log k (kept_status x) ≡ kept_status x
 kept_at items log k x log_is there within = ap (λ l. get_or l k (kept_status x)) (sym log_is)
     ∙ get_or-map kept_status items k x (kept_status x) within ∙ ap kept_status (sym there)
 
--- a standing that is replaced in memory is replaced in the log
+-- a status that is replaced in memory is replaced in the log
 pub kept-set : (items : List held.PollStatus) (log : List PollStatus) (k : ℕ) (x y : held.PollStatus) (moment : ℤ) (ok : Bool)
     → map kept_status items ≡ log → x ≡ get_or items k x → k < length log
     → kept_status y ≡ after (kept_status x) moment ok
@@ -300,7 +300,7 @@ kept-set items log k x y moment ok log_is there within changed =
     let inside : k < length items = omega (arith, ap length log_is, length-map items kept_status) in
     map-set kept_status items k y ∙ ap₂ (λ l s. set l k s) log_is (changed ∙ ap (λ s. after s moment ok) (sym (kept_at items log k x log_is there inside)))
 
--- what the log keeps for a domain is the standing in memory at the domain's place
+-- what the log keeps for a domain is the status in memory at the domain's place
 pub standing_in-held : (items : List held.PollStatus) (log : List PollStatus) (domain : List ℕ) (k : ℕ) (x : held.PollStatus)
     → map kept_status items ≡ log → IsLog log → slice_get (polled_domains log) k ≡ Some domain → x ≡ get_or items k x
     → k < length items
@@ -317,18 +317,18 @@ within_log (s ∷ log) (suc k) domain at = omega (arith, within_log log k domain
 
 -- ---- what is refused is not due
 
--- where there is no moment for the next poll, none is due
+-- if there is no time for the next poll, none is due
 not_due_after : (hint : Option ℕ) (failures : ℕ) (last : Option ℤ) (now : ℤ) (e : PollError)
     → IsNextAfter hint failures last (Err e) → IsDueAfter hint failures last now → ⊥
 not_due_after hint failures None now e refused due = cc
 not_due_after hint failures (Some last) now e refused due = refused.1 due.0
 
--- the same for a domain of which there may be no standing
+-- the same for a domain of which there may be no status
 pub not_due : (hint : Option ℕ) (s : Option PollStatus) (now : ℤ) (e : PollError) → IsNext hint s (Err e) → IsPollDue hint s now → ⊥
 not_due hint None now e refused due = due
 not_due hint (Some s) now e refused due = not_due_after hint s.failures s.last now e refused due
 
--- the domain at a place is that of the standing there
+-- the domain at a place is that of the status there
 pub slice_get-domain : (log : List PollStatus) (k : ℕ) (s : PollStatus) → k < length log → slice_get (polled_domains log) k ≡ Some (get_or log k s).domain
 slice_get-domain log k s within = slice_get-map (λ (x : PollStatus). x.domain) log k
     ∙ ap (option_map (λ (x : PollStatus). x.domain)) (slice_get-get_or log k s within)

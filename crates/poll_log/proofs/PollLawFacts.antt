@@ -63,7 +63,7 @@ said_there domains [] text later (p ∷ ps) say = (p, say.0)
 said_there domains (l ∷ front) text later [] say = absurd say
 said_there domains (l ∷ front) text later (p ∷ ps) say = said_there domains front text later ps say.1
 
--- where bytes have a log, also the line with the fault says a poll
+-- if bytes have a log, also the line with the error says a poll
 found : (domains : List (List ℕ)) (bytes : List ℕ) (log : List PollStatus) (n : ℕ) (Fault : List ℕ → Type 0)
     → (bad : FirstBad domains (lines_of bytes).whole n Fault) → IsLogOf domains bytes log
     → (p : Poll) × SaysPoll domains bad.text p
@@ -71,7 +71,7 @@ found domains bytes log n Fault bad is =
     said_there domains bad.front bad.text bad.later is.polls
     (subst (λ ls. AllZip (SaysPoll domains) ls is.polls) bad.whole is.say)
 
--- bytes that are refused, other than for memory or a fault of the source, have no log, as
+-- bytes that are refused, other than for memory or a failure of the source, have no log, as
 -- `laws::one_log` says
 pub no_log : (c : Configuration) (bytes : List ℕ) (e : PollError) (log : List PollStatus) → IsConfiguration c
     → RefusesPolls (polled c) bytes e → (e ≡ NoMemory → ⊥) → (e ≡ Io → ⊥) → IsLogOf (polled c) bytes log → ⊥

@@ -73,7 +73,7 @@ pub no_words : (domains : List (List ℕ)) (text : List ℕ) → AllPass is_no_s
 no_words domains text plain t says = has_space t.domain (outcome_text t.ok ++ (32 ∷ signed_decimal t.seconds)) (subst (AllPass is_no_space) says.is plain)
 
 module _ (domains : List (List ℕ)) (text word rest : List ℕ) (names : AreNames domains) (split : IsWord text word rest) where
-  -- a line whose first word is no polled domain says of no poll
+  -- a line whose first word is not a polled domain says of no poll
   pub no_domain : (Contains domains word → ⊥) → SaysNoPoll domains text
   no_domain lacks t says = lacks (subst (Contains domains) (told_words domains text word rest t names split says).0 says.known)
 

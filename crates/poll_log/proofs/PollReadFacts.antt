@@ -77,7 +77,7 @@ own_domains domains a b log n read = ap polled_domains read.is ∙ domains_of-lo
 
 -- ---- the first bad line
 
--- a line with a fault after lines that say polls is the first bad one
+-- a line with an error after lines that say polls is the first bad one
 bad : (domains : List (List ℕ)) (a b c : Option (List ℕ)) (log : List PollStatus) (n : ℕ) (text : List ℕ) (Fault : List ℕ
     → Type 0) → HasRead domains a b log n → HasLine b c text → Fault text
     → IfSome a (λ xs. FirstBad domains (lines_of xs).whole (n + 1) Fault)
@@ -97,7 +97,7 @@ bad domains (Some xs) (Some ys) (Some zs) log n text Fault read line fault =
       counted = omega (arith, read.lines.counted);
     }
 
--- what follows from a property of bytes holds also where a source may not tell them
+-- what follows from a property of bytes holds also if a source cannot tell them
 if_some : (a : Option (List ℕ)) (P Q : List ℕ → Type 0) → ((xs : List ℕ) → P xs → Q xs) → IfSome a P → IfSome a Q
 if_some None P Q f h = tt
 if_some (Some xs) P Q f h = f xs h
@@ -110,7 +110,7 @@ RefusesPolls-line domains a b c log n text read line nothing =
     if_some a _ _ (λ xs first. inl first)
     (bad domains a b c log n text (SaysNoPoll domains) read line (subst (λ ds. SaysNoPoll ds text) (own_domains domains a b log n read) nothing))
 
--- a line that says of a poll at no moment refuses the bytes, by its number
+-- a line that says of a poll at a time outside the range refuses the bytes, by its number
 pub RefusesPolls-moment : (domains : List (List ℕ)) (a b c : Option (List ℕ)) (log : List PollStatus) (n : ℕ)
     (text : List ℕ) → HasRead domains a b log n → HasLine b c text → SaysNoMoment (polled_domains log) text
     → IfSome a (λ xs. RefusesPolls domains xs (BadMoment (n + 1)))

@@ -55,21 +55,21 @@ one_text (negsuc m) (negsuc n) p q e =
 
 -- ---- what a call returned
 
--- where a result is no value, it is an error, and what its contract says of errors holds of that
+-- if a result is not a value, it is an error, and what its contract says of errors holds of that
 pub refused : {T E : Type 0} (r : Result T E) (P : T → Type 0) (Q : E → Type 0) → false ≡ is_ok r → MatchResult r P Q → (e : E) × Q e
 refused (Ok x) P Q none all = cc
 refused (Err e) P Q none all = (e, all)
 
--- where a result is a value, what its contract says of values holds of it
+-- if a result is a value, what its contract says of values holds of it
 pub answered : {T E : Type 0} (r : Result T E) (P : T → Type 0) (Q : E → Type 0) (x : T) → Some x ≡ result_ok r → MatchResult r P Q → P x
 answered (Ok y) P Q x some all = let same : y ≡ x = cc in subst P same all
 answered (Err e) P Q x some all = cc
 
--- a text that does not parse is no number of 64 signed bits in decimal
+-- a text that does not parse is not a number of 64 signed bits in decimal
 pub not_parsed : {E : Type 0} (z : ℤ) (bs : List ℕ) (r : Result ℤ E) → false ≡ is_ok r → ParsesSigned w64 10 bs r → FitsSigned w64 z → bs ≡ signed_decimal z → ⊥
 not_parsed z bs r none h fits is = let whole = parse-seconds z bs r fits is h in cc (ap is_ok whole)
 
--- a text that parses is no other number in decimal than what it parses to
+-- a text that parses is only the number in decimal that it parses to
 pub parsed : {E : Type 0} (z x : ℤ) (bs : List ℕ) (r : Result ℤ E) → Some x ≡ result_ok r → ParsesSigned w64 10 bs r
     → FitsSigned w64 z → bs ≡ signed_decimal z → x ≡ z
 parsed z x bs r some h fits is = let whole = ap result_ok (parse-seconds z bs r fits is h) in cc

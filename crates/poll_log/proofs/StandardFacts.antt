@@ -42,8 +42,8 @@ thirteen_failures = refl
 
 -- ---- statuses: the last poll of the domain counts, its last success, and the failures since
 
--- two failures in a row count, whatever comes before and of other domains; the last poll's moment
--- is kept, also where it is not the latest, and that of the success before it
+-- two failures in a row count, whatever comes before and of other domains; the last poll's time is
+-- kept, also if it is not the latest, and that of the success before it
 two_failures : standing_of (record { domain = codes "a"; moment = pos 9; ok = true } ∷ record {
   domain = codes "a";
   moment = pos 7;
@@ -66,7 +66,7 @@ then_ok : standing_of (record { domain = codes "a"; moment = pos 7; ok = false }
 } ∷ []) (codes "a") ≡ record { domain = codes "a"; last = Some (pos 9); succeeded = Some (pos 9); failures = 0 }
 then_ok = refl
 
--- the last success counts, also where an earlier one has a later moment
+-- the last success counts, also if an earlier one has a later time
 back_in_time : standing_of (record { domain = codes "a"; moment = pos 9; ok = true } ∷ record {
   domain = codes "a";
   moment =
@@ -75,11 +75,11 @@ back_in_time : standing_of (record { domain = codes "a"; moment = pos 9; ok = tr
 } ∷ []) (codes "a") ≡ record { domain = codes "a"; last = Some (pos 7); succeeded = Some (pos 7); failures = 0 }
 back_in_time = refl
 
--- where every poll failed there is no success
+-- if every poll failed there is no success
 only_failures : standing_of (record { domain = codes "a"; moment = pos 7; ok = false } ∷ []) (codes "a")
     ≡ record { domain = codes "a"; last = Some (pos 7); succeeded = None; failures = 1 }
 only_failures = refl
 
--- of a domain that was never polled there is no moment and no failure
+-- a domain that was never polled has no time and no failure
 never : standing_of [] (codes "a") ≡ record { domain = codes "a"; last = None; succeeded = None; failures = 0 }
 never = refl

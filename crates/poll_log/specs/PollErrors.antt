@@ -10,7 +10,7 @@ abbrev pub poll_error_of : DeviceError → PollError
 poll_error_of line.Io = Io
 poll_error_of line.NoMemory = NoMemory
 
--- the source was at fault
+-- the source failed
 abbrev pub is_poll_fault : {T : Type 0} → Result T PollError → Bool
 is_poll_fault (Ok value) = false
 is_poll_fault (Err NoRelationship) = false

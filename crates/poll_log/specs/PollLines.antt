@@ -11,7 +11,7 @@ use Rattle.poll_log.specs.declared.error.PollError.{PollError}
 use Rattle.poll_log.specs.declared.error.PollError.TheVariants.{NoMemory}
 use Rattle.poll_log.specs.declared.error.PollError.TheVariants.{BadLine, BadMoment, Io}
 
--- ---- a moment
+-- ---- a time
 
 -- the text is that of a number of seconds within 64 signed bits, in decimal: so with neither a plus
 -- nor a needless zero
@@ -21,7 +21,7 @@ ReadsSeconds text (Some n) = (text ≡ signed_decimal n) × FitsSigned w64 n
 
 -- ---- a line
 
--- a poll as it is written: its moment in seconds since the Unix epoch
+-- a poll as it is written: its time in seconds since the Unix epoch
 pub record SaidPoll : Type 0 where
   pub domain : List ℕ
   pub ok : Bool
@@ -42,7 +42,7 @@ pub record SaysLine (domains : List (List ℕ)) (text : List ℕ) (t : SaidPoll)
   pub within : FitsSigned w64 t.seconds
   pub known : Contains domains t.domain
 
--- the moment is within the range of moments
+-- the time is within the range of times
 abbrev pub HasMoment : SaidPoll → Type 0
 HasMoment t = IsTimestampNanos (nanos_of_seconds t.seconds)
 
@@ -60,7 +60,7 @@ pub record SaysPoll (domains : List (List ℕ)) (text : List ℕ) (p : Poll) : T
 abbrev pub SaysNoPoll : List (List ℕ) → List ℕ → Type 0
 SaysNoPoll domains text = (t : SaidPoll) → SaysLine domains text t → ⊥
 
--- it says of a poll at no moment that there is
+-- it says of a poll at a time outside the range
 pub record SaysNoMoment (domains : List (List ℕ)) (text : List ℕ) : Type 0 where
   pub said : SaidPoll
   pub says : SaysLine domains text said
@@ -76,7 +76,7 @@ pub record IsLogOf (domains : List (List ℕ)) (bytes : List ℕ) (log : List Po
   pub ended : (lines_of bytes).rest ≡ []
   pub is : log ≡ log_of domains polls
 
--- The line with this number, counted from 1, has the fault, and each before it says a poll.
+-- The line with this number, counted from 1, has the error, and each before it says a poll.
 pub record FirstBad (domains : List (List ℕ)) (lines : List (List ℕ)) (number : ℕ)
     (Fault : List ℕ → Type 0) : Type 0 where
   pub front : List (List ℕ)
@@ -96,7 +96,7 @@ pub record IsCut (domains : List (List ℕ)) (lines : Lines) (number : ℕ) : Ty
   pub more : lines.rest ≡ [] → ⊥
   pub counted : number ≡ length lines.whole + 1
 
--- the first fault for which the bytes give no log; that memory ran out or that the source failed
+-- the first error for which the bytes give no log; that memory ran out or that the source failed
 -- says nothing of them
 abbrev pub RefusesPolls : List (List ℕ) → List ℕ → PollError → Type 0
 RefusesPolls domains bytes (BadLine n) = FirstBad domains (lines_of bytes).whole n

@@ -20,16 +20,16 @@ abbrev pub interval_of : Option ℕ → ℕ
 interval_of None = 300
 interval_of (Some hint) = max 60 (min hint 86400)
 
--- Seconds from the last poll to the next, after so many that failed in a row: 30 after one, doubled
--- by each that follows, of which eleven count, and never more than the interval.
+-- Seconds from the last poll to the next, after this many that failed in a row: 30 after one,
+-- doubled by each of the next eleven, and never more than the interval.
 abbrev pub wait_of : Option ℕ → ℕ → ℕ
 wait_of hint zero = interval_of hint
 wait_of hint (suc more) = min (interval_of hint) (30 * 2 ^ min more 11)
 
 -- ---- polls
 
--- the bundle of a domain was asked for, at a moment in nanoseconds since the Unix epoch, and was
--- had or was not
+-- the bundle of a domain was asked for, at a time in nanoseconds since the Unix epoch, and was had
+-- or was not
 pub record Poll : Type 0 where
   pub domain : List ℕ
   pub moment : ℤ
@@ -47,7 +47,7 @@ has_succeeded p = p.ok
 abbrev pub polls_of : List ℕ → List Poll → List Poll
 polls_of domain polls = filter (is_of_domain domain) polls
 
--- the moment of the first of them, if there is any
+-- the time of the first of them, if there is any
 abbrev pub first_moment : List Poll → Option ℤ
 first_moment [] = None
 first_moment (p ∷ others) = Some p.moment
@@ -64,8 +64,8 @@ pub record PollStatus : Type 0 where
   pub succeeded : Option ℤ
   pub failures : ℕ
 
--- the moment of the last one, if there was any, that of the last one that succeeded, if any did,
--- and how many failed in a row up to the last one, counted to twelve
+-- the time of the last one, if there was any, and of the last one that succeeded, if any did, and
+-- how many failed in a row up to the last one, counted to twelve
 abbrev pub standing_of : List Poll → List ℕ → PollStatus
 standing_of polls domain = record {
   domain = domain;
@@ -98,7 +98,7 @@ abbrev pub RecordsPoll : List PollStatus → Poll → List PollStatus → Type 0
 RecordsPoll old p new = (domains : List (List ℕ)) (polls : List Poll) → old ≡ log_of domains polls
     → new ≡ log_of domains (polls ++ p ∷ [])
 
--- what `record` does: refused only where the log has no such domain, and then it is as it was
+-- what `record` does: refused only if the log has no such domain, and then it is as it was
 abbrev pub Records : List PollStatus → Poll → List PollStatus → Result (Unit {0}) PollError → Type 0
 Records old p new (Ok _) = Contains (polled_domains old) p.domain × RecordsPoll old p new
 Records old p new (Err e) = (e ≡ NoRelationship) × (Contains (polled_domains old) p.domain → ⊥)
@@ -119,7 +119,7 @@ nanos_of t = t.nanosecond
 
 -- ---- the next poll
 
--- the last moment and then the wait, in nanoseconds since the Unix epoch
+-- the last time plus the wait, in nanoseconds since the Unix epoch
 abbrev pub next_nanos : Option ℕ → ℕ → ℤ → ℤ
 next_nanos hint failures last = last +ℤ pos (wait_of hint failures * 1000000000)
 
@@ -127,8 +127,8 @@ abbrev pub IsMoment : Option Timestamp → ℤ → Type 0
 IsMoment None n = ⊥
 IsMoment (Some t) n = t.nanosecond ≡ n
 
--- what `next_poll` answers where there was a poll, and where there was none: no moment, which is
--- refused only where it is past the range of moments
+-- what `next_poll` answers after a poll: a time, refused only if it is past the range of times; and
+-- without a poll: none
 abbrev pub IsNextAfter : Option ℕ → ℕ → Option ℤ → Result (Option Timestamp) PollError → Type 0
 IsNextAfter hint failures None r = r ≡ Ok None
 IsNextAfter hint failures (Some last) r =
@@ -139,8 +139,8 @@ abbrev pub IsNext : Option ℕ → Option PollStatus → Result (Option Timestam
 IsNext hint None r = r ≡ Err NoRelationship
 IsNext hint (Some s) r = IsNextAfter hint s.failures s.last r
 
--- whether a poll is due at a moment: none was made, or the next one is not later; one past the
--- range never is
+-- whether a poll is due at a time: none was made, or the next one is not later; one past the range
+-- never is
 abbrev pub IsDueAfter : Option ℕ → ℕ → Option ℤ → ℤ → Type 0
 IsDueAfter hint failures None now = ⊤
 IsDueAfter hint failures (Some last) now = IsTimestampNanos (next_nanos hint failures last)

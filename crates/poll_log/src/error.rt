@@ -12,16 +12,16 @@ pub enum PollError {
     /// The configuration has no relationship with the domain.
     #[error("P1 NoRelationship")]
     NoRelationship,
-    /// The next poll is past the range of moments.
+    /// The next poll is past the range of times.
     #[error("P2 PastRange")]
     PastRange,
     /// Memory ran out.
     #[error("P3 NoMemory")]
     NoMemory,
-    /// The line with this number is no poll line of a domain with a relationship.
+    /// The line with this number is not a poll line of a domain with a relationship.
     #[error("P4 BadLine line {0}")]
     BadLine(u64),
-    /// The line with this number is one, but its moment is outside the range of moments.
+    /// The line with this number is one, but its time is outside the range of times.
     #[error("P5 BadMoment line {0}")]
     BadMoment(u64),
     /// The source failed.

@@ -7,8 +7,8 @@ ghost use Rattle.poll_log.specs.PollLines.{IsLogOf, RefusesPolls};
 ghost use Rattle.poll_log.specs.declared.error.PollError.{PollError};
 ghost use Rattle.poll_log.specs.declared.error.PollError.TheVariants.{NoMemory, Io};
 
-/// Poll lines have one log at most under a configuration, and lines that are refused, but for lack
-/// of memory or a fault of their source, have none.
+/// Poll lines have one log at most under a configuration, and lines that are refused, except for
+/// lack of memory or a failure of their source, have none.
 pub fn one_log()
     ensures one { (c : Configuration) (bytes : List ℕ) (a b : List PollStatus) → IsConfiguration c
         → IsLogOf (polled c) bytes a

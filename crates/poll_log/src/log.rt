@@ -19,10 +19,11 @@ use std::time::Duration;
 /// When each trust domain with a relationship was polled last, when a poll of it succeeded last,
 /// and how many polls in a row failed up to the last one.
 ///
-/// No clock is read: moments are handed in, and may go back. The last poll recorded counts.
+/// No clock is read: the caller gives the times, and they may go back. The last poll recorded
+/// counts.
 #[derive(Debug, Drop)]
 pub struct PollLog {
-    // One for each relationship, rising by domain.
+    // One for each relationship, sorted by domain.
     statuses: Vec<PollStatus>,
 }
 
@@ -42,7 +43,7 @@ impl PollLog {
     /// A log of no polls, with room for every relationship of the configuration.
     ///
     /// # Errors
-    /// [`PollError::NoMemory`]: memory ran out, which without relationships it never does.
+    /// [`PollError::NoMemory`]: memory ran out. This never happens without relationships.
     pub fn new(alloc: Global, config: &Config) -> Result<PollLog, PollError>
         ensures log { MatchResult result (λ log. log ≡ log_of (polled config.now) [])
             (λ e. (e ≡ PollError.NoMemory) × (0 < length config.now.relationships)) }
@@ -55,11 +56,11 @@ impl PollLog {
         })
     }
 
-    /// Records a poll of the domain at that moment, and whether it succeeded. It takes no memory.
+    /// Records a poll of the domain at that time, and whether it succeeded. It takes no memory.
     ///
     /// # Errors
-    /// [`PollError::NoRelationship`]: there is no relationship with the domain. The log is as it
-    /// was.
+    /// [`PollError::NoRelationship`]: the configuration has no relationship with the domain. The
+    /// log is as it was.
     pub fn record(
         &mut self,
         domain: &TrustDomain,
@@ -78,13 +79,13 @@ impl PollLog {
         }
     }
 
-    /// When the domain is polled next: the moment of its last poll and then the [`wait`]. `None`
-    /// where it was never polled. The hint is the one in the document that is current for the
-    /// domain. It takes no memory.
+    /// When the domain is polled next: the time of its last poll plus the [`wait`]. `None` if it
+    /// was never polled. The hint is the one in the document that is current for the domain. It
+    /// takes no memory.
     ///
     /// # Errors
     /// - [`PollError::NoRelationship`]: there is no relationship with the domain.
-    /// - [`PollError::PastRange`]: the next poll is later than every moment.
+    /// - [`PollError::PastRange`]: the next poll is past the range of times.
     pub fn next_poll(
         &self,
         domain: &TrustDomain,
@@ -99,8 +100,8 @@ impl PollLog {
     }
 
     /// Whether the domain is to be polled now: it was never polled, or its next poll is at this
-    /// moment or before it. A domain without a relationship is never due, nor is one whose next
-    /// poll is past the range. It takes no memory.
+    /// time or before it. A domain without a relationship is never due, nor is one whose next poll
+    /// is past the range. It takes no memory.
     pub fn due(&self, domain: &TrustDomain, hint: Option<u64>, now: Timestamp) -> bool
         ensures { IsTrue result ↔ IsPollDue hint (standing_in self.now domain.now) now.nanosecond }
     {
@@ -133,7 +134,7 @@ impl PollLog {
         }
     }
 
-    /// Where the log keeps the domain, found by binary search.
+    /// The place at which the log keeps the domain, found by binary search.
     pub(crate) fn place_of(&self, domain: &[u8]) -> Option<usize>
         ensures place { IsPlaceOf self.now domain.now result }
         ensures names { AreNames (polled_domains self.now) }

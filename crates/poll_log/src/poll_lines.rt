@@ -25,8 +25,8 @@ use std::alloc::Global;
 ///
 /// # Errors
 /// The first bad line is reported.
-/// - [`PollError::BadLine`]: the line is none of these, or no line feed ends it,
-/// - [`PollError::BadMoment`]: it is one, but its moment is outside the range of moments,
+/// - [`PollError::BadLine`]: the line is not one of these, or no line feed ends it,
+/// - [`PollError::BadMoment`]: it is one, but its time is outside the range of times,
 /// - [`PollError::NoMemory`]: memory ran out,
 /// - [`PollError::Io`]: the source failed.
 pub fn read_polls<R: Source>(
@@ -72,8 +72,8 @@ fn record_line(log: &mut PollLog, text: &[u8], number: u64) -> Result<(), PollEr
     Ok(())
 }
 
-/// What a poll line says: where the log keeps its domain, whether the poll succeeded, and when it
-/// was.
+/// What a poll line says: the place of its domain in the log, whether the poll succeeded, and when
+/// it was.
 #[derive(Clone, Copy)]
 struct PollFields {
     place: usize,
@@ -92,7 +92,7 @@ fn read_parts(log: &PollLog, text: &[u8]) -> Option<PollFields>
     Some(PollFields { place, ok, seconds })
 }
 
-/// What stands before the first space, and what stands after it.
+/// What comes before the first space, and what comes after it.
 fn first_word(text: &[u8]) -> Option<(&[u8], &[u8])>
     ensures { MatchOption result (AllPass is_no_space text.now)
         (λ words. IsWord text.now words.0.now words.1.now) }
@@ -108,7 +108,7 @@ fn first_space(text: &[u8]) -> Option<usize>
     text.iter().position(|byte| *byte == b' ')
 }
 
-/// Whether the poll succeeded, and what stands after the space that follows.
+/// Whether the poll succeeded, and what comes after the space that follows.
 fn read_outcome(text: &[u8]) -> Option<(bool, &[u8])>
     ensures { MatchOption result
         ((ok : Bool) (rest : List ℕ) → text.now ≡ outcome_text ok ++ (codes " " ++ rest) → ⊥)
@@ -122,8 +122,8 @@ fn read_outcome(text: &[u8]) -> Option<(bool, &[u8])>
 }
 
 /// Reads a whole number of seconds within 64 signed bits, as it is written in decimal: a minus sign
-/// where it is below 0, then its digits, without a needless zero. So `-0`, `+1`, `01` and the empty
-/// text are none.
+/// if it is below 0, then its digits, without a needless zero. So `-0`, `+1`, `01` and the empty
+/// text are not read.
 pub fn read_seconds(text: &[u8]) -> Option<i64>
     ensures { ReadsSeconds text.now result }
 {

@@ -28,9 +28,9 @@ pub fn interval(hint: Option<u64>) -> u64
     }
 }
 
-/// Seconds from the last poll to the next, after this many failures in a row: without any the
-/// interval, and else 30, doubled by each failure after the first, but never more than the
-/// interval. Of the failures 12 count.
+/// Seconds from the last poll to the next, after this many failures in a row: the interval if there
+/// were none, and else 30, doubled by each failure after the first, but never more than the
+/// interval. Only the first 12 failures count.
 pub fn wait(hint: Option<u64>, failures: u32) -> u64
     ensures value { result ≡ wait_of hint failures }
     ensures within { result ≤ 86400 }

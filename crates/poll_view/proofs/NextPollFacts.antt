@@ -21,24 +21,24 @@ standing_in-some (s ∷ log) domain has = elim (contains_cases s.domain (polled_
   | inr later ↦ by_test s (standing_in log domain) (bytes_eq s.domain domain) (standing_in-some log domain later)
 ]
 
--- where there is no moment for the next poll, that is because it is past the range
+-- if there is no time for the next poll, the poll is past the range
 past_after : (hint : Option ℕ) (failures : ℕ) (last : Option ℤ) (e : PollError) → IsNextAfter hint failures last (Err e)
     → IsNextAfter hint failures last (Err PastRange)
 past_after hint failures None e h = cc
 past_after hint failures (Some last) e h = (refl, h.1)
 
--- the same for the standing that the log keeps for a domain
+-- the same for the status that the log keeps for a domain
 past_in : (hint : Option ℕ) (o : Option PollStatus) (s : PollStatus) (e : PollError) → o ≡ Some s → IsNext hint o (Err e) → IsNext hint o (Err PastRange)
 past_in hint None s e is h = cc
 past_in hint (Some x) s e is h = past_after hint x.failures x.last e h
 
--- where there is no moment for the next poll of a domain of the log, it is past the range
+-- if there is no time for the next poll of a domain of the log, it is past the range
 pub past_range : (hint : Option ℕ) (log : List PollStatus) (domain : List ℕ) (e : PollError) → Contains (polled_domains log) domain
     → IsNext hint (standing_in log domain) (Err e) → IsNext hint (standing_in log domain) (Err PastRange)
 past_range hint log domain e has refused =
     let known = standing_in-some log domain has in past_in hint (standing_in log domain) known.0 e known.1 refused
 
--- where the test says no, no poll is due
+-- if the test says no, no poll is due
 pub not_due : (D : Type 0) (due : Bool) → (D → due ≡ true) → due ≡ false → D → ⊥
 not_due D due says isnt d = let is : due ≡ true = says d in cc
 

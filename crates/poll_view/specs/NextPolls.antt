@@ -20,13 +20,13 @@ abbrev pub IsHint : Meaning → List ℕ → Option ℕ → Type 0
 IsHint m domain hint = (current : Option Bundle) × IsCurrent m domain current
     × (hint ≡ hint_of current)
 
--- Now, at a later moment, or after the last moment that there is
+-- Now, at a later time, or past the range of times
 abbrev pub IsNextPoll : Option ℕ → Option PollStatus → ℤ → NextPoll → Type 0
 IsNextPoll hint s now Due = IsPollDue hint s now
 IsNextPoll hint s now (At t) = (IsPollDue hint s now → ⊥) × IsNext hint s (Ok (Some t))
 IsNextPoll hint s now PastRange = IsNext hint s (Err RangeLeft)
 
--- what the next polls follow from: what is held, the log of the polls so far, and the moment
+-- what the next polls follow from: what is held, the log of the polls so far, and the time
 pub record PollView : Type 0 where
   pub meaning : Meaning
   pub log : List PollStatus
@@ -39,6 +39,6 @@ pub record IsDomainPoll (view : PollView) (domain : List ℕ) (p : DomainPoll) :
   pub is_hint : IsHint view.meaning domain hint
   pub is_next : IsNextPoll hint (standing_in view.log domain) view.now p.next
 
--- one for each relationship, rising by domain
+-- one for each relationship, sorted by domain
 abbrev pub AreNextPolls : PollView → List DomainPoll → Type 0
 AreNextPolls view polls = AllZip (IsDomainPoll view) (polled view.meaning.config) polls

@@ -10,7 +10,7 @@ use Rattle.poll_view.specs.declared.domain_polls.NextPoll.TheVariants.{Due, At, 
 use Rattle.poll_view.specs.declared.polls_writer.PollsForm.{PollsForm}
 use Rattle.poll_view.specs.declared.polls_writer.PollsForm.TheVariants.{Lines, Json}
 
--- a moment in seconds since the Unix epoch, rounded toward zero
+-- a time in seconds since the Unix epoch, rounded toward zero
 abbrev pub seconds_text : Timestamp → List ℕ
 seconds_text t = signed_decimal (int_div t.nanosecond (pos 1000000000))
 
@@ -26,7 +26,7 @@ poll_line p = p.domain ++ (codes " " ++ (next_text p.next ++ codes "\n"))
 
 -- ---- JSON
 
--- at a later moment
+-- at a later time
 abbrev pub later_members : Timestamp → List ℕ
 later_members t = codes ",\"due\":false,\"next\":" ++ (seconds_text t ++ codes "}")
 

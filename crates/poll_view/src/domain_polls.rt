@@ -15,9 +15,9 @@ use std::alloc::{AllocError, Global};
 pub enum NextPoll {
     /// Now.
     Due,
-    /// At this later moment.
+    /// At this later time.
     At(Timestamp),
-    /// Later than every moment.
+    /// Past the range of times.
     PastRange,
 }
 
@@ -30,7 +30,7 @@ pub struct DomainPoll {
     pub next: NextPoll,
 }
 
-/// For each relationship of the configuration, rising by domain, when its domain is polled next
+/// For each relationship of the configuration, sorted by domain, when its domain is polled next
 /// after the polls of the log. The refresh hint is that of the domain's current document (SPIFFE
 /// Trust Domain and Bundle, section 4.1.2). No clock is read.
 ///

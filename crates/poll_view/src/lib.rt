@@ -1,5 +1,5 @@
 //! When each domain is polled next, for operators: values, and two texts of them. It knows closures
-//! by their trait alone.
+//! only by their trait.
 #![tactic(auto)]
 
 mod domain_polls;

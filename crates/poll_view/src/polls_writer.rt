@@ -17,12 +17,12 @@ use text_lines::TextLine;
 /// How the next polls are written.
 #[derive(Clone, Copy, Debug, PartialEq, Eq)]
 pub enum PollsForm {
-    /// A line for each: the domain and then `due`, `past range`, or the moment in seconds since the
+    /// A line for each: the domain and then `due`, `past range`, or the time in seconds since the
     /// Unix epoch, rounded toward zero.
     Lines,
     /// A compact JSON object with one member, `polls`, and a line feed. It has an object for each,
-    /// of `domain`, `due`, which is `true` or `false`, and `next`, which is the moment in seconds
-    /// as in a line, and `null` where the poll is due or past the range.
+    /// of `domain`, `due`, which is `true` or `false`, and `next`, which is the time in seconds as
+    /// in a line, and `null` if the poll is due or past the range.
     Json,
 }
 

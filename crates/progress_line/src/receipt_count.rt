@@ -1,4 +1,6 @@
 //! How many receipts there are among lines that come in pieces.
+ghost use Rattle.std.specs.Prelude.{◌≡◌};
+
 use memchr::memchr;
 
 /// With what the line of a receipt begins, and no other line of a state file, a journal or an
@@ -23,7 +25,9 @@ impl ReceiptCount {
     }
 
     /// How many such lines there are.
-    pub(crate) fn count(&self) -> u64 {
+    pub(crate) fn count(&self) -> u64
+        ensures { result ≡ self.now.count }
+    {
         self.count
     }
 

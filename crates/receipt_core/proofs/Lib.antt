@@ -7,5 +7,6 @@ pub mod RisingFacts
 pub mod VouchingFacts
 pub mod ReadFacts
 pub mod SearchFacts
+pub mod FloorFacts
 pub mod ChainFacts
 mod StandardFacts

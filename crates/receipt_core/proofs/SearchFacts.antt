@@ -1,7 +1,7 @@
--- What is looked up in a sorted list: a record of distrust, and the relationship with a domain.
+-- What is looked up in a sorted list: a record of distrust, and the relationship with a domain and its floor.
 use Rattle.std.proofs.Common.{◌≡◌, ◌↔◌, ℕ, ◌+◌, Bool, true, false, IsTrue, List, [], ◌∷◌, length}
 use Rattle.std.proofs.Common.{get_or, Result, Ok, Err, inl, inr, refl, sym, ap, ◌∙◌, subst, arith}
-use Rattle.std.specs.Prelude.{Contains, is_ok}
+use Rattle.std.specs.Prelude.{Contains, is_ok, MatchBool}
 use Rattle.std.specs.declared.cmp.Ordering.{Ordering}
 use Rattle.std.specs.declared.cmp.Ordering.TheVariants.{Less, Equal, Greater}
 use Rattle.std.specs.Ordering.{is_lt, is_le, ordering_reverse}
@@ -12,10 +12,10 @@ use Rattle.std.proofs.lemmas.Bool.{cases_lt}
 use Rattle.std.proofs.lemmas.Cmp.{nat_list_cmp_total}
 use Rattle.std.proofs.lemmas.List.Sorted.{searchable_from_sorted}
 use Rattle.std.proofs.lemmas.Map.Keys.{sorted_head, sorted_tail}
-use Rattle.fed_config.specs.Configuration.{Configuration, IsConfiguration, domain_cmp, relationship_cmp}
+use Rattle.fed_config.specs.Configuration.{Configuration, IsConfiguration, ReachesFloor, domain_cmp, relationship_cmp}
 use Rattle.fed_config.specs.declared.relationship.Relationship.{Relationship}
 use Rattle.receipt_core.specs.Receipt.{Receipt}
-use Rattle.receipt_core.specs.Acceptance.{IsFitting}
+use Rattle.receipt_core.specs.Acceptance.{IsFitting, MissesFloor}
 use Rattle.receipt_core.proofs.RisingFacts.{Has, Has-from_contains, each_has}
 
 -- ---- a binary search
@@ -83,12 +83,18 @@ pub one_relationship : (c : Configuration) (x y : Relationship) → IsConfigurat
 one_relationship c x y form p q e =
     one_of c.relationships x y form.rising_relationships (Has-from_contains c.relationships x p) (Has-from_contains c.relationships y q) e
 
--- a receipt fits exactly if the relationship with its domain has its endpoint
-pub fits_told : (c : Configuration) (x : Relationship) (r : Receipt) (b : Bool) → IsConfiguration c → Contains c.relationships x → x.domain ≡ r.domain
-    → (IsTrue b ↔ (x.endpoint ≡ r.endpoint)) → IsTrue b ↔ IsFitting c r
-fits_told c x r b form has domain same = (
-  λ t. record { relationship = x; has = has; domain = domain; endpoint = same.0 t },
-  λ f.
-      let one : f.relationship ≡ x = one_relationship c f.relationship x form f.has has (f.domain ∙ sym domain) in
-      same.1 (sym (ap (λ (y : Relationship). y.endpoint) one) ∙ f.endpoint),
+-- A receipt with the endpoint of the relationship with its domain fits exactly if it reaches the floor.
+pub fits_told : (c : Configuration) (x : Relationship) (r : Receipt) (b : Bool) → Contains c.relationships x → x.domain ≡ r.domain
+    → x.endpoint ≡ r.endpoint → MatchBool b (ReachesFloor c r.domain r.document) (MissesFloor c r.domain r.document) → IsTrue b ↔ IsFitting c r
+fits_told c x r true has domain endpoint floor = (
+  λ t. record { relationship = x; has = has; domain = domain; endpoint = endpoint; reaches = floor },
+  λ f. refl,
 )
+fits_told c x r false has domain endpoint floor = (λ t. absurd (cc), λ f. absurd (floor.below (f.reaches floor.floor floor.has floor.of_domain)))
+
+-- A receipt with another endpoint than the relationship with its domain does not fit.
+pub misfit_told : (c : Configuration) (x : Relationship) (r : Receipt) → IsConfiguration c → Contains c.relationships x → x.domain ≡ r.domain
+    → (x.endpoint ≡ r.endpoint → ⊥) → IsFitting c r → ⊥
+misfit_told c x r form has domain other f =
+    let one : f.relationship ≡ x = one_relationship c f.relationship x form f.has has (f.domain ∙ sym domain) in
+    other (sym (ap (λ (y : Relationship). y.endpoint) one) ∙ f.endpoint)

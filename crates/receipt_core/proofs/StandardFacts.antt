@@ -1,5 +1,5 @@
 -- Receipts, records of distrust, chains and sets, said of the definitions: a slip in one of these does not check.
-use Rattle.std.proofs.Common.{◌≡◌, ℕ, ◌<◌, ◌++◌, List, [], ◌∷◌, length, get_or, None, codes, refl, sym, ap, ◌∙◌, arith, lit<, inl, inr}
+use Rattle.std.proofs.Common.{◌≡◌, ℕ, ◌<◌, ◌++◌, List, [], ◌∷◌, length, get_or, Option, None, Some, codes, refl, sym, ap, ◌∙◌, arith, lit<, inl, inr}
 use Rattle.std.specs.Prelude.{Contains}
 use Rattle.std.specs.Ordering.{nat_cmp}
 use Rattle.json.specs.Print.{escape_byte}
@@ -13,7 +13,8 @@ use Rattle.jwk_set.specs.declared.authority.PublicKey.TheVariants.{Rsa}
 use Rattle.jwk_set.specs.declared.authority.Authority.{Authority}
 use Rattle.jwk_set.specs.declared.authority.Authority.TheVariants.{X509, Jwt}
 use Rattle.bundle_doc.specs.Bundle.{Bundle, doc_id_of, canonical_text}
-use Rattle.fed_config.specs.Configuration.{Configuration}
+use Rattle.fed_config.specs.Configuration.{Configuration, ReachesFloor}
+use Rattle.fed_config.specs.declared.floor.Floor.{Floor}
 use Rattle.fed_config.specs.declared.relationship.Relationship.{Relationship}
 use Rattle.fed_config.specs.declared.seed.Seed.{Seed}
 use Rattle.receipt_core.specs.declared.distrust.Distrust.{Distrust}
@@ -103,7 +104,7 @@ seed = record { domain = codes "a"; document = vouching }
 
 -- a configuration of both relationships and the seed
 abbrev config : Configuration
-config = record { relationships = relationship from_a ∷ relationship from_b ∷ []; seeds = seed ∷ [] }
+config = record { relationships = relationship from_a ∷ relationship from_b ∷ []; seeds = seed ∷ []; floors = [] }
 
 -- different letters
 below : (x y : ℕ) → x < y → (x ∷ []) ≡ (y ∷ []) → ⊥
@@ -111,9 +112,13 @@ below x y less e = let same : x ≡ y = ap (λ xs. get_or xs 0 0) e in omega (ar
 
 -- ---- fitting
 
+-- no floor is to be reached
+no_floor : (r : Receipt) → ReachesFloor config r.domain r.document
+no_floor r f has same = absurd (Has-from_contains [] f has)
+
 -- a receipt fits by its domain and its endpoint
 pub fits : IsFitting config from_b
-fits = record { relationship = relationship from_b; has = (1, lit< tt, refl); domain = refl; endpoint = refl }
+fits = record { relationship = relationship from_b; has = (1, lit< tt, refl); domain = refl; endpoint = refl; reaches = no_floor from_b }
 
 -- the relationship with the domain has another endpoint
 pub of_another_endpoint : IsFitting config (noted (codes "b") (codes "b")) → ⊥
@@ -134,6 +139,55 @@ of_another_domain h = elim (Has-from_contains config.relationships h.relationshi
     | inr none ↦ absurd none
   ]
 ]
+
+-- ---- floors
+
+-- c has the floor 7
+abbrev raised : Configuration
+raised = record config { floors = record { domain = codes "c"; sequence = 7 } ∷ [] }
+
+-- the receipt from b, of a document with a sequence number
+abbrev of_rank : Option ℕ → Receipt
+of_rank rank = record from_b { document = record vouching { rank = rank } }
+
+-- each floor of c is 7
+seven : (f : Floor) → Contains raised.floors f → f.sequence ≡ 7
+seven f has = elim (Has-from_contains raised.floors f has) [ inl first ↦ sym (ap (λ (g : Floor). g.sequence) first) | inr none ↦ absurd none ]
+
+-- a document at its floor fits
+pub at_its_floor : IsFitting raised (of_rank (Some 7))
+at_its_floor = record {
+  relationship = relationship from_b;
+  has = (1, lit< tt, refl);
+  domain = refl;
+  endpoint = refl;
+  reaches = λ f has same. (7, refl, let is : f.sequence ≡ 7 = seven f has in omega arith);
+}
+
+-- a document below its floor does not fit
+pub below_its_floor : IsFitting raised (of_rank (Some 6)) → ⊥
+below_its_floor h =
+    let reached = h.reaches (record { domain = codes "c"; sequence = 7 }) (0, lit< tt, refl) refl in
+    let six : reached.0 ≡ 6 = (let is = reached.1 in cc) in
+    let least = reached.2 in
+    absurd (omega arith)
+
+-- a document without a sequence number is below each floor
+pub without_a_number : IsFitting raised (of_rank None) → ⊥
+without_a_number h = let reached = h.reaches (record { domain = codes "c"; sequence = 7 }) (0, lit< tt, refl) refl in let is = reached.1 in cc
+
+-- a floor of one domain is none of another
+pub floor_of_another : IsFitting raised (noted (codes "b") (codes "a"))
+floor_of_another = record {
+  relationship = relationship from_a;
+  has = (0, lit< tt, refl);
+  domain = refl;
+  endpoint = refl;
+  reaches = λ f has same. elim (Has-from_contains raised.floors f has) [
+    | inl first ↦ absurd (below 98 99 (lit< tt) (sym same ∙ sym (ap (λ (g : Floor). g.domain) first)))
+    | inr none ↦ absurd none
+  ];
+}
 
 -- ---- vouching
 
@@ -195,7 +249,7 @@ one_receipt = record {
   some = lit< tt;
   seed = seed;
   configured = (0, lit< tt, refl);
-  leads = (record { relationship = relationship from_a; has = (0, lit< tt, refl); domain = refl; endpoint = refl }, vouches, refl);
+  leads = (record { relationship = relationship from_a; has = (0, lit< tt, refl); domain = refl; endpoint = refl; reaches = no_floor from_a }, vouches, refl);
 }
 
 -- the document of a receipt vouches for the next
@@ -205,7 +259,7 @@ two_receipts = record {
   seed = seed;
   configured = (0, lit< tt, refl);
   leads = (
-    record { relationship = relationship from_a; has = (0, lit< tt, refl); domain = refl; endpoint = refl },
+    record { relationship = relationship from_a; has = (0, lit< tt, refl); domain = refl; endpoint = refl; reaches = no_floor from_a },
     vouches,
     (fits, vouches_under [] (codes "c") (codes "b") (none_has _), refl),
   );
@@ -223,11 +277,11 @@ without_the_first h = elim (Has-from_contains config.seeds h.seed h.configured) 
 ]
 
 -- nothing vouches where no document is configured
-pub without_a_seed : IsChain (record { relationships = config.relationships; seeds = [] }) [] (from_a ∷ []) → ⊥
+pub without_a_seed : IsChain (record { relationships = config.relationships; seeds = []; floors = [] }) [] (from_a ∷ []) → ⊥
 without_a_seed h = Has-from_contains [] h.seed h.configured
 
 -- no receipt fits where there is no relationship
-pub without_a_relationship : IsChain (record { relationships = []; seeds = seed ∷ [] }) [] (from_a ∷ []) → ⊥
+pub without_a_relationship : IsChain (record { relationships = []; seeds = seed ∷ []; floors = [] }) [] (from_a ∷ []) → ⊥
 without_a_relationship h = Has-from_contains [] h.leads.0.relationship h.leads.0.has
 
 -- a record stops the chain where its key is used

@@ -1,23 +1,36 @@
 -- Which documents a replica accepts (SPIFFE Federation, section 5.2, profile https_spiffe).
-use Rattle.std.specs.Prelude.{◌≡◌, ℕ, ◌≤◌, List, [], ◌∷◌, length, Contains}
+use Rattle.std.specs.Prelude.{◌≡◌, ◌↔◌, ℕ, ◌≤◌, List, [], ◌∷◌, length, Contains}
 use Rattle.std.specs.List.{AllByRecursion}
 use Rattle.std.specs.List.Sorted.{IsStrictlySortedBy}
-use Rattle.fed_config.specs.Configuration.{Configuration, HasDomain}
+use Rattle.fed_config.specs.Configuration.{Configuration, HasDomain, Reaches, ReachesFloor}
+use Rattle.fed_config.specs.declared.floor.Floor.{Floor}
 use Rattle.fed_config.specs.declared.relationship.Relationship.{Relationship}
 use Rattle.fed_config.specs.declared.seed.Seed.{Seed}
-use Rattle.bundle_doc.specs.Bundle.{HasKeyId, doc_id_of}
+use Rattle.bundle_doc.specs.Bundle.{Bundle, HasKeyId, doc_id_of}
 use Rattle.receipt_core.specs.declared.distrust.Distrust.{Distrust}
 use Rattle.receipt_core.specs.Receipt.{Receipt, IsReceipt, receipt_cmp, IsDistrust, distrust_cmp}
 use Rattle.receipt_core.specs.Receipt.{Pair, pair_of}
 use Rattle.receipt_core.specs.Limits.{receipt_limit, record_limit}
 
--- The configuration has a relationship with the receipt's domain, and its endpoint is the
--- receipt's.
+-- The configuration has a relationship with the receipt's domain, its endpoint is the receipt's,
+-- and the document reaches the floor of the domain, if there is one.
 pub record IsFitting (c : Configuration) (r : Receipt) : Type 0 where
   pub relationship : Relationship
   pub has : Contains c.relationships relationship
   pub domain : relationship.domain ≡ r.domain
   pub endpoint : relationship.endpoint ≡ r.endpoint
+  pub reaches : ReachesFloor c r.domain r.document
+
+-- The domain has a floor that the document does not reach.
+pub record MissesFloor (c : Configuration) (domain : List ℕ) (document : Bundle) : Type 0 where
+  pub floor : Floor
+  pub has : Contains c.floors floor
+  pub of_domain : floor.domain ≡ domain
+  pub below : Reaches floor.sequence document → ⊥
+
+-- the configuration with only its relationships and seeds
+abbrev pub without_floors : Configuration → Configuration
+without_floors c = record c { floors = [] }
 
 abbrev pub distrust_of : List ℕ → Receipt → Distrust
 distrust_of domain r = record { domain = domain; key = r.key }
@@ -86,3 +99,8 @@ pub record IsClosed (m : Meaning) (set : Pair → Type 0) : Type 0 where
   pub seeds : (s : Seed) → Contains m.config.seeds s → set (pair_of_seed s)
   pub steps : (p : Pair) (r : Receipt) → set p → Contains m.held r → IsFitting m.config r
       → Vouches m.records p r → set (pair_of r)
+
+-- These are the receipts of the list that the floors let through.
+abbrev pub AreLetThrough : Configuration → List Receipt → List Receipt → Type 0
+AreLetThrough c receipts through = (r : Receipt)
+    → Contains through r ↔ (Contains receipts r × ReachesFloor c r.domain r.document)

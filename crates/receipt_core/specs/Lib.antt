@@ -6,5 +6,6 @@ pub mod Parts
 pub mod Rising
 pub mod Sets
 pub mod Acceptance
+pub mod RaisedFloors
 pub mod Chain
 pub mod Line

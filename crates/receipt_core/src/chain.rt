@@ -6,6 +6,7 @@ ghost use Rattle.receipt_core.specs.Acceptance.{IsFitting, Vouches};
 ghost use Rattle.receipt_core.specs.Chain.{HasVoucher, IsChain, IsFirst, LeadsOn};
 
 use crate::distrust::Distrust;
+use crate::floor_check::reaches_floor;
 use crate::given_records::{GivenRecords, is_same_domain};
 use crate::line_reader::is_same;
 use crate::receipt::Receipt;
@@ -15,14 +16,14 @@ use spiffe_name::SpiffeId;
 use std::cmp::Ordering;
 
 /// Whether the receipts are a chain under the configuration and the records of distrust: there is
-/// at least one, each fits a relationship, a seed vouches for the first, and the document of each
-/// vouches for the next (SPIFFE Federation, section 5.2, profile `https_spiffe`). A yes means that
-/// the last document is accepted by every replica of this configuration that holds these receipts
-/// and no other records.
+/// at least one, each fits a relationship and reaches the floor of its domain, a seed vouches for
+/// the first, and the document of each vouches for the next (SPIFFE Federation, section 5.2,
+/// profile `https_spiffe`). A yes means that the last document is accepted by every replica of this
+/// configuration that holds these receipts and no other records.
 ///
-/// It takes no memory. A relationship is found by binary search, and so is a record of distrust
-/// where the records are in their order, as a replica lends them; in another order all are looked
-/// at for each receipt.
+/// It takes no memory. A relationship and a floor are found by binary search, and so is a record of
+/// distrust if the records are in their order, as a replica lends them; in another order all are
+/// looked at for each receipt.
 pub fn check_chain(config: &Config, records: &[Distrust], receipts: &[Receipt]) -> bool
     ensures { IsTrue result ↔ IsChain config.now records.now receipts.now }
 {
@@ -107,14 +108,21 @@ fn is_vouched_for(records: &GivenRecords, previous: &Receipt, receipt: &Receipt)
     }
 }
 
-// Whether the relationship with the receipt's domain has its endpoint.
+// Whether the relationship with the receipt's domain has its endpoint, and the document reaches the
+// domain's floor.
 fn fits(config: &Config, receipt: &Receipt) -> bool
     ensures { IsTrue result ↔ IsFitting config.now receipt.now }
 {
-    // That a domain has one relationship stands on this call.
+    // This call says that a domain has one relationship.
     let _ = config.domains();
     match config.relationship(receipt.domain()) {
-        Some(relationship) => is_same_id(&relationship.endpoint, receipt.endpoint()),
+        Some(relationship) => {
+            if is_same_id(&relationship.endpoint, receipt.endpoint()) {
+                reaches_floor(config, receipt.domain(), receipt.document())
+            } else {
+                false
+            }
+        }
         None => false,
     }
 }

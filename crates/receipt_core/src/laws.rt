@@ -1,14 +1,17 @@
 //! What follows from the definitions alone. A call that needs a law calls its function, which does
 //! nothing, and cites what it ensures.
 ghost use Rattle.std.specs.Prelude.{◌≡◌, ◌↔◌, [], ◌∷◌, ◌++◌, ℕ, List, Option, Contains};
+ghost use Rattle.fed_config.specs.Configuration.{Configuration, ReachesFloor};
 ghost use Rattle.std.specs.declared.cmp.Ordering.TheVariants.{Less};
 ghost use Rattle.std.specs.Ordering.{nat_cmp};
 ghost use Rattle.std.specs.Cmp.Lexicographic.{slice_cmp};
 ghost use Rattle.receipt_core.specs.Receipt.{Receipt, IsReceipt, line, receipt_cmp, triple_cmp};
 ghost use Rattle.receipt_core.specs.Receipt.{Pair, pair_of, offers_of, need_of, IsDistrust};
 ghost use Rattle.receipt_core.specs.Receipt.{distrust_line, distrust_cmp};
-ghost use Rattle.receipt_core.specs.Acceptance.{IsMember, Meaning, Vouches, distrust_of};
+ghost use Rattle.receipt_core.specs.Acceptance.{AreLetThrough, IsFitting, IsMeaning, IsMember};
+ghost use Rattle.receipt_core.specs.Acceptance.{Meaning, Vouches, distrust_of, without_floors};
 ghost use Rattle.std.specs.List.{AllByRecursion};
+ghost use Rattle.receipt_core.specs.RaisedFloors.{HasNoLower};
 ghost use Rattle.receipt_core.specs.Chain.{IsChain};
 ghost use Rattle.receipt_core.specs.Sets.{AreSets, Always};
 ghost use Rattle.receipt_core.specs.declared.distrust.Distrust.{Distrust};
@@ -50,4 +53,27 @@ pub fn chains()
         → AllByRecursion (Contains m.held) (front ++ r ∷ [])
         → ((x : Distrust) → Contains m.records x → Contains records x)
         → IsMember m (pair_of r) }
+{}
+
+/// What floors cost: the receipts below them, and nothing else. A receipt fits exactly if it fits
+/// the configuration without its floors and its document reaches the floor of its domain. What is
+/// accepted is what is accepted under the configuration without floors from the receipts that the
+/// floors let through; a replica holds no others, so that is from all that it holds. What fits
+/// under higher floors fits under lower ones, if the relationships are the same: a receipt that was
+/// left out does not fit again when floors are raised.
+pub fn floors()
+    ensures fitting { (c : Configuration) (r : Receipt) → IsFitting c r
+        ↔ (IsFitting (without_floors c) r × ReachesFloor c r.domain r.document) }
+    ensures accepted { (m : Meaning) (through : List Receipt)
+        → AreLetThrough m.config m.held through → (p : Pair) → IsMember m p
+        ↔ IsMember (record {
+          config = without_floors m.config;
+          held = through;
+          records = m.records;
+        }) p }
+    ensures held { (m : Meaning) → IsMeaning m → (p : Pair) → IsMember m p
+        ↔ IsMember (record m { config = without_floors m.config }) p }
+    ensures higher { (low high : Configuration) → high.relationships ≡ low.relationships
+        → AllByRecursion (HasNoLower high.floors) low.floors
+        → (r : Receipt) → IsFitting high r → IsFitting low r }
 {}

@@ -8,6 +8,7 @@
 
 mod chain;
 mod distrust;
+mod floor_check;
 mod given_records;
 mod known_parts;
 pub mod laws;
@@ -27,6 +28,7 @@ pub use byte_lines::{
 };
 pub use chain::check_chain;
 pub use distrust::Distrust;
+pub use floor_check::reaches_floor;
 pub use known_parts::KnownParts;
 pub use line_error::LineError;
 pub use line_reader::MAX_LINE_BYTES;

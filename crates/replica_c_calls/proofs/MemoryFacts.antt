@@ -14,7 +14,7 @@ use Rattle.replica_c_calls.specs.Opening.{OpensBytes, RefusesOpening, RefusesSna
 use Rattle.replica_c_calls.specs.declared.call_error.CallError.{CallError}
 use Rattle.replica_c_calls.specs.declared.call_error.CallError.TheVariants.{NoMemory, Sync}
 
--- a source that never fails reports no fault
+-- a source that never fails reports no error
 pub no_fault : (T : Type 0) (why : SyncError) (new old : Bool) → new ≡ false → old ≡ false → new ≡ (is_io {T = T} (Err why) || old) → why ≡ Io → ⊥
 no_fault T why new old sound was fault io =
     both_ways new sound (fault ∙ ap (λ w. is_io {T = T} (Err w) || old) io)
@@ -26,7 +26,7 @@ pub snapshot_refused : (c : Configuration) (text : List ℕ) (why : SyncError) �
 snapshot_refused c text Io sound refused = absurd (sound refl)
 snapshot_refused c text why sound refused = refused
 
--- where it is to be merged
+-- when a snapshot is merged
 merging_refused : (old new : HeldAndRoom) (text : List ℕ) (e : CallError) → RefusesSnapshotText old.meaning.config text e
     → RefusesSnapshotOf old text new e
 merging_refused old new text (Sync Io) refused = absurd refused
@@ -44,7 +44,7 @@ pub not_empty : (count : ℕ) (told : Bool) → told ≡ (count == 0) → told �
 not_empty zero told is not = absurd (both_ways told not is)
 not_empty (suc n) told is not = omega arith
 
--- where it is to be opened
+-- when a replica is opened
 opening_refused : (config text : List ℕ) (c : Configuration) (e : CallError) → IsConfig config c → 0 < length text → RefusesSnapshotText c text e
     → RefusesOpening config text e
 opening_refused config text c (Sync Io) is some refused = absurd refused

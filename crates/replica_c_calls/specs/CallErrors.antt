@@ -20,7 +20,7 @@ IsKeyDigits digits key = (encode_lower key.0 ≡ digits) × IsDigest key.0
 abbrev pub IsNoKey : List ℕ → Type 0
 IsNoKey digits = (key : KeyId) → IsKeyDigits digits key → ⊥
 
--- the bytes are no domain's name
+-- the bytes are not a domain's name
 abbrev pub RefusesDomainBytes : List ℕ → CallError → Type 0
 RefusesDomainBytes bytes Usage = IsUtf8 bytes → ⊥
 RefusesDomainBytes bytes (Name e) = RefusesDomain bytes e
@@ -30,13 +30,13 @@ RefusesDomainBytes bytes _ = ⊥
 abbrev pub NamesId : List ℕ → Type 0
 NamesId bytes = (domain path : List ℕ) × IsIdText bytes domain path
 
--- they are no SPIFFE ID
+-- they are not a SPIFFE ID
 abbrev pub RefusesIdBytes : List ℕ → CallError → Type 0
 RefusesIdBytes bytes Usage = IsUtf8 bytes → ⊥
 RefusesIdBytes bytes (Name e) = RefusesId bytes e
 RefusesIdBytes bytes _ = ⊥
 
--- they are no domain's name, or they are one and memory ran out after it was read
+-- they are not a domain's name, or they are one and memory ran out after it was read
 abbrev pub RefusesDomainText : List ℕ → CallError → Type 0
 RefusesDomainText bytes NoMemory = IsDomainText bytes
 RefusesDomainText bytes e = RefusesDomainBytes bytes e

@@ -84,7 +84,7 @@ pub record RefusesNamedKey (old : Meaning) (bytes : KeyBytes) (new : Meaning)
   pub key_is : IsKeyDigits bytes.key entry.key
   pub refused : HasRefusedDistrust old entry new why
 
--- They are no name, or they name a domain and no key; or that record is refused.
+-- They are not a name, or they name a domain and no key; or that record is refused.
 abbrev pub RefusesKeyBytes : Meaning → KeyBytes → Meaning → CallError → Type 0
 RefusesKeyBytes old bytes new Usage = RefusesDomainBytes bytes.domain Usage
     ⊎ (IsDomainText bytes.domain × IsNoKey bytes.key)
@@ -138,7 +138,7 @@ pub record HasBadGive (bytes : List ℕ) (e : SyncError) : Type 0 where
   pub left : Option (List ℕ)
   pub cause : RefusesGive (Some bytes) left e
 
--- They begin with one, and more follows it: the fault is that of the line after the answer's last.
+-- They begin with one, and more follows it: the error is that of the line after the answer's last.
 pub record HasMoreThanGive (bytes : List ℕ) (e : SyncError) : Type 0 where
   pub give : GiveMessage
   pub is : IsGive give

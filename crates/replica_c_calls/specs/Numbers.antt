@@ -1,6 +1,6 @@
--- The numbers by which a program in another language tells refusals apart. The hundreds stand for
--- the letter of the code, and the rest is its number; a code in another one is added to 1,000 of
--- these.
+-- The numbers by which a program in another language tells refusals apart. The hundreds mean the
+-- letter of the code, and the rest is its number; the number of a code in another one is added to
+-- 1,000 times that of the outer one.
 use Rattle.std.specs.Prelude.{ℕ, ◌+◌}
 use Rattle.spiffe_name.specs.declared.error.NameError.{NameError}
 use Rattle.spiffe_name.specs.declared.error.NameError.TheVariants.{Empty as N1}
@@ -38,6 +38,7 @@ use Rattle.closure_core.specs.declared.error.TakeError.TheVariants.{WrongEndpoin
 use Rattle.closure_core.specs.declared.error.TakeError.TheVariants.{Full as G3}
 use Rattle.closure_core.specs.declared.error.TakeError.TheVariants.{NoMemory as G4}
 use Rattle.closure_core.specs.declared.error.TakeError.TheVariants.{ConfigDiffers as G5}
+use Rattle.closure_core.specs.declared.error.TakeError.TheVariants.{BelowFloor as G6}
 use Rattle.bundle_view.specs.declared.observe_error.ObserveError.{ObserveError}
 use Rattle.bundle_view.specs.declared.observe_error.ObserveError.TheVariants.{NoRelationship as O1}
 use Rattle.bundle_view.specs.declared.observe_error.ObserveError.TheVariants.{WrongEndpoint as O2}
@@ -102,6 +103,7 @@ take_number G2 = 502
 take_number G3 = 503
 take_number G4 = 504
 take_number G5 = 505
+take_number G6 = 506
 
 abbrev pub observe_number : ObserveError → ℕ
 observe_number O1 = 601

@@ -10,7 +10,7 @@ use Rattle.replica_core.specs.declared.error.SyncError.TheVariants.{Io}
 use Rattle.replica_c_calls.specs.declared.call_error.CallError.{CallError}
 use Rattle.replica_c_calls.specs.declared.call_error.CallError.TheVariants.{Config, Sync, NoMemory}
 
--- Nothing where there are no bytes of a snapshot, and else what the snapshot says.
+-- Nothing if there are no bytes of a snapshot; otherwise what the snapshot says.
 abbrev pub BeginsWith : Configuration → List ℕ → Meaning → Type 0
 BeginsWith c snapshot m = ((snapshot ≡ []) × (m ≡ empty_of c))
     ⊎ ((0 < length snapshot) × IsSnapshot c (Some snapshot) m)
@@ -21,7 +21,8 @@ pub record OpensBytes (config snapshot : List ℕ) (m : Meaning) : Type 0 where
   pub is : IsConfig config configuration
   pub begins : BeginsWith configuration snapshot m
 
--- The bytes are a configuration, and those of the snapshot are none of it, for this cause.
+-- The bytes are a configuration, and those of the snapshot are not a snapshot of it, for this
+-- cause.
 pub record RefusesSnapshotBytes (config snapshot : List ℕ) (e : SyncError) : Type 0 where
   pub configuration : Configuration
   pub is : IsConfig config configuration

@@ -30,7 +30,7 @@ ReturnsDone returned = returned ≡ pos 0
 abbrev pub ReturnsNeedsRoom : ℤ → Type 0
 ReturnsNeedsRoom returned = returned ≡ pos 1
 
--- there is none of what was asked for
+-- there is nothing of what was asked for
 abbrev pub ReturnsNone : ℤ → Type 0
 ReturnsNone returned = returned ≡ pos 2
 
@@ -54,7 +54,7 @@ out_run before after said returned = record {
   returned = returned;
 }
 
--- There is room for the text, which stands at the buffer's start.
+-- There is room for the text, which is at the buffer's start.
 pub record FitsOut (text : List ℕ) (run : OutRun) : Type 0 where
   pub fits : length text ≤ length run.before
   pub text_is : run.after ≡ text ++ drop (length text) run.before

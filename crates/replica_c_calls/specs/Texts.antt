@@ -73,7 +73,7 @@ pub record HasChainText (m : Meaning) (domain bytes text : List ℕ) : Type 0 wh
   pub read : IsDocument bytes document
   pub explains : ExplainsBy m (document_of domain document) text
 
--- They are no domain's name, or no document, for this cause; or memory ran out.
+-- They are not a domain's name, or not a document, for this cause; or memory ran out.
 abbrev pub RefusesDocumentBytes : List ℕ → List ℕ → CallError → Type 0
 RefusesDocumentBytes domain bytes (Document e) = IsDomainText domain × RefusesBytes bytes e
 RefusesDocumentBytes domain bytes NoMemory = IsDomainText domain

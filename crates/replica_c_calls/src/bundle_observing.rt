@@ -1,5 +1,5 @@
 //! A bundle that was fetched, observed. The receipt's line is made first, so that nothing is taken
-//! where there is no room for it, or no memory.
+//! if there is no room for it, or no memory.
 ghost use Rattle.std.specs.Prelude.{MatchResult};
 ghost use Rattle.replica_c_calls.specs.Changes.{HasRefusedFetched, ObservesFetched, fetched_for};
 ghost use Rattle.replica_c_calls.specs.Changes.{NamesVerdict, RefusesVerdictBytes};
@@ -40,9 +40,10 @@ pub enum ObservedBytes {
 /// more bytes than `room`.
 ///
 /// # Errors
-/// What is held stays. Of these the first that holds:
-/// - [`CallError::Usage`], [`CallError::Name`]: the bytes are no domain's name, or no SPIFFE ID,
-/// - [`CallError::Usage`]: they are no key's digits,
+/// What is held is as before. The first of these that holds:
+/// - [`CallError::Usage`], [`CallError::Name`]: the bytes are not a domain's name, or not a SPIFFE
+///   ID,
+/// - [`CallError::Usage`]: they are not a key's digits,
 /// - [`CallError::Observe`]: nothing is observed, as `observe` reports it,
 /// - [`CallError::NoMemory`]: memory ran out for the line.
 pub fn observe_bytes<C: Closure>(

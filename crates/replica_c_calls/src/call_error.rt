@@ -16,24 +16,24 @@ use spiffe_name::NameError;
 use std::alloc::AllocError;
 use thiserror::Error;
 
-/// Why a call over bytes is refused: the refusal of the part that it stands on, or a cause of its
-/// own. Its text is that of the command `fedbundle`.
+/// Why a call over bytes is refused: the refusal of the part that it calls, or a cause of its own.
+/// Its text is that of the command `fedbundle`.
 #[derive(Clone, Copy, Debug, PartialEq, Eq, Error)]
 pub enum CallError {
-    /// The call may not be made so: its replica is not open, or is open where it is to be opened; a
-    /// name is not UTF-8; or a key is not 64 lower-case hexadecimal digits.
+    /// The call may not be made so: its replica is not open, or is open already; a name is not
+    /// UTF-8; or a key is not 64 lower-case hexadecimal digits.
     #[error("usage")]
     Usage,
-    /// A text is no trust domain name, or no SPIFFE ID.
+    /// A text is not a trust domain name, or not a SPIFFE ID.
     #[error("{0}")]
     Name(NameError),
-    /// The bytes are no bundle document.
+    /// The bytes are not a bundle document.
     #[error("{0}")]
     Document(DocError),
-    /// The bytes are no configuration.
+    /// The bytes are not a configuration.
     #[error("{0}")]
     Config(ConfigError),
-    /// The bytes are no receipt's line.
+    /// The bytes are not a receipt's line.
     #[error("{0}")]
     Line(LineError),
     /// What is to be held is not taken.

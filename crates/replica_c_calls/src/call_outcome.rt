@@ -21,13 +21,13 @@ pub const NONE: i64 = 2;
 /// What a call returns that brought what was held already.
 pub const ALREADY: i64 = 3;
 
-/// What a call says besides what it returns.
+/// What a call says in addition to what it returns.
 #[repr(C)]
 pub struct CallOutcome {
     /// What the call counts.
     pub count: u64,
-    /// How many bytes the text has: those that were written, or, where there was no room for them,
-    /// those that there would be.
+    /// How many bytes the text has: those that were written, or, if there was no room for them,
+    /// would have been.
     pub length: u64,
     /// How many bytes of `fault` are the refusal's text.
     pub fault_length: u64,
@@ -93,7 +93,7 @@ impl CallOutcome {
         NEEDS_ROOM
     }
 
-    /// Puts the text into `out` where there is room for it.
+    /// Puts the text into `out` if there is room for it.
     pub fn put(&mut self, text: &[u8], out: &mut [u8]) -> i64
         ensures writes { WritesOut text.now (out_run out.old out.new self.new.length result) }
         ensures count { self.new.count ≡ 0 }

@@ -13,10 +13,10 @@ use receipt_core::LineError;
 use replica_core::SyncError;
 use spiffe_name::NameError;
 
-/// The number of a refusal: 1 for a call that may not be made so, and else that of its code. The
-/// hundreds stand for the letter: N 1, B 2, C 3, L 4, G 5, O 6, S 7, E 9. So `B4` is 204. Where a
-/// code has another one in it, as `O5 Document B4 NoKeys`, the first is multiplied by 1,000, and
-/// the second added: 605,204.
+/// The number of a refusal: 1 for a call that may not be made so, otherwise that of its code. The
+/// hundreds mean the letter: N 1, B 2, C 3, L 4, G 5, O 6, S 7, E 9. So `B4` is 204. If a code has
+/// another one in it, as `O5 Document B4 NoKeys`, the first is multiplied by 1,000, and the second
+/// added: 605,204.
 pub fn fault_number(error: &CallError) -> u32
     ensures number { result ≡ number_of error.now }
     ensures some { 0 < result }
@@ -105,6 +105,7 @@ fn take_fault(why: TakeError) -> u32
         TakeError::Full => 503,
         TakeError::NoMemory => 504,
         TakeError::ConfigDiffers => 505,
+        TakeError::BelowFloor => 506,
     }
 }
 

@@ -19,7 +19,7 @@ pub fn source_of(alloc: Global, bytes: &[u8]) -> Result<MemSource, AllocError>
 }
 
 /// Takes all bytes that it is given, as long as there is memory for them. A growth that is refused
-/// is a fault, and there is no other: what fits into the memory that it has is taken.
+/// is an error, and there is no other: what fits into the memory that it has is taken.
 #[derive(Drop)]
 pub struct GrowingSink {
     text: Vec<u8>,

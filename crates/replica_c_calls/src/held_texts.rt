@@ -54,10 +54,10 @@ pub fn snapshot_bytes<C: Closure>(alloc: Global, closure: &C) -> Result<Vec<u8>,
 }
 
 /// The canonical text of the current document of the domain with this name, with a line feed.
-/// `None` where none is accepted.
+/// `None` if none is accepted.
 ///
 /// # Errors
-/// - [`CallError::Usage`], [`CallError::Name`]: the bytes are no domain's name,
+/// - [`CallError::Usage`], [`CallError::Name`]: the bytes are not a domain's name,
 /// - [`CallError::NoMemory`]: memory ran out.
 pub fn current_bytes<C: Closure>(
     alloc: Global,
@@ -86,13 +86,13 @@ fn canonical_line(alloc: Global, document: &Document) -> Result<Vec<u8>, AllocEr
 }
 
 /// Why the document is accepted as one of the domain with this name: the lines of the receipts of a
-/// shortest chain from a configured document to it, none for a configured one. `None` where it is
-/// not accepted.
+/// shortest chain from a configured document to it, none for a configured one. `None` if it is not
+/// accepted.
 ///
 /// # Errors
-/// Of these the first that holds:
-/// - [`CallError::Usage`], [`CallError::Name`]: the bytes are no domain's name,
-/// - [`CallError::Document`]: they are no document,
+/// The first of these that holds:
+/// - [`CallError::Usage`], [`CallError::Name`]: the bytes are not a domain's name,
+/// - [`CallError::Document`]: they are not a document,
 /// - [`CallError::NoMemory`]: memory ran out.
 pub fn explain_bytes<C: Closure>(
     alloc: Global,

@@ -10,9 +10,9 @@ use std::alloc::Global;
 /// Distrusts the key of these 64 lower-case hexadecimal digits in the domain with this name.
 ///
 /// # Errors
-/// What is held stays. Of these the first that holds:
-/// - [`CallError::Usage`], [`CallError::Name`]: the bytes are no domain's name,
-/// - [`CallError::Usage`]: they are no key's digits,
+/// What is held is as before. The first of these that holds:
+/// - [`CallError::Usage`], [`CallError::Name`]: the bytes are not a domain's name,
+/// - [`CallError::Usage`]: they are not a key's digits,
 /// - [`CallError::Take`]: the record is refused, as [`Closure::distrust`] reports it.
 pub fn distrust_bytes<C: Closure>(
     alloc: Global,

@@ -10,8 +10,8 @@ use std::alloc::Global;
 /// Takes the receipt whose line this is, without its line feed.
 ///
 /// # Errors
-/// What is held stays. Of these the first that holds:
-/// - [`CallError::Line`]: the bytes are no receipt's line,
+/// What is held is as before. The first of these that holds:
+/// - [`CallError::Line`]: the bytes are not a receipt's line,
 /// - [`CallError::Take`]: the receipt is refused, as [`Closure::take`] reports it.
 pub fn take_line_bytes<C: Closure>(
     alloc: Global,

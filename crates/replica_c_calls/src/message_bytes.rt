@@ -47,7 +47,7 @@ fn have_line(alloc: Global, asked: &Have) -> Result<Vec<u8>, AllocError>
 /// What is answered to a have, which is one line with its line feed and nothing more.
 ///
 /// # Errors
-/// Of these the first that holds:
+/// The first of these that holds:
 /// - `Truncated`: the bytes do not end with a line feed,
 /// - the refusals of [`read_have_line`],
 /// - [`CallError::NoMemory`]: memory ran out.
@@ -82,8 +82,8 @@ fn give_lines<C: Closure>(alloc: Global, closure: &C, asked: &Have) -> Result<Ve
 /// one answer and nothing more.
 ///
 /// # Errors
-/// What is held stays. Of these the first that holds:
-/// - [`CallError::Sync`]: the bytes are no answer, as [`read_give`] reports it, or more bytes
+/// What is held is as before. The first of these that holds:
+/// - [`CallError::Sync`]: the bytes are not an answer, as [`read_give`] reports it, or more bytes
 ///   follow it, which is `NotCanonical` at the line after the last; or what it has is refused, as
 ///   [`absorb`] reports it,
 /// - [`CallError::NoMemory`]: memory ran out before the answer was read.

@@ -17,7 +17,7 @@ use std::str;
 /// The trust domain with this name.
 ///
 /// # Errors
-/// `Usage` where the bytes are not UTF-8, and else what [`TrustDomain::read`] reports.
+/// `Usage` if the bytes are not UTF-8; otherwise what [`TrustDomain::read`] reports.
 pub fn domain_of(alloc: Global, bytes: &[u8]) -> Result<TrustDomain, CallError>
     ensures { MatchResult result
         (λ domain. (domain ≡ bytes.now) × IsDomainText bytes.now)
@@ -32,7 +32,7 @@ pub fn domain_of(alloc: Global, bytes: &[u8]) -> Result<TrustDomain, CallError>
 /// The SPIFFE ID that the bytes spell.
 ///
 /// # Errors
-/// `Usage` where the bytes are not UTF-8, and else what [`SpiffeId::read`] reports.
+/// `Usage` if the bytes are not UTF-8; otherwise what [`SpiffeId::read`] reports.
 pub(crate) fn endpoint_of(alloc: Global, bytes: &[u8]) -> Result<SpiffeId, CallError>
     ensures { MatchResult result
         (λ id. (id.text ≡ bytes.now) × IsId id)

@@ -9,13 +9,13 @@ use fed_config::Config;
 use std::alloc::Global;
 
 /// A replica of the configuration that the bytes say: with what the snapshot holds, or with nothing
-/// where there are no bytes of a snapshot.
+/// if there are no bytes of a snapshot.
 ///
 /// # Errors
-/// There is no replica then. Of these the first that holds:
-/// - [`CallError::Config`]: the bytes are no configuration,
-/// - [`CallError::Sync`]: the snapshot is none of this configuration,
-/// - [`CallError::NoMemory`]: memory ran out, where the two above do not say so.
+/// There is no replica then. The first of these that holds:
+/// - [`CallError::Config`]: the bytes are not a configuration,
+/// - [`CallError::Sync`]: the snapshot is not one of this configuration,
+/// - [`CallError::NoMemory`]: memory ran out, if neither of the two above is reported.
 pub fn open_bytes<C: Closure>(alloc: Global, config: &[u8], snapshot: &[u8]) -> Result<C, CallError>
     ensures { MatchResult result
         (λ c. OpensBytes config.now snapshot.now (C.state c).meaning)

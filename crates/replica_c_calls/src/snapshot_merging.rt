@@ -15,7 +15,7 @@ use std::alloc::Global;
 /// not held.
 ///
 /// # Errors
-/// What is held stays. Of these the first that holds:
+/// What is held is as before. The first of these that holds:
 /// - [`CallError::Sync`]: the bytes are not a snapshot of this configuration,
 /// - [`CallError::Take`]: what it holds is refused, as [`Closure::merge`] reports it,
 /// - [`CallError::NoMemory`]: memory ran out before the snapshot was read.

@@ -18,8 +18,8 @@ enum AskInput {
     Ended(u8),
 }
 
-/// Hands the words and what the command reads to the replica that listens at the path, and writes
-/// what it replies. It waits for each reply for this many seconds.
+/// Hands the arguments and what the command reads to the replica that listens at the path, and
+/// writes what it replies. It waits for each reply for this many seconds.
 pub fn ask_running(
     rt: &HostRuntime,
     call: &Call<'_>,
@@ -58,7 +58,8 @@ pub(crate) fn ask_for<W: Write>(
     }
 }
 
-// What the command reads: a file that the words name, what another side holds, or standard input.
+// What the command reads: a file that the arguments name, what another side holds, or standard
+// input.
 fn input_of(rt: &HostRuntime, call: &Call<'_>, wait_seconds: u64) -> Result<AskInput, Exit> {
     let with = given(call, OptionName::With);
     if let (CommandName::Diff, Some(path)) = (call.name, with) {

@@ -1,5 +1,5 @@
-//! The other side of a local request: the words and the input go to the replica, and its reply
-//! goes to the standard streams. A replica that is stopped or stuck is waited for only so long.
+//! The other side of a local request: the arguments and the input go to the replica, and its reply
+//! goes to the standard streams. The wait for a stopped or stuck replica has a limit.
 use fedbundle::FileFault;
 use memchr::memchr;
 use replica_sockets::too_long;
@@ -17,7 +17,7 @@ use std::{io, thread};
 pub struct LocalRequest<'a> {
     /// The path of the socket.
     pub path: &'a str,
-    /// Its words.
+    /// Its arguments.
     pub words: &'a [&'a str],
     /// Its input.
     pub input: &'a [u8],
@@ -32,7 +32,7 @@ pub enum AskFault {
     NoReplica,
     /// The reply was not there in time.
     NoReply,
-    /// The system refuses access to the socket, or takes its path for none.
+    /// The system refuses access to the socket, or its path is not one that the system takes.
     Socket(FileFault),
     /// A stream failed.
     Io,
@@ -52,7 +52,7 @@ impl<T: Drop> From<AllocFailed<T>> for AskFault {
     }
 }
 
-/// How many bytes are read or written at once.
+/// How many bytes are read or written together.
 const PIECE_BYTES: usize = 65_536;
 
 /// How often a connect, a read or a write is begun again.
@@ -61,8 +61,8 @@ const MAX_TRIES: u64 = 1 << 48;
 /// How long a connect waits before it tries again, while too many clients wait at the socket.
 const PAUSE_MILLIS: u64 = 20;
 
-/// Sends the words and the input to the replica that listens on the socket, writes its reply's two
-/// streams, and returns its exit status. Nothing is written unless the whole reply came.
+/// Sends the arguments and the input to the replica that listens on the socket, writes its reply's
+/// two streams, and returns its exit status. Nothing is written unless the whole reply came.
 ///
 /// # Errors
 /// A change may have been made all the same, unless nobody listens.
@@ -94,7 +94,7 @@ fn exchange<R: Net + Clock>(
 ) -> Result<Vec<u8>, AskFault> {
     let deadline = Deadline::after(rt, request.wait_seconds)?;
     let mut stream = connect(rt, request.path, &deadline)?;
-    // Where the replica refuses the request before it has read all of it, its reply says so.
+    // If the replica refuses the request before it has read all of it, its reply says so.
     if write_all(rt, &mut stream, line, &deadline)?
         && write_all(rt, &mut stream, request.input, &deadline)?
     {
@@ -252,7 +252,7 @@ fn give<O: Write, E: Write>(
     Ok(head.status)
 }
 
-// Standard output and standard error, where all of both came.
+// Standard output and standard error, if all of both came.
 fn streams_of(head: ReplyHead, rest: &[u8]) -> Option<(&[u8], &[u8])> {
     let output = usize::try_from(head.output).ok()?;
     let errors = usize::try_from(head.errors).ok()?;

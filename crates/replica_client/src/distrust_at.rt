@@ -28,7 +28,7 @@ enum KeyList {
 }
 
 /// Asks for the record, or for one for each known key with the public key, and prints which keys of
-/// the domain have the public key of a distrusted one, where more is to be printed.
+/// the domain have the public key of a distrusted one, if more is to be printed.
 pub fn ask_distrust(
     rt: &HostRuntime,
     call: &Call<'_>,
@@ -200,7 +200,7 @@ fn listed_key(value: &Value) -> Option<ListedKey<'_>> {
     })
 }
 
-// Prints a line for each accepted bundle and each key that it lists, where that is not distrusted,
+// Prints a line for each accepted bundle and each key that it lists, if that is not distrusted,
 // though a key with its public key is, or would be.
 fn show_same(rt: &HostRuntime, call: &Call<'_>, path: &str, wait_seconds: u64) -> Result<u8, Exit> {
     let keys = match list(rt, call, path, wait_seconds)? {
@@ -238,7 +238,7 @@ fn push_lines(lines: &mut String, domain: &str, known: &ListedKey<'_>) -> Result
     Ok(())
 }
 
-// Rising, so that one is looked up.
+// Sorted, so that one can be looked up.
 fn distrusted_public_keys<'a>(
     alloc: Global,
     call: &Call<'_>,
@@ -263,7 +263,7 @@ fn has_one_of(public_keys: &[&str], wanted: Option<&str>) -> bool {
     }
 }
 
-// It is distrusted, or the words ask for that.
+// It is distrusted, or the arguments ask for it.
 fn is_distrusted(call: &Call<'_>, known: &ListedKey<'_>) -> bool {
     let is_named = given(call, OptionName::OptionalKey) == Some(known.key);
     let digest = given(call, OptionName::PublicKey);

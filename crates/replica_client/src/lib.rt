@@ -1,8 +1,8 @@
 //! The commands with `--at`: a running replica carries them out.
 //!
-//! `client` is the other side of a local request: it sends the words and the input, and gets the
-//! reply. `at_replica` makes the request of a command, and `distrust_at` the several requests of
-//! `distrust`. Of the system's sockets no clause says anything: proved here is safety.
+//! `client` is the other side of a local request: it sends the arguments and the input, and gets
+//! the reply. `at_replica` makes the request of a command, and `distrust_at` the several requests
+//! of `distrust`. No clause says anything of the system's sockets: only safety is proved here.
 #![tactic(auto)]
 
 mod at_replica;

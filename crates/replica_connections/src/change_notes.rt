@@ -12,14 +12,14 @@ use std::alloc::Global;
 /// A request that may change what is held, before it is carried out.
 #[derive(Clone, Copy, Debug)]
 pub(crate) struct ComingChange {
-    // Its command, where it has one.
+    // Its command, if it has one.
     name: Option<CommandName>,
     // How many documents are accepted, of a record of distrust.
     accepted: u64,
 }
 
 impl ComingChange {
-    /// The request with this line of words, at a replica that holds this.
+    /// The request with this line of arguments, at a replica that holds this.
     pub(crate) fn of<C: Closure>(alloc: Global, closure: &C, line: &[u8]) -> ComingChange {
         let name = name_of(alloc, line);
         let accepted = match name {
@@ -29,8 +29,8 @@ impl ComingChange {
         ComingChange { name, accepted }
     }
 
-    /// What is reported of it, where it changed something: the lines are what the journal gets for
-    /// it, and the closure is what is held now.
+    /// What is reported of it, if it changed something: the lines are what the journal gets for it,
+    /// and the closure is what is held now.
     pub(crate) fn made<C: Closure>(
         self,
         alloc: Global,

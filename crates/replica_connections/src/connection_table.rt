@@ -14,9 +14,9 @@ use std::io;
 use std::net::SocketAddr;
 use std::time::{Clock, Duration, Instant};
 
-/// The most connections at once: those of this machine, those on which pages are asked for, those
-/// on which other replicas ask, one with each peer, and some on which is only replied that there
-/// are too many.
+/// The most connections at the same time: those of this machine, those on which pages are asked
+/// for, those on which other replicas ask, one with each peer, and some on which is only replied
+/// that there are too many.
 const MOST_CONNECTIONS: usize = 160;
 
 const MOST_LOCAL: usize = 64;
@@ -94,7 +94,7 @@ impl ConnectionTable {
         live.filter(|conn| is_of(conn, group)).count()
     }
 
-    /// Where as many other replicas ask as there may, one of them gives way.
+    /// If as many other replicas ask as may, one of them gives way.
     pub fn make_served_room(&mut self, now: Instant) {
         if self.count(Group::Served) < MOST_SERVED {
             return;
@@ -104,7 +104,7 @@ impl ConnectionTable {
         }
     }
 
-    /// Where as many pages are asked for as may be, a request gives way that has not come whole.
+    /// If as many pages are asked for as may be, a request that has not come whole gives way.
     pub fn make_page_room(&mut self, now: Instant) {
         if self.count(Group::Pages) < MOST_PAGES {
             return;
@@ -122,8 +122,8 @@ impl ConnectionTable {
         }
     }
 
-    /// Where there are as many requests of this machine as there may be, one gives way that has not
-    /// come whole. Returns whether there is room for one more.
+    /// If there are as many requests of this machine as there may be, one that has not come whole
+    /// gives way. Returns whether there is room for one more.
     pub fn make_local_room(&mut self, alloc: Global, now: Instant) -> bool {
         if self.count(Group::Local) < MOST_LOCAL {
             return true;
@@ -182,7 +182,7 @@ impl ConnectionTable {
         }
     }
 
-    /// How long until there is something to do, where nothing comes.
+    /// How long until there is something to do, if nothing comes.
     pub fn time_left(&self, now: Instant) -> Option<Duration> {
         self.connections.iter().map(|conn| time_of(conn, now)).min()
     }
@@ -204,7 +204,7 @@ impl ConnectionTable {
         ByteRoom::new(self.most_request_bytes, held)
     }
 
-    /// Which work comes after the short one, where some waits.
+    /// Which work comes after the short one, if some waits.
     pub fn work_after_short(&mut self) -> Option<Work> {
         let has_long = self.has_work(Work::Long);
         let has_change = self.has_work(Work::Change);
@@ -351,7 +351,7 @@ fn is_of(conn: &LiveConnection, group: Group) -> bool {
     }
 }
 
-// Whether the time of one turn is over. Where the clock fails it is.
+// Whether the time of one turn is over. If the clock fails, it is.
 fn is_time_over<R: Clock>(rt: &R, begun: &io::Result<Instant>) -> bool {
     match (begun, Instant::now(rt)) {
         (Ok(begun), Ok(now)) => now.duration_since(*begun) >= Duration::from_millis(MILLIS_A_TURN),

@@ -220,7 +220,7 @@ impl LiveConnection {
                 Ok(0)
             }
             Progress::Interrupted => Ok(0),
-            Progress::Failed => Err(Ending::Fault(SyncError::Io)),
+            Progress::Failed => Err(self.talk.broken()),
         }
     }
 
@@ -287,7 +287,7 @@ impl LiveConnection {
             }
             Progress::Blocked => self.can_write = false,
             Progress::Interrupted => {}
-            Progress::Failed => self.ending = Some(Ending::Fault(SyncError::Io)),
+            Progress::Failed => self.ending = Some(self.talk.broken()),
         }
         0
     }

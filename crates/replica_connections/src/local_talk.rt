@@ -21,7 +21,7 @@ pub struct Surroundings<'a> {
     pub pages: PageSource<'a>,
 }
 
-/// The reply where a change could not be put on the disk. It takes no memory.
+/// The reply if a change could not be put on the disk. It takes no memory.
 static DISK_FAILED: &[u8] = b"{\"errors\":17,\"output\":0,\"status\":3}\nfedbundle: S9 Io\n";
 
 /// One request and its reply.
@@ -89,7 +89,7 @@ impl LocalTalk {
         self.held
     }
 
-    /// Takes bytes of the request. Where they are too many, that is replied at once.
+    /// Takes bytes of the request. If there are too many, the reply says so immediately.
     pub fn take(&mut self, alloc: Global, piece: &[u8], room: &mut ByteRoom) {
         let count = piece.len() as u64;
         if !room.take(count) {
@@ -151,7 +151,7 @@ impl LocalTalk {
         }
     }
 
-    // The request as one that may change something, where it is one.
+    // The request as one that may change something, if it is one.
     fn coming<C: Closure>(&self, alloc: Global, closure: &C) -> Option<ComingChange> {
         if self.work() != Some(Work::Change) {
             return None;
@@ -182,7 +182,7 @@ impl LocalTalk {
         self.change.as_ref()
     }
 
-    // Where there is no room for the reply, and nothing was changed, it is refused.
+    // If there is no room for the reply, and nothing was changed, it is refused.
     fn reply_within(&mut self, alloc: Global, reply: Reply, mut room: ByteRoom) {
         let bytes = bytes_of(&reply);
         let shows_only = reply.journal.is_empty() && !reply.ends;
@@ -270,7 +270,7 @@ impl LocalTalk {
         }
     }
 
-    /// So many bytes of the output were sent, or all where there are no more.
+    /// This many bytes of the output were sent, or all if there are no more.
     pub fn wrote(&mut self, count: usize) {
         match &mut self.answer {
             LocalAnswer::Awaited | LocalAnswer::Due(_) => {}

@@ -65,7 +65,7 @@ impl PageTalk {
         }
     }
 
-    /// Nothing more comes. Where nothing came at all, nothing is replied.
+    /// Nothing more comes. If nothing came at all, nothing is replied.
     pub fn end_input(&mut self) {
         self.answer = match self.held {
             0 => PageReply::Fixed(b"".as_slice()),
@@ -118,7 +118,7 @@ impl PageTalk {
         }
     }
 
-    // Where there is no room for the response, it is refused.
+    // If there is no room for the response, it is refused.
     fn reply_within(&mut self, alloc: Global, sending: ResponseSending, mut room: ByteRoom) {
         let bytes = sending.bytes();
         if room.take(bytes) {
@@ -143,7 +143,7 @@ impl PageTalk {
         }
     }
 
-    /// So many bytes of the output were sent, or all where there are no more.
+    /// This many bytes of the output were sent, or all if there are no more.
     pub fn wrote(&mut self, count: usize) {
         match &mut self.answer {
             PageReply::Awaited | PageReply::Due(_) => {}

@@ -8,8 +8,8 @@ use std::alloc::Global;
 /// The flag of a request that only shows what a change would do.
 const DRY_RUN: &str = "--dry-run";
 
-/// What a request with this line of words is. Words that cannot be read are answered soon: the
-/// reply says so.
+/// Which work a request with this line of arguments is. Arguments that cannot be read are answered
+/// soon: the reply says so.
 pub(crate) fn work_of(alloc: Global, line: &[u8]) -> Work {
     let Ok(words) = read_request_words(alloc, line) else {
         return Work::Short;

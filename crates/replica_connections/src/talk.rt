@@ -5,6 +5,7 @@ use crate::page_talk::PageTalk;
 use closure_core::Closure;
 use fair_turns::{ByteRoom, Work};
 use peer_talks::{Ending, HeldState, PullTalk, ServedTalk};
+use replica_sync::SyncError;
 use std::alloc::{AllocError, Global};
 
 /// What is said on a connection. Bytes that come are given to it, and what is to be written is
@@ -89,7 +90,7 @@ impl Talk {
                 talk.answer(alloc, held, around);
                 Ok(())
             }
-            Talk::Served(talk) => talk.go_on(alloc, &held.closure),
+            Talk::Served(talk) => talk.go_on(alloc, held),
             Talk::Pull(talk) => talk.go_on(alloc, held),
         }
     }
@@ -110,6 +111,14 @@ impl Talk {
                 Ok(())
             }
             Talk::Pull(talk) => talk.end_input(),
+        }
+    }
+
+    /// How it ends if the connection fails.
+    pub(crate) fn broken(&self) -> Ending {
+        match self {
+            Talk::Pull(talk) => talk.broken(),
+            Talk::Local(_) | Talk::Page(_) | Talk::Served(_) => Ending::Fault(SyncError::Io),
         }
     }
 

@@ -16,17 +16,17 @@ with-append : (xs ys : List Entry) (m : Meaning) → with_entries (xs ++ ys) m �
 with-append [] ys m = refl
 with-append (x ∷ xs) ys m = with-append xs ys (with_entry x m)
 
--- Where a list is welcome, and another once that is held, both together are.
+-- If a list is welcome, and another once that is held, both together are.
 pub welcome-append : (m : Meaning) (xs ys : List Entry) → AreWelcome m xs → AreWelcome (with_entries xs m) ys → AreWelcome m (xs ++ ys)
 welcome-append m [] ys front back = back
 welcome-append m (x ∷ xs) ys front back = (front.0, welcome-append (with_entry x m) xs ys front.1 back)
 
--- Where both together are welcome, the first list is.
+-- If both together are welcome, the first list is.
 pub welcome-front : (m : Meaning) (xs ys : List Entry) → AreWelcome m (xs ++ ys) → AreWelcome m xs
 welcome-front m [] ys all = tt
 welcome-front m (x ∷ xs) ys all = (all.0, welcome-front (with_entry x m) xs ys all.1)
 
--- Where both together are welcome, the second list is once the first is held.
+-- If both together are welcome, the second list is once the first is held.
 pub welcome-back : (m : Meaning) (xs ys : List Entry) → AreWelcome m (xs ++ ys) → AreWelcome (with_entries xs m) ys
 welcome-back m [] ys all = all
 welcome-back m (x ∷ xs) ys all = welcome-back (with_entry x m) xs ys all.1

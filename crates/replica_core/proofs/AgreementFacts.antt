@@ -82,7 +82,7 @@ quiet-admits_all rules P Q place (Join i j) h = tt
 quiet-admits_all rules P Q place (Save i) h = tt
 quiet-admits_all rules P Q place (Restart i) h = tt
 
--- what is known of the world where the quiet begins
+-- what is known of the world when the quiet begins
 pub record IsStart (rules : Rules) (w : World) : Type 0 where
   pub forms : IsKept IsReceipt IsDistrust 0 ⊤ w
   pub tidy : Throughout (λ i state. IsTidy state) w

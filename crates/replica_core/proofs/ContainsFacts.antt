@@ -13,7 +13,7 @@ contains-here y ys = (0, omega arith, refl)
 pub contains-later : {X : Type 0} (y : X) (ys : List X) (x : X) → Contains ys x → Contains (y ∷ ys) x
 contains-later y ys x c = (suc c.0, omega (arith, c.1), c.2)
 
--- What a list contains is its first item or stands in the rest.
+-- What a list contains is its first item or is in the rest.
 pub contains-cases : {X : Type 0} (y : X) (ys : List X) (x : X) → Contains (y ∷ ys) x → (x ≡ y) ⊎ Contains ys x
 contains-cases y ys x c =
     elim (cases_eq c.0 0) [
@@ -103,7 +103,7 @@ map-to f (z ∷ zs) x c =
       | inr d ↦ contains-later (f z) (map f zs) (f x) (map-to f zs x d)
     ]
 
--- Where the test of the list passes, an item of it does.
+-- If the test of the list passes, an item of it does.
 pub any-from : {X : Type 0} (p : X → Bool) (xs : List X) → list_any p xs ≡ true → (x : X) × Contains xs x × (p x ≡ true)
 any-from p [] e = absurd (let f : false ≡ true = e in cc)
 any-from p (y ∷ ys) e =
@@ -114,7 +114,7 @@ any-from p (y ∷ ys) e =
 
 -- ---- messages by their places
 
--- What stands in a list with one more item stood there or is the new item.
+-- What is in a list with one more item was there or is the new item.
 pub get-cases : {X : Type 0} (xs : List X) (y : X) (n : ℕ) (x : X) → slice_get (xs ++ y ∷ []) n ≡ Some x
     → (slice_get xs n ≡ Some x) ⊎ ((n ≡ length xs) × (x ≡ y))
 get-cases [] y zero x e = inr (refl, let s : Some y ≡ Some x = e in cc)
@@ -129,7 +129,7 @@ get-kept [] ys n x e = absurd (let s : None ≡ Some x = e in cc)
 get-kept (z ∷ zs) ys zero x e = e
 get-kept (z ∷ zs) ys (suc n) x e = get-kept zs ys n x e
 
--- The new item stands at the old length.
+-- The new item is at the old length.
 pub get-new : {X : Type 0} (xs : List X) (y : X) → slice_get (xs ++ y ∷ []) (length xs) ≡ Some y
 get-new [] y = refl
 get-new (z ∷ zs) y = get-new zs y

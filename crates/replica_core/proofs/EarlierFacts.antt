@@ -42,7 +42,7 @@ any_same : {T : Type 0} (p q : T → Bool) → ((y : T) → p y ≡ q y) → (xs
 any_same p q e [] = refl
 any_same p q e (y ∷ ys) = ap (λ b. b || list_any p ys) (e y) ∙ ap (λ b. q y || b) (any_same p q e ys)
 
--- The last of three tests may stand between the others.
+-- The last of three tests may come between the others.
 or_middle : (a b c : Bool) → (a || (b || c)) ≡ ((a || c) || b)
 or_middle false false false = refl
 or_middle false false true = refl
@@ -50,13 +50,13 @@ or_middle false true false = refl
 or_middle false true true = refl
 or_middle true b c = refl
 
--- A test adds nothing to one that passes wherever it does.
+-- A test adds nothing to one that passes if it does.
 or_within : (a b : Bool) → (b ≡ true → a ≡ true) → a ≡ (a || b)
 or_within false false h = refl
 or_within false true h = h refl
 or_within true b h = refl
 
--- A list passes a test where its front or the rest does.
+-- A list passes a test if its front or the rest does.
 any_parts : {T : Type 0} (p : T → Bool) (xs : List T) (n : ℕ) → list_any p xs ≡ (list_any p (take n xs) || list_any p (drop n xs))
 any_parts p [] zero = refl
 any_parts p [] (suc n) = refl
@@ -94,7 +94,7 @@ module _ {T : Type 0} (cmp : T → T → Ordering) (total : IsTotalOrder cmp) (i
         | inr high ↦ ap is_eq (here.after k d (omega arith) h)
       ])) ∙ noted.same x
 
-  -- One item more has come before where it is equal to the next or one was before.
+  -- With one item more, an item has come before if it is equal to that one or came before.
   next_has : (z : T) → slice_get items count ≡ Some x → count < length items
       → has_equal cmp (take (count + 1) items) z ≡ (has_equal cmp (take count items) z || eq_by_cmp cmp x z)
   next_has z e h =
@@ -116,7 +116,7 @@ module _ {T : Type 0} (cmp : T → T → Ordering) (total : IsTotalOrder cmp) (i
         ∙ sym (next_has z e h);
   }
 
-  -- The number of an item that is not equal to one before it goes where the search ended.
+  -- The number of an item that is not equal to one before it goes to the end of the search.
   pub noted-more : (place : ℕ) → slice_get items count ≡ Some x → count < length items → place ≤ length numbers
       → IsMissing (λ n. compared_at (λ y. cmp y x) items n) numbers place → AreNoted cmp items (count + 1) (insert numbers place count)
   noted-more place e h low missing =
@@ -153,7 +153,7 @@ module _ {T : Type 0} (cmp : T → T → Ordering) (total : IsTotalOrder cmp) (i
             ]
           ]
 
--- The numbers with one more, where there was memory for it.
+-- The numbers with one more, if there was memory for it.
 pub noted-if : {T : Type 0} (cmp : T → T → Ordering) (items : List T) (count : ℕ) (numbers : List ℕ) (order : Option Sequence)
     → IfSome order (λ o. o.items ≡ numbers) → AreNoted cmp items count numbers → IfSome order (λ o. AreNoted cmp items count o.items)
 noted-if cmp items count numbers None e noted = tt

@@ -37,7 +37,7 @@ at-here i state states = ap (λ b. cond b state (states i)) (eq-eqb i i refl)
 pub at-other : (i k : ℕ) (state : State) (states : ℕ → State) → i ≢ k → at_replica k state states i ≡ states i
 at-other i k state states d = ap (λ b. cond b state (states i)) (ne_eqb i k d)
 
--- Where one replica's state grows, no replica's shrinks.
+-- If one replica's state grows, no replica's shrinks.
 part-at : (i k : ℕ) (state : State) (states : ℕ → State) → IsPartOf (states k) state → IsPartOf (states i) (at_replica k state states i)
 part-at i k state states p =
     elim (cases_eq i k) [
@@ -45,7 +45,7 @@ part-at i k state states p =
       | inr d ↦ subst (IsPartOf (states i)) (sym (at-other i k state states d)) (part-refl (states i))
     ]
 
--- Where a replica gains, no replica's state shrinks, whether the gain is within the limits or not.
+-- If a replica gains, no replica's state shrinks, whether the gain is within the limits or not.
 part-gained : (b : Bool) (w : World) (i k : ℕ) (state : State) → IsPartOf (w.now k) state → IsPartOf (w.now i) ((gained b w k state).now i)
 part-gained true w i k state p = part-at i k state w.now p
 part-gained false w i k state p = part-refl (w.now i)

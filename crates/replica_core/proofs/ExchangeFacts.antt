@@ -49,13 +49,13 @@ absorbed-is rules w i j n k content l e t =
     ∙ ap (λ (f : Option Message). apply w (takes_whole i f)) e
     ∙ ap (λ (b : Bool). gained b w i (joined (w.now i) content)) t
 
--- the have stands at its place
+-- the have is at its place
 pub asked-here : (rules : Rules) (w : World) (i b : ℕ) → i < rules.replicas → b ≤ 255
     → slice_get (happens rules w (Ask i b)).sent (length w.sent) ≡ Some (have_sent i b (ids_held (w.now i) b))
 asked-here rules w i b l m =
     ap (λ (v : World). slice_get v.sent (length w.sent)) (asked-is rules w i b l m) ∙ get-new w.sent (have_sent i b (ids_held (w.now i) b))
 
--- The answer stands at its place.
+-- The answer is at its place.
 answered-here : (rules : Rules) (w : World) (i j b k : ℕ) (ids : List (List ℕ)) → j < rules.replicas → slice_get w.sent k ≡ Some (have_sent i b ids)
     → slice_get (happens rules w (Answer j k)).sent (length w.sent) ≡ Some (give_sent j k (content_of (w.now j) b ids))
 answered-here rules w i j b k ids l e =

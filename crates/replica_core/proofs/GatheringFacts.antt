@@ -3,8 +3,8 @@ use Rattle.std.proofs.Common.{◌≡◌, ◌≢◌, ℕ, suc, ◌+◌, ◌<◌, 
 use Rattle.std.proofs.Common.{length-append, take, drop, get_or, refl, sym, ap, ◌∙◌, subst, arith, append_assoc, append-nil, leb-true, le-leb}
 use Rattle.std.proofs.Math.Seq.{take-suc, drop-cons}
 use Rattle.std.proofs.lemmas.List.{take-append-drop}
-use Rattle.std.specs.Prelude.{Contains, Ok, Err, Result, bytes_eq}
-use Rattle.std.specs.List.{AllByRecursion, list_any}
+use Rattle.std.specs.Prelude.{Contains, Ok, Err, Option, Some, Result, bytes_eq}
+use Rattle.std.specs.List.{AllByRecursion, list_any, list_all}
 use Rattle.std.specs.List.Sorted.{IsStrictlySortedBy}
 use Rattle.std.specs.Cmp.{IsTotalOrder, tied_itself}
 use Rattle.std.specs.declared.cmp.Ordering.{Ordering}
@@ -12,7 +12,8 @@ use Rattle.std.specs.declared.cmp.Ordering.TheVariants.{Less, Equal, Greater}
 use Rattle.std.proofs.lemmas.Bool.{cases_Bool, and_parts, and_from}
 use Rattle.std.proofs.lemmas.Slice.Eq.{bytes_eq-Decides}
 use Rattle.spiffe_name.specs.SpiffeId.{Id}
-use Rattle.fed_config.specs.Configuration.{Configuration, IsConfiguration, HasDomain, config_id_of}
+use Rattle.fed_config.specs.Configuration.{Configuration, IsConfiguration, HasDomain, Reaches, config_id_of}
+use Rattle.fed_config.specs.declared.floor.Floor.{Floor}
 use Rattle.fed_config.specs.declared.relationship.Relationship.{Relationship}
 use Rattle.fed_config.specs.declared.seed.Seed.{Seed}
 use Rattle.receipt_core.specs.declared.distrust.Distrust.{Distrust}
@@ -24,7 +25,7 @@ use Rattle.receipt_core.proofs.RisingFacts.{turned}
 use Rattle.closure_core.specs.Changes.{HeldAndRoom as Closed, empty_of, TakesOk, TakesDistrust, HasRefused, HasRefusedMerge}
 use Rattle.closure_core.specs.Refusals.{RefusesReceipt, RefusesDistrust, RefusesMerge, AreTooMany}
 use Rattle.closure_core.specs.declared.error.TakeError.{TakeError}
-use Rattle.closure_core.specs.declared.error.TakeError.TheVariants.{UnknownDomain, WrongEndpoint, Full, NoMemory, ConfigDiffers}
+use Rattle.closure_core.specs.declared.error.TakeError.TheVariants.{UnknownDomain, WrongEndpoint, BelowFloor, Full, NoMemory, ConfigDiffers}
 use Rattle.closure_core.specs.declared.outcome.Refused.{Refused}
 use Rattle.closure_core.specs.declared.outcome.Taken.{Taken}
 use Rattle.closure_core.specs.declared.outcome.Taken.TheVariants.{New as TakenNew, Already as TakenAlready}
@@ -32,15 +33,15 @@ use Rattle.closure_core.specs.declared.outcome.Distrusted.{Distrusted}
 use Rattle.closure_core.specs.declared.outcome.Distrusted.TheVariants.{New as DistrustedNew, Already as DistrustedAlready}
 use Rattle.replica_core.specs.State.{no_state, joined, is_within_limits, meaning_of_state}
 use Rattle.replica_core.specs.Session.{state_of}
-use Rattle.replica_core.specs.World.{same_id, is_fitting, is_known}
+use Rattle.replica_core.specs.World.{same_id, is_reached, is_fitting, is_known}
 use Rattle.replica_core.specs.Inside.Playing.{grown, CanHold, CanHoldRecords}
-use Rattle.replica_core.proofs.ContainsFacts.{contains-cases, contains-none, each-from}
+use Rattle.replica_core.proofs.ContainsFacts.{contains-cases, contains-here, contains-later, contains-none, each-from}
 use Rattle.replica_core.proofs.RisingListFacts.{all_back, at_end, rising_head, rising_tail}
-use Rattle.replica_core.proofs.FitFacts.{fits_right}
+use Rattle.closure_core.proofs.FitFacts.{fits_right, fits_above}
 
 -- ---- what fits and what is known passes the tests of a world
 
--- Where an item of the list passes, the test of the list does.
+-- If an item of the list passes, the test of the list does.
 any-to : {X : Type 0} (p : X → Bool) (xs : List X) (x : X) → Contains xs x → p x ≡ true → list_any p xs ≡ true
 any-to p [] x c e = absurd (contains-none x c)
 any-to p (y ∷ ys) x c e =
@@ -61,13 +62,37 @@ same-id-to a b e =
     ((bytes_eq-Decides a.domain b.domain).1 (ap (λ (i : Id). i.domain) e)))
     ((bytes_eq-Decides a.path b.path).1 (ap (λ (i : Id). i.path) e))
 
+-- Where each item of the list passes, the test of the list does.
+all-to : {X : Type 0} (p : X → Bool) (xs : List X) → ((x : X) → Contains xs x → p x ≡ true) → list_all p xs ≡ true
+all-to p [] each = refl
+all-to p (x ∷ xs) each = and_from (p x) (list_all p xs) (each x (contains-here x xs)) (all-to p xs (λ y has. each y (contains-later x xs y has)))
+
+-- A rank that reaches a number passes the world's test.
+reached-to : (sequence : ℕ) (rank : Option ℕ) → (n : ℕ) × (rank ≡ Some n) × (sequence ≤ n) → is_reached sequence rank ≡ true
+reached-to sequence rank reaches =
+    subst (λ (o : Option ℕ). is_reached sequence o ≡ true) (sym reaches.1) (le-leb sequence reaches.0 reaches.2)
+
+-- A floor that is reached where it is of the domain passes the world's test.
+floor-to : (f : Floor) (r : Receipt) → (f.domain ≡ r.domain → Reaches f.sequence r.document)
+    → cond (bytes_eq f.domain r.domain) (is_reached f.sequence r.document.rank) true ≡ true
+floor-to f r reaches = elim (cases_Bool (bytes_eq f.domain r.domain)) [
+  | inl same ↦
+      ap (λ b. cond b (is_reached f.sequence r.document.rank) true) same
+      ∙ reached-to f.sequence r.document.rank (reaches ((bytes_eq-Decides f.domain r.domain).0 same))
+  | inr other ↦ ap (λ b. cond b (is_reached f.sequence r.document.rank) true) other
+]
+
 -- A receipt that fits passes the world's test.
 pub fits-to : (config : Configuration) (r : Receipt) → IsFitting config r → is_fitting config r ≡ true
 fits-to config r fits =
-    any-to (λ (o : Relationship). bytes_eq o.domain r.domain && same_id o.endpoint r.endpoint) config.relationships fits.relationship fits.has
+    and_from (list_any (λ (o : Relationship). bytes_eq o.domain r.domain && same_id o.endpoint r.endpoint) config.relationships)
+    (list_all (λ (f : Floor). cond (bytes_eq f.domain r.domain) (is_reached f.sequence r.document.rank) true) config.floors)
+    (any-to (λ (o : Relationship). bytes_eq o.domain r.domain && same_id o.endpoint r.endpoint) config.relationships fits.relationship fits.has
     (and_from (bytes_eq fits.relationship.domain r.domain) (same_id fits.relationship.endpoint r.endpoint)
     ((bytes_eq-Decides fits.relationship.domain r.domain).1 fits.domain)
-    (same-id-to fits.relationship.endpoint r.endpoint fits.endpoint))
+    (same-id-to fits.relationship.endpoint r.endpoint fits.endpoint)))
+    (all-to (λ (f : Floor). cond (bytes_eq f.domain r.domain) (is_reached f.sequence r.document.rank) true) config.floors
+    (λ f has. floor-to f r (fits.reaches f has)))
 
 -- A test that finds one of three finds them.
 known-to : (a b c : Bool) → (a ≡ true) ⊎ ((b ≡ true) ⊎ (c ≡ true)) → cond a true (cond b true c) ≡ true
@@ -94,7 +119,7 @@ knows-to config domain h =
 
 -- ---- lists that rise
 
--- In a rising list each item is above all before it.
+-- In a sorted list each item is above all before it.
 above-seen : {A : Type 0} (cmp : A → A → Ordering) → IsTotalOrder cmp → (x : A) (seen later : List A)
     → IsStrictlySortedBy cmp (seen ++ x ∷ later) → AllByRecursion (λ y. cmp x y ≡ Greater) seen
 above-seen cmp total x [] later rising = tt
@@ -103,7 +128,7 @@ above-seen cmp total x (y ∷ seen) later rising = (
   above-seen cmp total x seen later (rising_tail cmp y (seen ++ x ∷ later) rising),
 )
 
--- In a rising list no item comes twice.
+-- In a sorted list no item comes twice.
 not-seen : {A : Type 0} (cmp : A → A → Ordering) → IsTotalOrder cmp → (x : A) (seen later : List A)
     → IsStrictlySortedBy cmp (seen ++ x ∷ later) → Contains seen x → ⊥
 not-seen cmp total x seen later rising c =
@@ -127,12 +152,13 @@ all-next cmp total (x ∷ items) seen rising =
 
 -- ---- what refuses
 
--- what may be held is refused only where memory ran out
+-- what may be held is refused only if memory ran out
 refusal-none : (old : Closed) (r : Receipt) (why : TakeError) → IsConfiguration old.meaning.config
     → RefusesReceipt old.meaning old.room r why → why ≢ NoMemory → IsFitting old.meaning.config r
     → length old.meaning.held < 65536 → ⊥
 refusal-none old r UnknownDomain is h other fits few = h fits.relationship fits.has fits.domain
 refusal-none old r WrongEndpoint is h other fits few = fits_right old.meaning.config r is fits h
+refusal-none old r BelowFloor is h other fits few = fits_above old.meaning.config r fits h
 refusal-none old r Full is h other fits few = let full = h.full in omega arith
 refusal-none old r NoMemory is h other fits few = other refl
 refusal-none old r ConfigDiffers is h other fits few = h
@@ -163,7 +189,7 @@ next-taken old new r s (TakenNew n) later e h can =
 next-taken old new r s TakenAlready later e h can =
     absurd (not-seen receipt_cmp receipt_total r old.meaning.held later can.rising (subst (Contains old.meaning.held) e h.held))
 
--- The next receipt of a list that can be held is refused for lack of memory alone.
+-- The next receipt of a list that can be held is refused only for lack of memory.
 pub next-refused : (old new : Closed) (r s : Receipt) (refused : Refused) (later : List Receipt) → s ≡ r
     → IsConfiguration old.meaning.config → HasRefused old s new refused → refused.why ≢ NoMemory
     → CanHold old.meaning.config (old.meaning.held ++ r ∷ later) → ⊥
@@ -186,6 +212,7 @@ unfit-distrusted old new x (Err why) h f = h.meaning
 record-refused : (old : Meaning) (x : Distrust) (why : TakeError) → RefusesDistrust old x why → HasDomain old.config x.domain → length old.records < 4096 → ⊥
 record-refused old x UnknownDomain h known few = h known
 record-refused old x WrongEndpoint h known few = h
+record-refused old x BelowFloor h known few = h
 record-refused old x Full h known few = let full = h.full in omega arith
 record-refused old x NoMemory h known few = h
 record-refused old x ConfigDiffers h known few = h
@@ -216,6 +243,8 @@ merge-refused m other UnknownDomain is fitting domains same h n =
     ])
 merge-refused m other WrongEndpoint is fitting domains same h n =
     absurd (fits_right m.config h.2.0 is (each-from (IsFitting m.config) other.held fitting h.2.0 h.2.1) h.2.2)
+merge-refused m other BelowFloor is fitting domains same h n =
+    absurd (fits_above m.config h.3.0 (each-from (IsFitting m.config) other.held fitting h.3.0 h.3.1) h.3.2)
 merge-refused m other Full is fitting domains same h n = h.1
 merge-refused m other NoMemory is fitting domains same h n = absurd (n refl)
 merge-refused m other ConfigDiffers is fitting domains same h n = absurd (h same)
@@ -232,7 +261,7 @@ too-many a b h =
       | inr f ↦ f
     ]
 
--- Where a merge is refused but not for lack of memory, both together are too many, so nothing is
+-- If a merge is refused but not for lack of memory, both together are too many, so nothing is
 -- gained.
 pub grow-refused : (old new : Closed) (other : Meaning) (why : TakeError) → IsConfiguration other.config
     → IsMeaning other → HasRefusedMerge old other new why → old.meaning.config ≡ other.config → why ≢ NoMemory
@@ -265,7 +294,7 @@ copy-same m copy new valid e h = h ∙ ap (λ (c : Meaning). meaning_of_state c.
 
 -- ---- one after another
 
--- A list is what stands before a place, the item there, and the rest.
+-- A list is what comes before a place, the item there, and the rest.
 front-split : {A : Type 0} (xs : List A) (k : ℕ) (x : A) → k < length xs → x ≡ get_or xs k x → take k xs ++ x ∷ drop (suc k) xs ≡ xs
 front-split xs k x l e = ap (λ rest. take k xs ++ rest) (sym (drop-cons xs k x l ∙ ap (λ y. y ∷ drop (suc k) xs) (sym e))) ∙ take-append-drop k xs
 

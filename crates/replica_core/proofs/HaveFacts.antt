@@ -33,7 +33,7 @@ bytes_of id = id.0
 abbrev pub named_cmp : ReceiptId → ReceiptId → Ordering
 named_cmp a b = slice_cmp nat_cmp a.0 b.0
 
--- ---- where an id stands
+-- ---- the place of an id
 
 -- The order of ids' bytes is total.
 id_total : IsTotalOrder id_cmp
@@ -43,7 +43,7 @@ id_total = on_texts (λ (t : List ℕ). t)
 named_total : IsTotalOrder named_cmp
 named_total = on_texts bytes_of
 
--- What stands before all ids by bytes does so as an id.
+-- What comes before all ids by bytes does so as an id.
 all-bytes : (x : ReceiptId) (ids : List ReceiptId) → AllByRecursion (λ y. id_cmp x.0 y ≡ Less) (map bytes_of ids)
     → AllByRecursion (λ y. named_cmp x y ≡ Less) ids
 all-bytes x [] a = tt
@@ -96,7 +96,7 @@ held-rising state bucket = with_items-rising id_cmp id_total (map receipt_id_of 
 
 -- ---- whether ids rise
 
--- whether the earlier id stands before the later one
+-- whether the earlier id comes before the later one
 abbrev pub below : ReceiptId → ReceiptId → Bool
 below earlier later = is_lt (named_cmp earlier later)
 
@@ -106,7 +106,7 @@ less Less e = refl
 less Equal e = absurd (let f : false ≡ true = e in cc)
 less Greater e = absurd (let f : false ≡ true = e in cc)
 
--- What stands before all ids does so by bytes.
+-- What comes before all ids does so by bytes.
 bytes-all : (x : ReceiptId) (ids : List ReceiptId) → AllByRecursion (λ y. named_cmp x y ≡ Less) ids
     → AllByRecursion (λ y. id_cmp x.0 y ≡ Less) (map bytes_of ids)
 bytes-all x [] a = tt
@@ -142,7 +142,7 @@ pub record RisesTo (ids : List ReceiptId) (place : ℕ) : Type 0 where
   pub some : 0 < place
   pub each : (k : ℕ) (d : ReceiptId) → k + 1 < place → true ≡ below (get_or ids k d) (get_or ids (k + 1) d)
 
--- Where the place is the end, all ids rise.
+-- If the place is the end, all ids rise.
 pub rises-all : (ids : List ReceiptId) (place : ℕ) → RisesTo ids place → length ids ≤ place → IsStrictlySortedBy id_cmp (map bytes_of ids)
 rises-all ids place r h = (rising_told ids true (λ k d within. r.each k d (omega arith))).0 refl
 
@@ -152,7 +152,7 @@ same-pair : (ids : List ReceiptId) (j k : ℕ) (d e : ReceiptId) → j < length 
 same-pair ids j k d e hj hk =
     ap (λ x. below x (get_or ids k d)) (get_or_default ids j d e hj) ∙ ap (below (get_or ids j e)) (get_or_default ids k d e hk)
 
--- Where one id is not below the next, the ids do not rise.
+-- If one id is not below the next, the ids do not rise.
 pub falls-at : (ids : List ReceiptId) (place : ℕ) (other : ReceiptId) → 0 < place → place < length ids
     → false ≡ below (get_or ids (place - 1) other) (get_or ids place other)
     → IsStrictlySortedBy id_cmp (map bytes_of ids) → ⊥

@@ -68,7 +68,7 @@ module _ (rs : List Receipt) (gathered sorted : List ReceiptId) (all : map bytes
       let there = map-to bytes_of (dedup same sorted) found.1 (found.0, found.2, found.3) in
       subst (Contains (map bytes_of (dedup same sorted))) (sym ((bytes_eq-Decides m.0.0 found.1.0).0 found.4) ∙ m.2) there
 
-  -- The ids that are kept are the rising list of the receipts' ids, which a have names.
+  -- The ids that are kept are the sorted list of the receipts' ids, which a have names.
   pub are-held : IsSorted named_cmp sorted → map bytes_of (dedup same sorted) ≡ with_items id_cmp (map receipt_id_of rs) []
   are-held up =
       let ids = map receipt_id_of rs in

@@ -12,7 +12,7 @@ use Rattle.receipt_core.proofs.RisingFacts.{Contains-from_has, Has-from_contains
 use Rattle.replica_core.specs.State.{State, joined, first_of}
 use Rattle.replica_core.proofs.ContainsFacts.{take-from}
 
--- the set with the items has both and nothing else, and it rises; one set has one rising list
+-- the set with the items has both and nothing else, and it rises; one set has one sorted list
 pub record JoinLaws {A : Type 0} (cmp : A → A → Ordering) (P : A → Type 0) : Type 0 where
   pub old : (items set : List A) (x : A) → Contains set x → Contains (with_items cmp items set) x
   pub only : (items set : List A) (x : A) → Contains (with_items cmp items set) x → Contains items x ⊎ Contains set x
@@ -37,7 +37,7 @@ joined-only cmp items set x c =
       | inr h ↦ inr (Contains-from_has set x h)
     ]
 
--- What holds of all items holds of them in weaker words.
+-- If all items have a property, they have each weaker one.
 all-map : {A : Type 0} (P Q : A → Type 0) → ((x : A) → P x → Q x) → (xs : List A) → AllByRecursion P xs → AllByRecursion Q xs
 all-map P Q pq [] h = tt
 all-map P Q pq (x ∷ xs) h = (pq x h.0, all-map P Q pq xs h.1)

@@ -12,7 +12,8 @@ use Rattle.closure_core.specs.Changes.{HeldAndRoom as ClosureState, Takes, Takes
 use Rattle.closure_core.specs.Changes.{HasMergedInRoom}
 use Rattle.closure_core.specs.Refusals.{offers_count, Room, IsRoomier, RefusesDistrust, RefusesReceipt}
 use Rattle.closure_core.specs.declared.error.TakeError.{TakeError}
-use Rattle.closure_core.specs.declared.error.TakeError.TheVariants.{UnknownDomain, WrongEndpoint, Full, NoMemory as NoTakeMemory, ConfigDiffers as OtherConfig}
+use Rattle.closure_core.specs.declared.error.TakeError.TheVariants.{UnknownDomain, WrongEndpoint, BelowFloor, Full, NoMemory as NoTakeMemory}
+use Rattle.closure_core.specs.declared.error.TakeError.TheVariants.{ConfigDiffers as OtherConfig}
 use Rattle.closure_core.specs.declared.outcome.Refused.{Refused}
 use Rattle.closure_core.specs.declared.outcome.Taken.{Taken}
 use Rattle.closure_core.specs.declared.outcome.Taken.TheVariants.{New as TakenNew, Already as TakenAlready}
@@ -54,6 +55,7 @@ distrusts-held now new x DistrustedAlready sets is h =
 distrusts-refused : (now : Meaning) (x : Distrust) (why : TakeError) → IsWelcome now (Record x) → RefusesDistrust now x why → ⊥
 distrusts-refused now x UnknownDomain welcome h = welcome UnknownDomain (λ e. absurd (cc)) h
 distrusts-refused now x WrongEndpoint welcome h = h
+distrusts-refused now x BelowFloor welcome h = h
 distrusts-refused now x Full welcome h = welcome Full (λ e. absurd (cc)) h
 distrusts-refused now x NoTakeMemory welcome h = h
 distrusts-refused now x OtherConfig welcome h = h
@@ -134,7 +136,7 @@ twice xs set sets rises =
       ],
     ))
 
--- A merge with such a closure holds its records besides.
+-- A merge with such a closure also holds its records.
 pub merged-records : (old new : ClosureState) (other : Meaning) (records : List Distrust) (n : ℕ) → AreSets Always distrust_cmp
     → IsMeaning old.meaning → other ≡ only_records old.meaning.config records → HasMergedInRoom old other new n
     → HasRecordsToo old records new
@@ -162,12 +164,13 @@ still-roomy wanted old new before grown =
 
 -- ---- one receipt
 
--- A welcome receipt that has room, where it is not held, is not refused.
+-- A welcome receipt that is held or has room is not refused.
 takes-refused : (now : ClosureState) (r : Receipt) (why : TakeError) → IsWelcome now.meaning (AReceipt r)
     → ((Contains now.meaning.held r → ⊥) → (0 < now.room.receipts) × (length (offers_of (pair_of r)) ≤ now.room.offers))
     → RefusesReceipt now.meaning now.room r why → ⊥
 takes-refused now r UnknownDomain welcome ample h = welcome UnknownDomain (λ e. absurd (cc)) h
 takes-refused now r WrongEndpoint welcome ample h = welcome WrongEndpoint (λ e. absurd (cc)) h
+takes-refused now r BelowFloor welcome ample h = welcome BelowFloor (λ e. absurd (cc)) h
 takes-refused now r Full welcome ample h = welcome Full (λ e. absurd (cc)) h
 takes-refused now r NoTakeMemory welcome ample h = let has = ample h.unheld in h.beyond has.0 has.1
 takes-refused now r OtherConfig welcome ample h = h
@@ -239,7 +242,7 @@ pub IsJoining-next : (start now new : ClosureState) (all rest later : List Recei
 IsJoining-next start now new all rest later r result sets is form so e h =
     joined-first start now new all later r result sets is form (subst (IsJoining start now all) e so) h
 
--- Where none is left, all are held.
+-- If none is left, all are held.
 pub IsJoining-end : (start now : ClosureState) (all rest : List Receipt) → IsJoining start now all rest → rest ≡ []
     → now.meaning ≡ record start.meaning { held = with_items receipt_cmp all start.meaning.held }
 IsJoining-end start now all rest so e =

@@ -14,17 +14,18 @@ use Rattle.receipt_core.specs.Rising.{with_item, with_items}
 use Rattle.receipt_core.specs.Acceptance.{IsFitting, Meaning}
 use Rattle.closure_core.specs.Refusals.{RefusesFit}
 use Rattle.closure_core.specs.declared.error.TakeError.{TakeError}
-use Rattle.closure_core.specs.declared.error.TakeError.TheVariants.{UnknownDomain, WrongEndpoint, Full, NoMemory as NoTakeMemory, ConfigDiffers as OtherConfig}
+use Rattle.closure_core.specs.declared.error.TakeError.TheVariants.{UnknownDomain, WrongEndpoint, BelowFloor, Full, NoMemory as NoTakeMemory}
+use Rattle.closure_core.specs.declared.error.TakeError.TheVariants.{ConfigDiffers as OtherConfig}
 use Rattle.replica_core.specs.Absorbing.{RefusesEntry, with_entry, AreWelcome, IsFirstRefused, IsWelcome, of_receipts, of_records, with_entries}
 use Rattle.replica_core.specs.Inside.Places.{HasPlaces}
 use Rattle.replica_core.specs.declared.entry.Entry.{Entry}
 use Rattle.replica_core.specs.declared.entry.Entry.TheVariants.{Record, Receipt as AReceipt}
 use Rattle.replica_core.proofs.ContainsFacts.{contains-here, contains-later}
-use Rattle.replica_core.proofs.FitFacts.{fits_right}
+use Rattle.closure_core.proofs.FitFacts.{fits_right, fits_above}
 
 -- ---- lists
 
--- A list is what stands before a place, the item there, and the rest.
+-- A list is what comes before a place, the item there, and the rest.
 cut : {X : Type 0} (xs : List X) (i : ℕ) (x : X) → i < length xs → get_or xs i x ≡ x → xs ≡ take i xs ++ x ∷ drop (suc i) xs
 cut [] i x l e = absurd (omega (arith, l))
 cut (y ∷ ys) zero x l e = ap (λ z. z ∷ ys) e
@@ -42,7 +43,7 @@ pub with_items-push : {X : Type 0} (cmp : X → X → Ordering) (items set : Lis
 with_items-push cmp [] set x = refl
 with_items-push cmp (y ∷ items) set x = with_items-push cmp items (with_item cmp y set) x
 
--- What stands at a place is contained.
+-- What is at a place is contained.
 get-contains : {X : Type 0} (xs : List X) (n : ℕ) (x : X) → slice_get xs n ≡ Some x → Contains xs x
 get-contains [] n x e = absurd (let f : None ≡ Some x = e in cc)
 get-contains {X} (y ∷ ys) zero x e = subst (Contains (y ∷ ys)) (let s : Some y ≡ Some x = e in cc) (contains-here y ys)
@@ -77,27 +78,29 @@ pub known : (c : Configuration) (domain : List ℕ) (domains : List (List ℕ)) 
 known c domain domains None are at e = absurd (cc)
 known c domain domains (Some n) are at e = are.sound domain (get-contains domains n domain (at domains are))
 
--- A domain without a place is none of the configuration.
+-- A domain without a place is not one of the configuration.
 pub unknown : (c : Configuration) (domain : List ℕ) (place : Option ℕ) → IsPlace c domain place → is_some place ≡ false → HasDomain c domain → ⊥
 unknown c domain None at e = at
 unknown c domain (Some n) at e = absurd (cc)
 
--- A record of a known domain is welcome where it is held or there is a place.
+-- A record of a known domain is welcome if it is held or there is a place.
 pub record-welcome : (m : Meaning) (x : Distrust) → HasDomain m.config x.domain
     → Contains m.records x ⊎ (length m.records < 4096) → (why : TakeError) → why ≢ NoTakeMemory
     → RefusesEntry m (Record x) why → ⊥
 record-welcome m x domain place UnknownDomain ample h = h domain
 record-welcome m x domain place WrongEndpoint ample h = h
+record-welcome m x domain place BelowFloor ample h = h
 record-welcome m x domain place Full ample h = elim place [ inl has ↦ h.unheld has | inr few ↦ let full = h.full in omega (arith, full, few) ]
 record-welcome m x domain place NoTakeMemory ample h = h
 record-welcome m x domain place OtherConfig ample h = h
 
--- A receipt that fits is welcome where it is held or there is a place.
+-- A receipt that fits is welcome if it is held or there is a place.
 receipt-welcome : (m : Meaning) (r : Receipt) → IsConfiguration m.config → IsFitting m.config r
     → Contains m.held r ⊎ (length m.held < 65536) → (why : TakeError) → why ≢ NoTakeMemory
     → RefusesEntry m (AReceipt r) why → ⊥
 receipt-welcome m r form fits place UnknownDomain ample h = h fits.relationship fits.has fits.domain
 receipt-welcome m r form fits place WrongEndpoint ample h = fits_right m.config r form fits h
+receipt-welcome m r form fits place BelowFloor ample h = fits_above m.config r fits h
 receipt-welcome m r form fits place Full ample h = elim place [ inl has ↦ h.unheld has | inr few ↦ let full = h.full in omega (arith, full, few) ]
 receipt-welcome m r form fits place NoTakeMemory ample h = ample refl
 receipt-welcome m r form fits place OtherConfig ample h = h
@@ -186,6 +189,7 @@ receipt-refused m all i r why l e welcome cause named =
 pub misfit-refused : (m : Meaning) (r : Receipt) (why : TakeError) → RefusesFit m.config r why → (RefusesEntry m (AReceipt r) why) × (why ≢ NoTakeMemory)
 misfit-refused m r UnknownDomain h = (h, λ e. absurd (cc))
 misfit-refused m r WrongEndpoint h = (h, λ e. absurd (cc))
+misfit-refused m r BelowFloor h = (h, λ e. absurd (cc))
 misfit-refused m r Full h = absurd h
 misfit-refused m r NoTakeMemory h = absurd h
 misfit-refused m r OtherConfig h = absurd h

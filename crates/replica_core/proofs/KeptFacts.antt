@@ -18,15 +18,15 @@ abbrev pub KeepsMessage : (Receipt → Type 0) → (Distrust → Type 0) → Mes
 KeepsMessage P Q (have_sent asker bucket ids) = ⊤
 KeepsMessage P Q (give_sent answerer place content) = Keeps P Q content
 
--- All that is held has the properties, and so have the messages from a place on and, where A, what
--- is saved.
+-- All that is held has the properties, and so have the messages from a place on and, if A, what is
+-- saved.
 pub record IsKept (P : Receipt → Type 0) (Q : Distrust → Type 0) (place : ℕ) (A : Type 0) (w : World) : Type 0 where
   pub now : (i : ℕ) → Keeps P Q (w.now i)
   pub saved : A → (i : ℕ) → Keeps P Q (w.saved i)
   pub sent : (n : ℕ) (message : Message) → place ≤ n → slice_get w.sent n ≡ Some message → KeepsMessage P Q message
 
 -- The event keeps them: what is taken or revoked has them, an answer that is taken is one from the
--- place on, and a replica restarts only where A.
+-- place on, and a replica restarts only if A.
 abbrev pub Admits : Rules → (Receipt → Type 0) → (Distrust → Type 0) → ℕ → Type 0 → Event → Type 0
 Admits rules P Q place A (Take i r) = is_replica rules i ≡ true → rules.fits r ≡ true → P r
 Admits rules P Q place A (Revoke i x) = is_replica rules i ≡ true → rules.knows x.domain ≡ true → Q x
@@ -58,7 +58,7 @@ kept-gained : (P : Receipt → Type 0) (Q : Distrust → Type 0) (place : ℕ) (
 kept-gained P Q place A true w i state h s = kept-state P Q place A w i state h s
 kept-gained P Q place A false w i state h s = h
 
--- Of what is gained only what comes to be held needs the properties.
+-- Only the part of a gain that comes to be held needs the properties.
 pub kept-held : (laws : Laws) (P : Receipt → Type 0) (Q : Distrust → Type 0) (place : ℕ) (A : Type 0) (b : Bool) (w : World) (i : ℕ) (gain : State)
     → IsKept P Q place A w
     → ((r : Receipt) → Contains gain.held r → Contains ((gained b w i (joined (w.now i) gain)).now i).held r → P r)
@@ -103,7 +103,7 @@ kept-saves P Q place A w i h = record {
   sent = h.sent;
 }
 
--- It stays so where an effect depends on a test, and it does when the test passes.
+-- It stays so if an effect depends on a test, and it does when the test passes.
 pub kept-where : (P : Receipt → Type 0) (Q : Distrust → Type 0) (place : ℕ) (A : Type 0) (b : Bool) (w : World)
     (effect : Effect) → IsKept P Q place A w → (b ≡ true → IsKept P Q place A (apply w effect))
     → IsKept P Q place A (apply w (where_so b effect))
@@ -142,14 +142,14 @@ kept-part laws P Q place A w i m (Some (have_sent asker bucket ids)) h s = h
 kept-part laws P Q place A w i m (Some (give_sent answerer other content)) h s =
     kept-gains laws P Q place A w i (first_of m content) h (keeps-first P Q m content (s (give_sent answerer other content) refl))
 
--- A state of one receipt has the properties where the receipt has.
+-- A state of one receipt has the properties if the receipt has.
 one-receipt : (P : Receipt → Type 0) (Q : Distrust → Type 0) (r : Receipt) → P r → Keeps P Q (record { held = r ∷ []; records = [] })
 one-receipt P Q r p = record {
   receipts = λ s c. elim (contains-cases r [] s c) [ inl e ↦ subst P (sym e) p | inr d ↦ absurd (contains-none s d) ];
   records = λ x c. absurd (contains-none x c);
 }
 
--- A state of one record has the properties where the record has.
+-- A state of one record has the properties if the record has.
 one-record : (P : Receipt → Type 0) (Q : Distrust → Type 0) (x : Distrust) → Q x → Keeps P Q (record { held = []; records = x ∷ [] })
 one-record P Q x q = record {
   receipts = λ r c. absurd (contains-none r c);

@@ -24,7 +24,7 @@ pub filter-filter : (p q : Receipt → Bool) (rs : List Receipt) → filter q (f
 filter-filter p q [] = refl
 filter-filter p q (r ∷ rs) = filter-both (p r) p q r rs (filter p rs) refl (filter-filter p q rs)
 
--- Where the second test passes, one of both does.
+-- If the second test passes, one of both does.
 or-true : (b : Bool) → (b || true) ≡ true
 or-true true = refl
 or-true false = refl

@@ -1,6 +1,5 @@
 pub mod ContainsFacts
 pub mod RisingListFacts
-pub mod FitFacts
 mod JoinLawFacts
 mod WorldJoins
 pub mod EventFacts

@@ -24,17 +24,17 @@ pub always : (xs : List Distrust) → AllByRecursion Always xs
 always [] = tt
 always (x ∷ xs) = (tt, always xs)
 
--- Where the first test passes, one of both does.
+-- If the first test passes, one of both does.
 or-first : (a b : Bool) → a ≡ true → (a || b) ≡ true
 or-first true b e = refl
 or-first false b e = absurd (cc)
 
--- Where the second test passes, one of both does.
+-- If the second test passes, one of both does.
 or-second : (a b : Bool) → b ≡ true → (a || b) ≡ true
 or-second true b e = refl
 or-second false b e = e
 
--- Where an item of the list passes, the test of the list does.
+-- If an item of the list passes, the test of the list does.
 has-any : {X : Type 0} (p : X → Bool) (xs : List X) (x : X) → p x ≡ true → Contains xs x → list_any p xs ≡ true
 has-any p [] x e has = absurd (contains-none x has)
 has-any p (y ∷ ys) x e has = elim (contains-cases y ys x has) [
@@ -55,19 +55,19 @@ module _ {X : Type 0} (P : X → Type 0) (cmp : X → X → Ordering) (sets : Ar
   pub same-iff : (a b : X) (found : Bool) → P a → P b → found ≡ eq_by_cmp cmp a b → IsTrue found ↔ (a ≡ b)
   same-iff a b found p q value = (λ t. tied-same a b p q (sym value ∙ t), λ e. value ∙ same-tied a b e)
 
-  -- Where the item is held, it is among those before it or held.
+  -- If the item is held, it is among those before it or held.
   pub among-held : (before set : List X) (x : X) (b : Bool) → AllByRecursion P before → AllByRecursion P set → b ≡ true → IsTrue b ↔ Contains set x
       → IsTrue true ↔ Contains (with_items cmp before set) x
   among-held before set x b all these e iff = (λ t. (sets.all_members before set x all these).1 (inr (iff.0 e)), λ h. refl)
 
-  -- Where the comparison finds an item before it, it is there.
+  -- If the comparison finds an item before it, it is there.
   any-same : (before : List X) (x : X) → AllByRecursion P before → P x → list_any (λ y. eq_by_cmp cmp y x) before ≡ true → Contains before x
   any-same [] x all p e = absurd (cc)
   any-same (y ∷ ys) x all p e =
       let found = any-from (λ z. eq_by_cmp cmp z x) (y ∷ ys) e in
       subst (Contains (y ∷ ys)) (tied-same found.0 x (each-from P (y ∷ ys) all found.0 found.1) p found.2) found.1
 
-  -- Where the item is not held, the comparison with those before it says whether it is among both.
+  -- If the item is not held, the comparison with those before it says whether it is among both.
   pub among-before : (before set : List X) (x : X) (b found : Bool) → AllByRecursion P before → AllByRecursion P set
       → P x → b ≡ false → IsTrue b ↔ Contains set x
       → found ≡ list_any (λ y. eq_by_cmp cmp y x) before → IsTrue found ↔ Contains (with_items cmp before set) x
@@ -81,7 +81,7 @@ module _ {X : Type 0} (P : X → Type 0) (cmp : X → X → Ordering) (sets : Ar
 
 -- ---- places
 
--- One step of `with_item-grows`, for each way the item stands to the first.
+-- One step of `with_item-grows`, for each way the item compares with the first.
 placed_grows : {X : Type 0} (o : Ordering) (x h : X) (t longer : List X) → length t ≤ length longer → length longer ≤ length t + 1
     → (length t + 1 ≤ length (placed o x h t longer)) × (length (placed o x h t longer) ≤ length t + 2)
 placed_grows Less x h t longer more few = (omega arith, omega arith)
@@ -103,7 +103,7 @@ with_items-grows cmp [] xs = omega arith
 with_items-grows cmp (i ∷ items) xs = let first = with_item-grows cmp i xs in let rest =
     with_items-grows cmp items (with_item cmp i xs) in omega (arith, first.0)
 
--- Where there is a place for each item left, the next one has a place, whether or not it is held.
+-- If there is a place for each item left, the next one has a place, whether or not it is held.
 pub place-ample : {X : Type 0} (cmp : X → X → Ordering) (limit : ℕ) (set : List X) (x : X) (free left : ℕ) → 0 < left
     → HasPlaces limit (length set) free left → left ≤ free
     → HasPlace cmp limit set x left (free - 1)
@@ -144,7 +144,7 @@ place-new cmp limit set x free left places scarce some longer =
       };
     }
 
--- Where no place is free, a new item has none.
+-- If no place is free, a new item has none.
 pub place-none : {X : Type 0} (limit : ℕ) (set : List X) (x : X) (free left : ℕ)
     → HasPlaces limit (length set) free left → free < left → free ≡ 0 → (Contains set x → ⊥) → HasNoPlace limit set x
 place-none limit set x free left places scarce none lacks = record {

@@ -42,7 +42,7 @@ module _ {A : Type 0} (meaning : A → Meaning) (config : Configuration) (n : �
   all-more P [] x h p = (p, tt)
   all-more P (y ∷ xs) x h p = (h.0, all-more P xs x h.1 p)
 
-  -- The closures still stand for the world after a replica sent a message.
+  -- The closures still represent the world after a replica sent a message.
   pub plays-sends : (old new : Playing A) (w : World) (i : ℕ) (told : Sent) (message : Message) → i < n → Plays meaning config n old w
       → new.held.items ≡ old.held.items → new.saved.items ≡ old.saved.items
       → new.sent.items ≡ old.sent.items ++ told ∷ [] → message_of told ≡ message → IsSound config message
@@ -55,7 +55,7 @@ module _ {A : Type 0} (meaning : A → Meaning) (config : Configuration) (n : �
         sound = all-more (IsSound config) w.sent message h.sound sound;
       })
 
-  -- The closures still stand for the world after a replica saved.
+  -- The closures still represent the world after a replica saved.
   pub plays-saves : (b : Bool) (old new : Playing A) (w : World) (i : ℕ) → Plays meaning config n old w
       → new.held.items ≡ old.held.items → new.sent.items ≡ old.sent.items
       → AreOf (MeansState meaning config) n new.saved.items (cond b (at_replica i (w.now i) w.saved) w.saved) → Plays meaning config n new
@@ -73,7 +73,7 @@ module _ {A : Type 0} (meaning : A → Meaning) (config : Configuration) (n : �
     sound = h.sound;
   }
 
-  -- The closures still stand for the world after a replica restarted.
+  -- The closures still represent the world after a replica restarted.
   pub plays-restarts : (b : Bool) (old new : Playing A) (w : World) (i : ℕ) → Plays meaning config n old w
       → new.saved.items ≡ old.saved.items → new.sent.items ≡ old.sent.items
       → AreOf (MeansState meaning config) n new.held.items (cond b (at_replica i (w.saved i) w.now) w.now) → Plays meaning config n new
@@ -93,7 +93,7 @@ module _ {A : Type 0} (meaning : A → Meaning) (config : Configuration) (n : �
 
 -- ---- what events come to
 
--- What a call does in each world that the closures stand for is what the event does.
+-- What a call does in each world that the closures represent is what the event does.
 pub on-all : {E : Type 0} {V : Type 0} {A : Type 0} (meaning : A → Meaning) (config : Configuration) (old new : Playing A) (event : Event) (result : Result V E)
     → ((n : ℕ) (w : World) → Plays meaning config n old w
     → OnOk result (Plays meaning config n new (happens (rules_of config n) w event)))
@@ -106,12 +106,12 @@ nothing-kept : (w : World) (i : ℕ) (b : Bool) → gained b w i (w.now i) ≡ w
 nothing-kept w i true = (λ ι. record w { now = λ j. stays i w.now j ι })
 nothing-kept w i false = refl
 
--- To gain nothing, where a test passes, changes nothing.
+-- To gain nothing if a test passes changes nothing.
 nothing-gained : (w : World) (i : ℕ) (b : Bool) → apply w (where_so b (gains i no_state)) ≡ w
 nothing-gained w i true = nothing-kept w i (is_within_limits (joined (w.now i) no_state))
 nothing-gained w i false = refl
 
--- A gain that is nothing where a test fails is one that depends on the test.
+-- A gain that is nothing if a test fails is one that depends on the test.
 gains-where : (w : World) (i : ℕ) (b fit : Bool) (gain whole : State) → (fit ≡ true → gain ≡ whole) → (fit ≡ false → gain ≡ no_state)
     → apply w (where_so b (gains i gain)) ≡ apply w (where_so (b && fit) (gains i whole))
 gains-where w i true true gain whole h k = ap (λ s. apply w (gains i s)) (h refl)
@@ -152,7 +152,7 @@ record-gains config n w i x fresh more e unfit next =
           (record { held = []; records = x ∷ [] }) (λ t. ap state_of (with t)) (λ f. ap state_of (without f)),
     )
 
--- A call that does to each world what a gain does stands for the event that gains that.
+-- A call that does to each world what a gain does represents the event that gains that.
 pub gain-follows : {E : Type 0} {V : Type 0} {A : Type 0} (meaning : A
     → Meaning) (config : Configuration) (old new : Playing A) (event : Event) (i : ℕ) (more : Meaning)
     (result : Result V E)
@@ -253,7 +253,7 @@ part-gains config n w i k count content rs xs more sound a re xe built =
 abbrev give_to_have : ℕ → ℕ → ℕ → List (List ℕ) → State → Message
 give_to_have i k bucket ids s = give_sent i k (record { held = receipts_lacking s bucket ids; records = s.records })
 
--- The closures still stand for the world after a replica answered.
+-- The closures still represent the world after a replica answered.
 pub answer-follows : {A : Type 0} (meaning : A → Meaning) (config : Configuration) (n : ℕ) (old new : Playing A)
     (w : World) (i k : ℕ) (m : Meaning) (bucket : ℕ) (ids : List (List ℕ)) (told : Sent) → i < n
     → Plays meaning config n old w

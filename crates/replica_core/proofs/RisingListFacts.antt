@@ -11,18 +11,18 @@ pub rising_nil : {A : Type 0} (cmp : A → A → Ordering) → IsStrictlySortedB
 unfolding IsStrictlySortedBy
 rising_nil cmp = tt
 
--- An item below all others, before a rising list, makes a rising list.
+-- An item below all others, before a sorted list, makes a sorted list.
 pub rising_cons : {A : Type 0} (cmp : A → A → Ordering) (x : A) (xs : List A) → AllByRecursion (λ y. cmp x y ≡ Less) xs
     → IsStrictlySortedBy cmp xs → IsStrictlySortedBy cmp (x ∷ xs)
 unfolding IsStrictlySortedBy
 rising_cons cmp x xs above rising = (above, rising)
 
--- The first item of a rising list is below all others.
+-- The first item of a sorted list is below all others.
 pub rising_head : {A : Type 0} (cmp : A → A → Ordering) (x : A) (xs : List A) → IsStrictlySortedBy cmp (x ∷ xs) → AllByRecursion (λ y. cmp x y ≡ Less) xs
 unfolding IsStrictlySortedBy
 rising_head cmp x xs rising = rising.0
 
--- The rest of a rising list rises.
+-- The rest of a sorted list rises.
 pub rising_tail : {A : Type 0} (cmp : A → A → Ordering) (x : A) (xs : List A) → IsStrictlySortedBy cmp (x ∷ xs) → IsStrictlySortedBy cmp xs
 unfolding IsStrictlySortedBy
 rising_tail cmp x xs rising = rising.1
@@ -42,7 +42,7 @@ pub all_back : {A : Type 0} (P : A → Type 0) (xs ys : List A) → AllByRecursi
 all_back P [] ys h = h
 all_back P (x ∷ xs) ys h = all_back P xs ys h.1
 
--- Two rising lists, the first below the second, rise together.
+-- Two sorted lists, the first below the second, rise together.
 pub rising_append : {A : Type 0} (cmp : A → A → Ordering) (xs ys : List A) → IsStrictlySortedBy cmp xs
     → IsStrictlySortedBy cmp ys → AllByRecursion (λ x. AllByRecursion (λ y. cmp x y ≡ Less) ys) xs
     → IsStrictlySortedBy cmp (xs ++ ys)

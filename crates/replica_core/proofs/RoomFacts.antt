@@ -26,7 +26,7 @@ offers_in r = length (offers_of (pair_of r))
 offers-first : (r : Receipt) (later : List Receipt) → offers_count (r ∷ later) ≡ offers_in r + offers_count later
 offers-first r later = sum_by-cons offers_in r later
 
--- A receipt adds no more than its own offers, wherever it goes, and takes none away.
+-- A receipt adds no more than its own offers, wherever it is put, and takes none away.
 placed_offers : (o : Ordering) (r head : Receipt) (rest longer : List Receipt) → (o ≡ Equal → ⊥)
     → offers_count longer ≡ offers_count rest + offers_in r → offers_count (placed o r head rest longer) ≡ offers_count (head ∷ rest) + offers_in r
 placed_offers Less r head rest longer other e = let first = offers-first r (head ∷ rest) in omega (arith, first)
@@ -45,7 +45,7 @@ offers-new sets r (head ∷ rest) form forms unheld =
     (λ tied. unheld (subst (Contains (head ∷ rest)) (sym (sets.exact r head form forms.0 tied)) (contains-here head rest)))
     (offers-new sets r rest form forms.1 (λ has. unheld (contains-later head rest r has)))
 
--- No offers go where a receipt comes, wherever it goes; for `offer-grow`.
+-- No offers are lost by a receipt that comes, wherever it is put; for `offer-grow`.
 placed_grow : (o : Ordering) (r head : Receipt) (rest longer : List Receipt) → offers_count rest ≤ offers_count longer
     → offers_count (head ∷ rest) ≤ offers_count (placed o r head rest longer)
 placed_grow Less r head rest longer e = let first = offers-first r (head ∷ rest) in omega (arith, first)
@@ -55,12 +55,12 @@ placed_grow Greater r head rest longer e =
     let second = offers-first head longer in
     omega (arith, first, second, e)
 
--- No offers go where a receipt comes.
+-- No offers are lost by a receipt that comes.
 offer-grow : (r : Receipt) (set : List Receipt) → offers_count set ≤ offers_count (with_item receipt_cmp r set)
 offer-grow r [] = let first = offers-first r [] in omega (arith, first)
 offer-grow r (head ∷ rest) = placed_grow (receipt_cmp r head) r head rest (with_item receipt_cmp r rest) (offer-grow r rest)
 
--- No offers go where receipts come: what the later ones take is part of what all take.
+-- No offers are lost by receipts that come: what the later ones take is part of what all take.
 pub offers-grow : (items set : List Receipt) → offers_count set ≤ offers_count (with_items receipt_cmp items set)
 offers-grow [] set = omega arith
 offers-grow (r ∷ items) set =
@@ -70,7 +70,7 @@ offers-grow (r ∷ items) set =
 
 -- ---- counted one by one
 
--- So many of the first receipts are new, each counted once, and have so many offers.
+-- Among the first receipts this many are new, each counted once, and have this many offers.
 pub record IsCounted (m : Meaning) (rs : List Receipt) (i count offers : ℕ) : Type 0 where
   pub forms : AllByRecursion IsReceipt (take i rs)
   pub count_is : length (with_items receipt_cmp (take i rs) m.held) ≡ length m.held + count

@@ -35,7 +35,7 @@ use Rattle.replica_core.proofs.WorldLawFacts.{agreed}
 
 -- ---- the events
 
--- who asks whom about which bucket, where so many messages were sent before
+-- who asks whom about which bucket, after this many messages
 abbrev turn : (i j b place : ℕ) → List Event
 turn i j b place = Ask i b ∷ Answer j place ∷ Absorb i (place + 1) ∷ []
 
@@ -43,7 +43,7 @@ turn i j b place = Ask i b ∷ Answer j place ∷ Absorb i (place + 1) ∷ []
 abbrev round : ℕ → List Event
 round k = turn 0 1 k (4 * k) ++ turn 1 0 k (4 * k + 2)
 
--- all about the first so many buckets
+-- all about the first this many buckets
 rounds : ℕ → List Event
 rounds zero = []
 rounds (suc k) = rounds k ++ round k
@@ -58,7 +58,7 @@ unfolding rounds
 quiet-rounds zero = tt
 quiet-rounds (suc k) = all_append (IsQuiet 0) (rounds k) (round k) (quiet-rounds k) (quiet-round k)
 
--- each round stands among all
+-- each round is among all
 round-among : (k b : ℕ) → b < k → (rest : List Event) × (rounds k ≡ rounds b ++ (round b ++ rest))
 unfolding rounds
 round-among zero b l = absurd (omega (arith, l))
@@ -76,7 +76,7 @@ round-among (suc k) b l =
 
 -- ---- how many messages are sent
 
--- An effect that sends nothing sends nothing where it does not happen either.
+-- An effect that sends nothing sends nothing if it does not happen either.
 where-sent : (b : Bool) (w : World) (effect : Effect) → (apply w effect).sent ≡ w.sent → (apply w (where_so b effect)).sent ≡ w.sent
 where-sent true w effect e = e
 where-sent false w effect e = refl
@@ -129,7 +129,7 @@ round-sends rules w k two few size =
     let second = turn-sends rules v 1 0 k (4 * k + 2) (omega (arith, two)) (omega (arith, two)) few first in
     second ∙ omega arith
 
--- So many rounds are four times as many.
+-- This many rounds send four times as many messages.
 rounds-sends : (rules : Rules) (w : World) (k : ℕ) → 2 ≤ rules.replicas → k ≤ 256 → length w.sent ≡ 0 → length (run_from rules w (rounds k)).sent ≡ 4 * k
 unfolding rounds
 rounds-sends rules w zero two few none = none
@@ -141,7 +141,7 @@ rounds-sends rules w (suc k) two few none =
 
 -- ---- what is held never goes beyond one receipt
 
--- a rising list of one receipt, however often, has it once at most
+-- a sorted list of one receipt, however often, has it once at most
 one-rising : (a : Receipt) (rs : List Receipt) → IsStrictlySortedBy receipt_cmp rs → ((r : Receipt) → Contains rs r → r ≡ a) → length rs ≤ 1
 one-rising a [] rising same = omega arith
 one-rising a (r ∷ []) rising same = omega arith
@@ -151,12 +151,12 @@ one-rising a (r ∷ s ∷ rs) rising same =
     let tied : receipt_cmp r s ≡ Equal = ap (receipt_cmp r) (sym both) ∙ tied_itself receipt_total r in
     absurd (cc)
 
--- Records that contain nothing are none.
+-- A list of records that contains nothing is empty.
 none-in : (xs : List Distrust) → ((x : Distrust) → Contains xs x → ⊥) → length xs ≡ 0
 none-in [] none = refl
 none-in (x ∷ xs) none = absurd (none x (contains-here x xs))
 
--- all that is held, saved and sent is this receipt alone, in rising lists
+-- all that is held, saved and sent is this one receipt, in sorted lists
 record IsOnly (a : Receipt) (w : World) : Type 0 where
   kept : IsKept (λ r. r ≡ a) (λ x. ⊥) 0 ⊤ w
   tidy : Throughout (λ i state. IsTidy state) w

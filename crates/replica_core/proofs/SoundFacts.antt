@@ -30,7 +30,7 @@ none-rising : {X : Type 0} (cmp : X → X → Ordering) → IsStrictlySortedBy c
 unfolding IsStrictlySortedBy
 none-rising cmp = tt
 
--- An item below all others, before a rising list, makes a rising list.
+-- An item below all others, before a sorted list, makes a sorted list.
 more-rising : {X : Type 0} (cmp : X → X → Ordering) (x : X) (xs : List X) → AllByRecursion (λ y. cmp x y ≡ Less) xs
     → IsStrictlySortedBy cmp xs → IsStrictlySortedBy cmp (x ∷ xs)
 unfolding IsStrictlySortedBy
@@ -62,7 +62,7 @@ all-take P zero xs h = tt
 all-take P (suc k) [] h = tt
 all-take P (suc k) (x ∷ xs) h = (h.0, all-take P k xs h.1)
 
--- The front of a rising list rises.
+-- The front of a sorted list rises.
 rising-take : {X : Type 0} (cmp : X → X → Ordering) (k : ℕ) (xs : List X) → IsStrictlySortedBy cmp xs → IsStrictlySortedBy cmp (take k xs)
 rising-take cmp zero xs h = none-rising cmp
 rising-take cmp (suc k) [] h = none-rising cmp

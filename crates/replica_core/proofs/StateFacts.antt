@@ -1,4 +1,5 @@
--- Every state is a pair of rising lists within the limits, and a number without a replica holds nothing.
+-- Every state is a pair of sorted lists within the limits, and a number without a replica holds
+-- nothing.
 use Rattle.std.proofs.Common.{◌≡◌, ℕ, ◌+◌, ◌≤◌, inl, inr, Bool, true, false, List, [], ◌∷◌, arith, refl, sym, subst, leb-true}
 use Rattle.std.specs.List.Sorted.{IsStrictlySortedBy}
 use Rattle.std.proofs.lemmas.Bool.{cases_eq}
@@ -9,7 +10,7 @@ use Rattle.replica_core.specs.declared.event.Event.{Event}
 use Rattle.replica_core.proofs.JoinLawFacts.{Laws}
 use Rattle.replica_core.proofs.EventFacts.{covered, at-here, at-other}
 
--- two rising lists within the limits
+-- two sorted lists within the limits
 pub record IsTidy (state : State) : Type 0 where
   pub rising : IsStrictlySortedBy receipt_cmp state.held
   pub records_rising : IsStrictlySortedBy distrust_cmp state.records
@@ -28,7 +29,7 @@ throughout-at P i k state states here there =
       | inr d ↦ subst (P i) (sym (at-other i k state states d)) there
     ]
 
--- It stays so after a gain, where that keeps the property or is beyond the limits.
+-- It stays so after a gain that keeps the property or is beyond the limits.
 throughout-gained : (P : ℕ → State → Type 0) (b : Bool) (w : World) (k : ℕ) (state : State) → Throughout P w
     → (b ≡ true → P k state) → Throughout P (gained b w k state)
 throughout-gained P true w k state h s = record { now = λ i. throughout-at P i k state w.now (s refl) (h.now i); saved = h.saved }
@@ -39,7 +40,7 @@ throughout-gained P false w k state h s = h
 pub record IsKeptByGains (rules : Rules) (P : ℕ → State → Type 0) : Type 0 where
   pub gain : (k : ℕ) (state more : State) → is_replica rules k ≡ true → P k state → is_within_limits (joined state more) ≡ true → P k (joined state more)
 
--- It stays so over each event, where gains keep the property.
+-- It stays so over each event if gains keep the property.
 pub throughout-event : (rules : Rules) (P : ℕ → State → Type 0) → IsKeptByGains rules P → (w : World) (event : Event)
     → Throughout P w → Throughout P (happens rules w event)
 throughout-event rules P kept w event h =
@@ -58,9 +59,9 @@ pub throughout-run : (rules : Rules) (P : ℕ → State → Type 0) → IsKeptBy
 throughout-run rules P kept [] w h = h
 throughout-run rules P kept (event ∷ events) w h = throughout-run rules P kept events (happens rules w event) (throughout-event rules P kept w event h)
 
--- ---- rising lists within the limits
+-- ---- sorted lists within the limits
 
--- A gain within the limits joins rising lists into rising lists.
+-- A gain within the limits joins sorted lists into sorted lists.
 pub tidy-kept : (laws : Laws) (rules : Rules) → IsKeptByGains rules (λ i state. IsTidy state)
 tidy-kept laws rules = record {
   gain = λ k state more e t b. record {

@@ -198,11 +198,11 @@ again-two a b x h = again a b x h 2 ∙ simp (
 
 -- ---- what the premises of agreement are for
 
--- the receipt alone
+-- only the receipt
 abbrev only : Receipt → State
 only a = record { held = a ∷ []; records = [] }
 
--- A replica with the receipt alone and one with nothing do not agree.
+-- A replica with only the receipt and one with nothing do not agree.
 differs : (s t : State) (a : Receipt) → s ≡ only a → t ≡ no_state → s ≢ t
 differs s t a p q e = let held : a ∷ [] ≡ [] = ap (λ (u : State). u.held) (sym p ∙ e ∙ q) in cc
 

@@ -1,25 +1,26 @@
 -- The clauses of the law, each of every list of events.
-use Rattle.std.proofs.Common.{◌≡◌, ◌≢◌, ℕ, ◌<◌, ◌⊎◌, inl, inr, Bool, true, false, cond, ◌&&◌, nat_le, List, []}
+use Rattle.std.proofs.Common.{◌≡◌, ◌≢◌, ℕ, ◌<◌, ◌≤◌, ◌⊎◌, inl, inr, Bool, true, false, cond, ◌&&◌, nat_le, List, []}
 use Rattle.std.proofs.Common.{◌∷◌, ◌++◌, length, arith, refl, sym, ap, ◌∙◌, subst, leb-true}
-use Rattle.std.specs.Prelude.{⊤, bytes_eq}
-use Rattle.std.specs.List.{list_any}
+use Rattle.std.specs.Prelude.{⊤, Contains, Option, Some, None, bytes_eq}
+use Rattle.std.specs.List.{list_any, list_all}
 use Rattle.std.proofs.lemmas.Bool.{and_parts}
 use Rattle.std.proofs.lemmas.Slice.Eq.{bytes_eq-Decides}
 use Rattle.std.proofs.lemmas.List.Sums.{fold-append}
 use Rattle.spiffe_name.specs.SpiffeId.{Id}
-use Rattle.fed_config.specs.Configuration.{Configuration, HasDomain}
+use Rattle.fed_config.specs.Configuration.{Configuration, HasDomain, Reaches}
+use Rattle.fed_config.specs.declared.floor.Floor.{Floor}
 use Rattle.fed_config.specs.declared.relationship.Relationship.{Relationship}
 use Rattle.fed_config.specs.declared.seed.Seed.{Seed}
 use Rattle.receipt_core.specs.declared.distrust.Distrust.{Distrust}
 use Rattle.receipt_core.specs.Receipt.{Receipt, IsReceipt, IsDistrust}
 use Rattle.receipt_core.specs.Acceptance.{IsMeaning, IsFitting}
 use Rattle.replica_core.specs.State.{no_state, meaning_of_state}
-use Rattle.replica_core.specs.World.{Message, have_sent, give_sent, World, empty_world, Rules, rules_of, same_id, is_fitting, is_known, happens, run_from, run}
-use Rattle.replica_core.specs.World.{WorldRun, rules_in, world_after, held_by, saved_by, followed_by}
+use Rattle.replica_core.specs.World.{Message, have_sent, give_sent, World, empty_world, Rules, rules_of, same_id, is_reached, is_fitting, is_known, happens}
+use Rattle.replica_core.specs.World.{run_from, run, WorldRun, rules_in, world_after, held_by, saved_by, followed_by}
 use Rattle.replica_core.specs.Convergence.{IsEvent, AreEvents, Lacks, IsPartOf, Inquiry, IsInquiry, Exchange, at_give, after_taking, HasAll, Settles}
 use Rattle.replica_core.specs.declared.event.Event.{Event}
 use Rattle.replica_core.specs.declared.event.Event.TheVariants.{Take, Revoke, Ask, Answer, Absorb, Part, Join, Save, Restart}
-use Rattle.replica_core.proofs.ContainsFacts.{any-from, each-from, each-to}
+use Rattle.replica_core.proofs.ContainsFacts.{any-from, contains-cases, contains-none, each-from, each-to}
 use Rattle.replica_core.proofs.JoinLawFacts.{Laws}
 use Rattle.replica_core.proofs.Provenance.{empty-kept}
 use Rattle.replica_core.proofs.KeptFacts.{IsKept, KeepsMessage, Admits, kept-run}
@@ -41,19 +42,42 @@ same-ids a b e =
     ap (λ t. record a { text = t }) text ∙ ap (λ t. record { text = b.text; domain = t; path = a.path }) domain
     ∙ ap (λ t. record { text = b.text; domain = b.domain; path = t }) path
 
+-- Where the test of the list passes, each item passes.
+all-from : {X : Type 0} (p : X → Bool) (xs : List X) (x : X) → list_all p xs ≡ true → Contains xs x → p x ≡ true
+all-from p [] x e c = absurd (contains-none x c)
+all-from p (y ∷ ys) x e c =
+    let both = and_parts (p y) (list_all p ys) e in
+    elim (contains-cases y ys x c) [ inl same ↦ ap p same ∙ both.0 | inr later ↦ all-from p ys x both.1 later ]
+
+-- A document that passes the world's test reaches the number.
+reached-from : (sequence : ℕ) (rank : Option ℕ) → is_reached sequence rank ≡ true → (n : ℕ) × (rank ≡ Some n) × (sequence ≤ n)
+reached-from sequence None e = absurd (let f : false ≡ true = e in cc)
+reached-from sequence (Some n) e = (n, refl, leb-true sequence n e)
+
+-- A floor that passes the world's test is reached where it is of the domain.
+floor-from : (f : Floor) (r : Receipt) → cond (bytes_eq f.domain r.domain) (is_reached f.sequence r.document.rank) true ≡ true
+    → f.domain ≡ r.domain → Reaches f.sequence r.document
+floor-from f r e same =
+    let is : bytes_eq f.domain r.domain ≡ true = (bytes_eq-Decides f.domain r.domain).1 same in
+    reached-from f.sequence r.document.rank (ap (λ b. cond b (is_reached f.sequence r.document.rank) true) (sym is) ∙ e)
+
 -- A receipt that passes the world's test fits.
 pub fits-from : (config : Configuration) (r : Receipt) → is_fitting config r ≡ true → IsFitting config r
 fits-from config r e =
-    let found = any-from (λ (o : Relationship). bytes_eq o.domain r.domain && same_id o.endpoint r.endpoint) config.relationships e in
+    let tests = and_parts (list_any (λ (o : Relationship). bytes_eq o.domain r.domain && same_id o.endpoint r.endpoint) config.relationships)
+    (list_all (λ (f : Floor). cond (bytes_eq f.domain r.domain) (is_reached f.sequence r.document.rank) true) config.floors) e in
+    let found = any-from (λ (o : Relationship). bytes_eq o.domain r.domain && same_id o.endpoint r.endpoint) config.relationships tests.0 in
     let both = and_parts (bytes_eq found.0.domain r.domain) (same_id found.0.endpoint r.endpoint) found.2 in
     record {
       relationship = found.0;
       has = found.1;
       domain = (bytes_eq-Decides found.0.domain r.domain).0 both.0;
       endpoint = same-ids found.0.endpoint r.endpoint both.1;
+      reaches = λ f has same. floor-from f r
+          (all-from (λ (g : Floor). cond (bytes_eq g.domain r.domain) (is_reached g.sequence r.document.rank) true) config.floors f tests.1 has) same;
     }
 
--- Where a test that finds one of three passes, one of the three does.
+-- If a test that finds one of three passes, one of the three does.
 known-cases : (a b c : Bool) → cond a true (cond b true c) ≡ true → (a ≡ true) ⊎ ((b ≡ true) ⊎ (c ≡ true))
 known-cases true b c e = inl refl
 known-cases false true c e = inr (inl refl)
@@ -104,7 +128,7 @@ all-forms laws config n events h =
     (empty-kept (IsReceiptOf config) (IsDistrustOf config) 0 ⊤)
     (λ event c. forms-admits config n event (each-from IsEvent events h event c))
 
--- All states are rising lists within the limits.
+-- All states are sorted lists within the limits.
 all-tidy : (laws : Laws) (rules : Rules) (events : List Event) → Throughout (λ i state. IsTidy state) (run rules events)
 all-tidy laws rules events = throughout-run rules (λ i state. IsTidy state) (tidy-kept laws rules) events empty_world tidy-empty
 

@@ -19,7 +19,7 @@ use Rattle.replica_core.specs.declared.error.SyncError.{SyncError}
 use Rattle.replica_core.specs.declared.error.SyncError.TheVariants.{ConfigDiffers, Refused}
 use Rattle.replica_core.specs.declared.error.SyncError.TheVariants.{NoMemory}
 
--- ---- a receipt or a record alone
+-- ---- one receipt or one record
 
 -- the meaning in which it is held too
 abbrev pub with_entry : Entry → Meaning → Meaning
@@ -54,13 +54,13 @@ with_entries entries m = fold (λ before entry. with_entry entry before) m entri
 abbrev pub IsWelcome : Meaning → Entry → Type 0
 IsWelcome m entry = (why : TakeError) → why ≢ NoTakeMemory → RefusesEntry m entry why → ⊥
 
--- Each is welcome where all before it are held.
+-- Each is welcome if all before it are held.
 abbrev pub AreWelcome : Meaning → List Entry → Type 0
 AreWelcome m [] = Unit {0}
 AreWelcome m (entry ∷ entries) = IsWelcome m entry × AreWelcome (with_entry entry m) entries
 
--- The line with this number is the first one that is not welcome: its entry has this cause where
--- all before it are held. The first line of an answer is line 1, and has no entry.
+-- The line with this number is the first one that is not welcome: its entry has this cause if all
+-- before it are held. The first line of an answer is line 1, and has no entry.
 pub record IsFirstRefused (m : Meaning) (entries : List Entry) (number : ℕ)
     (why : TakeError) : Type 0 where
   pub before : List Entry
@@ -76,7 +76,7 @@ pub record IsFirstRefused (m : Meaning) (entries : List Entry) (number : ℕ)
 abbrev pub IsGiveOfConfig : Meaning → GiveMessage → Type 0
 IsGiveOfConfig m give = give.config ≡ config_id_of m.config
 
--- All that it says is held, and so many receipts are that were not.
+-- All that it says is held, and this many receipts are that were not.
 pub record HasAbsorbed (old : Meaning) (give : GiveMessage) (new : Meaning)
     (count : ℕ) : Type 0 where
   pub of_config : IsGiveOfConfig old give
@@ -84,8 +84,8 @@ pub record HasAbsorbed (old : Meaning) (give : GiveMessage) (new : Meaning)
   pub meaning : new ≡ meaning_of_state old.config (joined (state_of old) give.content)
   pub more : length new.held ≡ length old.held + count
 
--- the room that these receipts take where not all are held: that of those that are not, each
--- counted once, and of their offers
+-- the room that these receipts take if not all are held: that of those that are not, each counted
+-- once, and of their offers
 abbrev pub room_for : Meaning → List Receipt → Room
 room_for m receipts = record {
   receipts = length (with_items receipt_cmp receipts m.held) - length m.held;
@@ -107,7 +107,7 @@ pub record WantsRoom (old : ClosureState) (give : GiveMessage) : Type 0 where
   pub welcome : AreWelcome old.meaning (entries_of give.content)
   pub beyond : IsBeyondRoom old give.content.held
 
--- It has more lines than memory holds: their numbers are no numbers of 64 bits.
+-- It has more lines than memory holds: their numbers do not fit 64 bits.
 pub record IsTooLong (old : ClosureState) (give : GiveMessage) : Type 0 where
   pub of_config : IsGiveOfConfig old.meaning give
   pub long : 2 ^ 64 ≤ length (entries_of give.content) + 2

@@ -29,7 +29,7 @@ AreEvents = AllByRecursion IsEvent
 abbrev pub Lacks : List Event → Event → Type 0
 Lacks events event = Contains events event → ⊥
 
--- ---- where it came from
+-- ---- the origin of what is held
 
 -- A replica took the receipt, and held it right after.
 pub record WasTaken (past : WorldRun) (r : Receipt) : Type 0 where
@@ -63,7 +63,7 @@ only_receipt r = record { held = r ∷ []; records = [] }
 abbrev pub only_record : Distrust → State
 only_record x = record { held = []; records = x ∷ [] }
 
--- By the event the replica comes to hold all this too, where that is not too much.
+-- By the event the replica comes to hold all this too, if it is not too much.
 abbrev pub Gains : WorldRun → Event → ℕ → State → Type 0
 Gains past event replica gain = is_within_limits (joined (held_by past replica) gain) ≡ true
     → held_by (followed_by past (event ∷ [])) replica ≡ joined (held_by past replica) gain
@@ -86,15 +86,15 @@ pub record Inquiry : Type 0 where
   pub answerer : ℕ
   pub bucket : ℕ
 
--- both are among so many replicas, and the bucket is a byte
+-- both are among this many replicas, and the bucket is a byte
 pub record IsInquiry (replicas : ℕ) (q : Inquiry) : Type 0 where
   pub asker : q.asker < replicas
   pub answerer : q.answerer < replicas
   pub bucket : q.bucket ≤ 255
 
--- The events have a have of the asker about the bucket, an answer of the answerer to it, and
--- the asker's taking of that answer. What comes before the have, between have and answer,
--- and between answer and taking is free.
+-- The events have a have of the asker about the bucket, an answer of the answerer to it, and the
+-- asker's taking of that answer. Any events may come before the have, between have and answer, and
+-- between answer and taking.
 pub record Course (q : Inquiry) (events : List Event) : Type 0 where
   pub before : List Event
   pub asked : List Event
@@ -140,7 +140,7 @@ pub record Exchange (rules : Rules) (start : World) (q : Inquiry)
   pub no_restart : Lacks course.asked (Restart q.asker)
   pub none_later : Lacks course.answered (Restart q.asker)
 
--- of the bucket's receipts the other has each, or one with its id, and it has all records
+-- the other has each of the bucket's receipts, or one with its id, and all records
 pub record HasAll (bucket : ℕ) (given taken : State) : Type 0 where
   pub receipts : (r : Receipt) → Contains given.held r → bucket_of_id r ≡ bucket
       → (s : Receipt) × Contains taken.held s × (receipt_id_of s ≡ receipt_id_of r)
@@ -159,8 +159,8 @@ IsQuiet place (Join i j) = ⊤
 IsQuiet place (Save i) = ⊤
 IsQuiet place _ = ⊥
 
--- Since a moment it is quiet, no two receipts that were held anywhere then have one id, and each
--- replica has had, from each other one, its whole answer about each bucket.
+-- From a point on it is quiet, no two receipts that were held anywhere at that point have one id,
+-- and each replica has had, from each other one, its whole answer about each bucket.
 pub record Settles (rules : Rules) (start : World) (since : List Event) : Type 0 where
   pub quiet : (event : Event) → Contains since event → IsQuiet (length start.sent) event
   pub one_id : (i j : ℕ) (r s : Receipt) → Contains (start.now i).held r

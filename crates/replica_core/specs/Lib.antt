@@ -1,5 +1,5 @@
--- What a caller cites stands in the first seven; `Inside` has worlds as the code plays them, and
--- places for more receipts and records.
+-- What a caller cites is in the first seven; `Inside` has worlds as the code plays them, and places
+-- for more receipts and records.
 pub mod State
 pub mod Session
 pub mod Lacking

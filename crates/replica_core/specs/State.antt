@@ -1,5 +1,4 @@
--- What a replica holds, and what it does with it: the words in which the calls of this crate say
--- what they do.
+-- What a replica holds, and what it does with it: the terms of this crate's contracts.
 use Rattle.std.specs.Prelude.{ℕ, ◌-◌, Bool, ◌==◌, ◌&&◌, not, nat_le, List, [], length, map, filter}
 use Rattle.std.specs.Prelude.{take, slice_index_or, bytes_eq}
 use Rattle.std.specs.declared.cmp.Ordering.{Ordering}
@@ -13,7 +12,7 @@ use Rattle.receipt_core.specs.Rising.{with_items}
 use Rattle.receipt_core.specs.Acceptance.{Meaning}
 use Rattle.receipt_core.specs.Limits.{receipt_limit, record_limit}
 
--- a set of receipts and a set of records of distrust, each kept as a rising list
+-- a set of receipts and a set of records of distrust, each kept as a sorted list
 pub record State : Type 0 where
   pub held : List Receipt
   pub records : List Distrust
@@ -28,7 +27,7 @@ joined state gain = record {
   records = with_items distrust_cmp gain.records state.records;
 }
 
--- at most so many receipts and records are held
+-- at most this many receipts and records are held
 abbrev pub is_within_limits : State → Bool
 is_within_limits state = nat_le (length state.held) receipt_limit && nat_le
     (length state.records) record_limit
@@ -43,7 +42,7 @@ is_of_bucket bucket r = bucket_of_id r == bucket
 abbrev pub id_cmp : List ℕ → List ℕ → Ordering
 id_cmp = slice_cmp nat_cmp
 
--- the ids of a bucket's receipts, each once, rising
+-- the ids of a bucket's receipts, each once, sorted
 abbrev pub ids_held : State → ℕ → List (List ℕ)
 ids_held state bucket = with_items id_cmp
     (map receipt_id_of (filter (is_of_bucket bucket) state.held)) []

@@ -2,9 +2,10 @@
 use Rattle.std.specs.Prelude.{ℕ, ◌+◌, Bool, true, false, cond, ◌==◌, ◌&&◌, nat_le, List, [], ◌∷◌}
 use Rattle.std.specs.Prelude.{◌<◌, length, slice_index_or, ◌≡◌}
 use Rattle.std.specs.Prelude.{◌++◌, fold, slice_get, Option, Some, None, bytes_eq}
-use Rattle.std.specs.List.{list_any}
+use Rattle.std.specs.List.{list_any, list_all}
 use Rattle.spiffe_name.specs.SpiffeId.{Id}
 use Rattle.fed_config.specs.Configuration.{Configuration}
+use Rattle.fed_config.specs.declared.floor.Floor.{Floor}
 use Rattle.fed_config.specs.declared.relationship.Relationship.{Relationship}
 use Rattle.fed_config.specs.declared.seed.Seed.{Seed}
 use Rattle.receipt_core.specs.Receipt.{Receipt}
@@ -40,11 +41,19 @@ pub record Rules : Type 0 where
 abbrev pub same_id : Id → Id → Bool
 same_id a b = bytes_eq a.text b.text && bytes_eq a.domain b.domain && bytes_eq a.path b.path
 
--- a relationship of the configuration has the receipt's domain and endpoint
+-- a document of this rank is not below this number
+abbrev pub is_reached : ℕ → Option ℕ → Bool
+is_reached sequence None = false
+is_reached sequence (Some n) = nat_le sequence n
+
+-- a relationship of the configuration has the receipt's domain and endpoint, and the document is
+-- below no floor of the domain
 abbrev pub is_fitting : Configuration → Receipt → Bool
 is_fitting config r = list_any
     (λ (other : Relationship). bytes_eq other.domain r.domain && same_id other.endpoint r.endpoint)
     config.relationships
+    && list_all (λ (f : Floor). cond (bytes_eq f.domain r.domain)
+    (is_reached f.sequence r.document.rank) true) config.floors
 
 -- the domain is one of the configuration
 abbrev pub is_known : Configuration → List ℕ → Bool
@@ -92,7 +101,7 @@ takes_part replica count (Some (have_sent asker bucket ids)) = nothing
 takes_part replica count (Some (give_sent answerer place content)) = gains replica
     (first_of count content)
 
--- Messages count from 0. Nothing happens where what an event names is not there, or is a message of
+-- Messages count from 0. Nothing happens if what an event names is not there, or is a message of
 -- another kind.
 abbrev pub effect_of : Rules → World → Event → Effect
 effect_of rules w (Take i r) = where_so (is_replica rules i && rules.fits r)
@@ -168,7 +177,7 @@ followed_by past since = record past { events = past.events ++ since }
 abbrev pub MeansState : {A : Type 0} → (A → Meaning) → Configuration → A → State → Type 0
 MeansState meaning config c state = meaning c ≡ meaning_of_state config state
 
--- There are so many closures, and each means what the state of its number says.
+-- There are this many closures, and each means what the state of its number says.
 pub record AreOf {A : Type 0} (Means : A → State → Type 0) (n : ℕ) (closures : List A)
     (states : ℕ → State) : Type 0 where
   pub count : length closures ≡ n

@@ -19,19 +19,19 @@ use closure_core::{Closure, TakeError};
 use receipt_core::Receipt;
 use std::alloc::{AllocError, Global};
 
-/// Takes all of an answer, or nothing, and returns how many receipts were not held. Besides its
-/// takes it looks each receipt up among those held and those before it, and each record where the
-/// records may pass their limit: for n lines of the order of n log n comparisons, or each line with
-/// all before it once there is no memory for their numbers.
+/// Takes all of an answer, or nothing, and returns how many receipts were not held. Apart from its
+/// takes, it looks up each receipt among those held and those before it, and each record too if the
+/// records may pass their limit. For n lines it does of the order of n log n comparisons; once
+/// there is no memory for their numbers, it compares each line with all before it.
 ///
 /// # Errors
-/// What is held stays. Of these the first that holds:
+/// What is held is as before. The first of these that holds:
 /// - [`SyncError::ConfigDiffers`]: the answer is of a configuration with another digest,
 /// - [`SyncError::Refused`]: a record or a receipt is not of the configuration, or is one too many.
-///   Lines are counted from 1, the answer's first line: records come before receipts, and of
-///   several lines the first is reported,
-/// - [`SyncError::NoMemory`]: memory ran out. Never where the receipts that are not held, each
-///   counted once, and their offers are within [`Closure::room`]; so never where none is new.
+///   Lines are counted from 1, the answer's first line: records come before receipts, and the first
+///   such line is reported,
+/// - [`SyncError::NoMemory`]: memory ran out. Never if the receipts that are not held, each counted
+///   once, and their offers are within [`Closure::room`]; so never if none is new.
 pub fn absorb<C: Closure>(closure: &mut C, give: Give) -> Result<usize, SyncError>
     ensures { MatchResult result
         (HasAbsorbed (C.state closure.old).meaning give (C.state closure.new).meaning)
@@ -91,8 +91,8 @@ fn first_refused<C: Closure>(closure: &C, give: &Give) -> Option<(u64, TakeError
     }
 }
 
-// Makes room for the receipts that are not held, and their offers. Where these offers have no
-// number of 64 bits, it asks for a growth that is always refused.
+// Makes room for the receipts that are not held, and their offers. If these offers have no number
+// of 64 bits, it asks for a growth that is always refused.
 fn make_room<C: Closure>(closure: &mut C, give: &mut Give) -> Result<(), AllocError>
     ensures same { give.new ≡ give.old }
     ensures meaning { (C.state closure.new).meaning ≡ (C.state closure.old).meaning }

@@ -28,7 +28,7 @@ pub fn have<C: Closure>(alloc: Global, closure: &C, bucket: u8) -> Result<Have, 
     })
 }
 
-// The ids of the bucket's receipts, rising, each once.
+// The ids of the bucket's receipts, sorted, each once.
 fn ids_of<C: Closure>(alloc: Global, closure: &C, bucket: u8) -> Result<Vec<ReceiptId>, AllocError>
     ensures { IfOk result (λ ids. map (λ id. id.0) ids.items
         ≡ ids_held (state_of (C.state closure.now).meaning) bucket) }

@@ -9,8 +9,8 @@ use std::cmp::Ordering;
 use std::marker::Model;
 
 /// The items that came before in a list, each different one by its number, in order. So n items
-/// take of the order of n log n comparisons in all. Where memory for a number is refused, each
-/// further item is compared with all before it.
+/// take of the order of n log n comparisons in all. If memory for a number is refused, each further
+/// item is compared with all before it.
 #[derive(Drop)]
 pub(crate) struct Earlier<'a, T: Ord> {
     items: &'a [T],
@@ -41,8 +41,8 @@ impl<'a, T: Ord> Earlier<'a, T> {
         }
     }
 
-    /// The next item has come before afterwards, and nothing is asked from now on: what comes later
-    /// is compared with each before it.
+    /// Afterwards the next item counts among those that came before, and the order is given up:
+    /// what comes later is compared with each before it.
     pub(crate) fn pass(&mut self)
         requires { self.old.count < length self.old.items }
         ensures items { self.new.items ≡ self.old.items }
@@ -52,7 +52,7 @@ impl<'a, T: Ord> Earlier<'a, T> {
         self.order = None;
     }
 
-    /// Whether the next item is equal to one that came before. It has come before afterwards.
+    /// Whether the next item is equal to one that came before. Afterwards it counts among those.
     pub(crate) fn is_repeat(&mut self, next: &T) -> bool
         requires { slice_get self.old.items self.old.count ≡ Some next.now }
         ensures items { self.new.items ≡ self.old.items }
@@ -91,7 +91,7 @@ impl<'a, T: Ord> ItemProbe<T> for Alike<'a, T> {
     }
 }
 
-// The order with one number more, or nothing where there is no memory for it.
+// The order with one number more, or nothing if there is no memory for it.
 fn with_number(order: Order, place: usize, number: usize) -> Option<Order>
     requires { place ≤ length order.items }
     ensures { IfSome result (λ o. o.items ≡ insert order.items place number) }

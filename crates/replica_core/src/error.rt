@@ -8,7 +8,7 @@ use closure_core::TakeError;
 use std::alloc::AllocError;
 use thiserror::Error;
 
-/// Why a snapshot or a message is refused: the first fault in the order of its bytes. Lines are
+/// Why a snapshot or a message is refused: the first error in the order of its bytes. Lines are
 /// counted from 1.
 #[derive(Clone, Copy, Debug, PartialEq, Eq, Error)]
 pub enum SyncError {
@@ -21,7 +21,7 @@ pub enum SyncError {
     /// It is of a format that is not read.
     #[error("S3 VersionDiffers")]
     VersionDiffers,
-    /// The line is none of those that may stand there, or has more than 8,388,608 bytes.
+    /// The line is not one of those that may be there, or has more than 8,388,608 bytes.
     #[error("S4 NotCanonical line {0}")]
     NotCanonical(u64),
     /// The line is not greater than the one before it.

@@ -5,12 +5,12 @@ use receipt_core::{Distrust, Receipt};
 /// number, a message by its place among all that were sent, both from 0.
 #[derive(Debug, Drop)]
 pub enum Event {
-    /// A replica takes a receipt, where it fits the configuration.
+    /// A replica takes a receipt, if it fits the configuration.
     Take {
         replica: usize,
         receipt: Receipt,
     },
-    /// A replica comes to distrust a key, where the record's domain is one of the configuration.
+    /// A replica comes to distrust a key, if the record's domain is one of the configuration.
     Revoke {
         replica: usize,
         record: Distrust,

@@ -12,8 +12,8 @@ use fed_config::Config;
 use receipt_core::{Distrust, Receipt};
 use std::alloc::{AllocError, Global};
 
-/// The closure gains all that the other one of its configuration holds, or nothing where that would
-/// be too much.
+/// The closure gains all that the other one of its configuration holds, or nothing if it would be
+/// too much.
 ///
 /// # Errors
 /// Memory ran out.
@@ -90,7 +90,7 @@ fn offer_receipts<C: Closure>(
     Ok(())
 }
 
-/// The closure takes the receipt where it fits.
+/// The closure takes the receipt if it fits.
 ///
 /// # Errors
 /// Memory ran out.
@@ -113,7 +113,7 @@ pub(crate) fn offer_receipt<C: Closure>(
     }
 }
 
-/// The closure takes the record where its domain is one of the configuration.
+/// The closure takes the record if its domain is one of the configuration.
 pub(crate) fn offer_record<C: Closure>(closure: &mut C, distrust: &Distrust)
     ensures unfit { is_known (C.state closure.old).meaning.config distrust.now.domain ≡ false
         → (C.state closure.new).meaning ≡ (C.state closure.old).meaning }
@@ -122,11 +122,11 @@ pub(crate) fn offer_record<C: Closure>(closure: &mut C, distrust: &Distrust)
         (m.records ++ distrust.now ∷ later)
         → (C.state closure.new).meaning ≡ record m { records = m.records ++ distrust.now ∷ [] } }
 {
-    // What is refused is no part of what the replica gathers.
+    // What is refused is not part of what the replica gathers.
     let _refusal = closure.distrust(&distrust.domain, distrust.key);
 }
 
-// A closure that refuses is as it was, which ends nothing but where memory ran out.
+// A closure that refuses is as it was. Only lack of memory ends the play.
 fn settle(why: TakeError) -> Result<(), NoMemory>
     ensures { OnOk result (why ≢ TakeError.NoMemory) }
 {

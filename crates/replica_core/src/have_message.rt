@@ -34,7 +34,7 @@ impl Model for Have {
 }
 
 impl Have {
-    /// A have with these ids. `None` exactly where they do not rise.
+    /// A have with these ids. `None` exactly if they do not rise.
     pub fn new(bucket: u8, config: ConfigId, ids: Vec<ReceiptId>) -> Option<Have>
         ensures { MatchOption result (IsStrictlySortedBy id_cmp (map (λ id. id.0) ids.items) → ⊥)
             (λ h. h ≡ record {
@@ -68,7 +68,7 @@ impl Have {
         self.config
     }
 
-    /// The ids, rising.
+    /// The ids, sorted.
     pub fn ids(&self) -> &[ReceiptId]
         ensures ids { map (λ id. id.0) result.now ≡ self.now.ids }
         ensures rising { IsStrictlySortedBy id_cmp self.now.ids }

@@ -60,7 +60,7 @@ fn merge_records<C: Closure>(alloc: Global, closure: &mut C, records: &[Distrust
     }
 }
 
-// A closure of the configuration that holds these records alone. `None` if memory ran out, or if
+// A closure of the configuration that holds only these records. `None` if memory ran out, or if
 // they are not all of the configuration, or too many.
 fn closure_of<C: Closure>(alloc: Global, config: &Config, records: &[Distrust]) -> Option<C>
     ensures { IfSome result (λ c. (C.state c).meaning ≡ only_records config.now records.now) }
@@ -90,7 +90,7 @@ fn distrust_each<C: Closure>(closure: &mut C, records: &[Distrust])
     }
 }
 
-/// Takes all of these, which are welcome, and of which there is room for those that are not held.
+/// Takes all of these. They are welcome, and there is room for those that are not held.
 pub(crate) fn take_all<C: Closure>(closure: &mut C, receipts: Vec<Receipt>)
     requires welcome { AreWelcome (C.state closure.old).meaning (of_receipts receipts.items) }
     requires room { IsRoomier (room_for (C.state closure.old).meaning receipts.items)

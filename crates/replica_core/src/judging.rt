@@ -10,8 +10,8 @@ use closure_core::{Closure, MOST_RECEIPTS, MOST_RECORDS, TakeError, check_fit};
 use receipt_core::{Distrust, Receipt};
 use std::alloc::Global;
 
-/// Which of the records is the first that is not welcome, where the first has number 2, and why it
-/// is not.
+/// The number of the first record that is not welcome, and why it is not. The first record has
+/// number 2.
 pub(crate) fn first_record<C: Closure>(
     alloc: Global,
     closure: &C,
@@ -41,8 +41,8 @@ pub(crate) fn first_record<C: Closure>(
     None
 }
 
-/// Which of the receipts is the first that is not welcome, where the first has number 2, and why it
-/// is not. Records make no difference.
+/// The number of the first receipt that is not welcome, and why it is not. The first receipt has
+/// number 2. Records make no difference.
 pub(crate) fn first_receipt<C: Closure>(
     alloc: Global,
     closure: &C,

@@ -19,8 +19,8 @@ ghost use Rattle.replica_core.specs.declared.event.Event.TheVariants.{Join, Save
 
 use closure_core::laws::DocumentSet;
 
-/// Where it comes from: each receipt that a replica holds or saved was taken at some replica, which
-/// held it right after. The same is so of each record of distrust.
+/// The origin of what is held: each receipt that a replica holds or saved was taken at some
+/// replica, which held it right after. The same is so of each record of distrust.
 ///
 /// - `comes`: what it holds.
 /// - `saved_comes`: what it saved last.

@@ -99,7 +99,7 @@ pub(crate) fn give_at(sent: &[Message], place: usize) -> Option<&StoredGive>
     }
 }
 
-/// The first of the items, as many as asked for, or all where there are fewer.
+/// The first of the items, as many as asked for, or all if there are fewer.
 pub(crate) fn first<T>(items: &[T], count: usize) -> &[T]
     ensures { result.now ≡ take count items.now }
 {

@@ -1,5 +1,5 @@
 //! Places for more records and receipts, of which this many may be held. Free places are counted,
-//! and what is held is looked up only where not all that is left has one.
+//! and what is held is looked up only if not all that is left has one.
 ghost use Rattle.std.specs.Prelude.{◌≡◌, ◌+◌, ◌<◌, ◌↔◌, IsTrue, MatchOption, Contains, length};
 ghost use Rattle.std.specs.Prelude.{slice_get, Some};
 ghost use Rattle.std.specs.List.{AllByRecursion};
@@ -13,9 +13,9 @@ use crate::earlier::Earlier;
 use closure_core::Closure;
 use receipt_core::{Distrust, Receipt};
 
-/// How many places are free for the others once this record is held too, which is the first of
-/// those left, where the records before it are held and this many places are free. `None` where
-/// there is none for it. What is held is looked up only where not all that are left have a place.
+/// How many places are free for the others once this record, the first of those left, is held too.
+/// Now the records before it are held and this many places are free. `None` if there is none for
+/// it. What is held is looked up only if not all that are left have a place.
 pub(crate) fn place_for_record<C: Closure>(
     closure: &C,
     before: &mut Earlier<'_, Distrust>,
@@ -108,7 +108,7 @@ fn is_record_among<C: Closure>(
     is_repeat
 }
 
-/// Whether the receipt is held, or one of those before it. It has come before afterwards.
+/// Whether the receipt is held, or one of those before it. Afterwards it counts among those.
 pub(crate) fn is_receipt_among<C: Closure>(
     closure: &C,
     before: &mut Earlier<'_, Receipt>,

@@ -25,7 +25,7 @@ pub(crate) struct Playing<C> {
     pub(crate) sent: Vec<Message>,
 }
 
-/// So many replicas that hold nothing, before anything happens.
+/// This many replicas that hold nothing, before anything happens.
 pub(crate) fn start<C: Closure>(
     alloc: Global,
     config: &Config,
@@ -232,7 +232,7 @@ pub(crate) fn restart<C: Closure>(
     copy_at(alloc, &playing.saved, &mut playing.held, replica)
 }
 
-// The replica gains all that the closure holds, or nothing where that would be too much.
+// The replica gains all that the closure holds, or nothing if it would be too much.
 fn gain<C: Closure>(playing: &mut Playing<C>, replica: usize, more: &C) -> Result<(), NoMemory>
     ensures { (n : ℕ) (w : World) (config : Configuration)
         → (C.state more.now).meaning.config ≡ config
@@ -247,8 +247,7 @@ fn gain<C: Closure>(playing: &mut Playing<C>, replica: usize, more: &C) -> Resul
     Ok(())
 }
 
-// Of two lists of closures, the one at this place of the second becomes a copy of that of the
-// first.
+// The closure at this place of the second list becomes a copy of the one of the first list.
 fn copy_at<C: Closure>(
     alloc: Global,
     from: &Vec<C>,

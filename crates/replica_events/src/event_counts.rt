@@ -1,11 +1,11 @@
-//! Events that may come often: of each kind one line a second is written, which says how many there
-//! were.
+//! Events that may come often: for each kind one line a second is written, which says how many
+//! there were.
 use crate::event_log::{LogEvent, log_event, log_times};
 use std::alloc::Global;
 use std::io::Eprint;
 use std::time::{Duration, Instant};
 
-/// How long events of one kind are counted before a line stands for them.
+/// How long events of one kind are counted before one line reports them.
 const COUNT_SECONDS: u64 = 1;
 
 /// The kinds of which a line was written within the last second, and how many came since.
@@ -30,7 +30,8 @@ impl EventCounts {
         }
     }
 
-    /// An event came. The first of its kind is written at once, and so is one that is not counted.
+    /// An event came. The first of its kind is written immediately, and so is one that is not
+    /// counted.
     pub fn note<R: Eprint>(&mut self, rt: &R, alloc: Global, event: LogEvent, now: Instant) {
         for kind in &mut self.kinds {
             if kind.event.is_counted_with(&event) {
@@ -73,7 +74,7 @@ impl EventCounts {
         self.kinds.clear();
     }
 
-    /// How long until the next line is due: `None` where none is.
+    /// How long until the next line is due: `None` if none is.
     pub fn time_left(&self, now: Instant) -> Option<Duration> {
         let second = Duration::from_secs(COUNT_SECONDS);
         let due = self.kinds.iter().filter(|kind| kind.times > 0);

@@ -1,5 +1,5 @@
-//! Events on standard error: a line for each, pairs of a word and a value in a fixed order. No byte
-//! that another side chose stands in one. `event_counts` says where one line stands for several.
+//! Events on standard error: a line for each, pairs of a name and a value in a fixed order. They
+//! have no byte that another side chose. `event_counts` writes one line for several events.
 use change_view::{HeldChange, NewEntries, push_event};
 use peer_talks::Ending;
 use replica_sync::SyncError;
@@ -15,7 +15,7 @@ use std::time::Duration;
 /// What is reported.
 #[derive(Clone, Copy, Debug)]
 pub enum LogEvent {
-    /// A session in which this replica asked has ended, and brought so much.
+    /// A session in which this replica asked has ended, and brought this.
     Pull(SocketAddr, NewEntries, Duration, Ending),
     /// A connection on which another replica asked has ended.
     Serve(Option<SocketAddr>, Duration, Ending),
@@ -29,7 +29,7 @@ pub enum LogEvent {
     Accept,
     /// The system did not say what is ready.
     Poll,
-    /// The snapshot was written anew.
+    /// The snapshot was written again.
     Fold(u64),
     /// The snapshot could not be written.
     FoldFault(SyncError),
@@ -37,20 +37,20 @@ pub enum LogEvent {
     Journal(SyncError),
     /// A file of the state was removed or replaced.
     Lost(LostFile),
-    /// So many lines at the end of the audit file were cut off: their changes are not held.
+    /// This many lines at the end of the audit file were cut off: their changes are not held.
     AuditCut(u64),
     /// The audit file could not be written.
     AuditFault(SyncError),
 }
 
-/// Writes the event's line at once. That it cannot be written changes nothing.
+/// Writes the event's line immediately. If it cannot be written, nothing else changes.
 pub fn log_event<R: Eprint>(rt: &R, alloc: Global, event: LogEvent) {
     if let Ok(line) = format!(in alloc; "{event}\n") {
         let _ = rt.eprint(line);
     }
 }
 
-/// Writes the line of a change that is on the disk. That it cannot be written changes nothing.
+/// Writes the line of a change that is on the disk. If it cannot be written, nothing else changes.
 pub fn log_change<R: Eprint>(rt: &R, alloc: Global, change: &HeldChange) {
     let mut line = Vec::new(alloc);
     if push_event(&mut line, change).is_ok()
@@ -61,7 +61,7 @@ pub fn log_change<R: Eprint>(rt: &R, alloc: Global, change: &HeldChange) {
     }
 }
 
-/// Writes one line that stands for so many events of a kind, of which this is the last.
+/// Writes one line for this many events of a kind. This event is the last of them.
 pub(crate) fn log_times<R: Eprint>(rt: &R, alloc: Global, event: LogEvent, times: u64) {
     if times < 2 {
         log_event(rt, alloc, event);
@@ -71,7 +71,7 @@ pub(crate) fn log_times<R: Eprint>(rt: &R, alloc: Global, event: LogEvent, times
 }
 
 impl LogEvent {
-    /// Whether one line may stand for both: they are of one kind, and of those that anyone who
+    /// Whether one line may report both: they are of one kind, and of those that anyone who
     /// connects can make as often as he likes.
     pub(crate) fn is_counted_with(&self, other: &LogEvent) -> bool {
         match (self, other) {
@@ -86,7 +86,7 @@ impl LogEvent {
     }
 }
 
-// Whether both failed, and their lines have the same fault.
+// Whether both failed, and their lines have the same error.
 fn have_one_code(one: Ending, two: Ending) -> bool {
     match (one.fault(), two.fault()) {
         (Some(one), Some(two)) => fault_code(one) == fault_code(two),
@@ -148,7 +148,7 @@ impl Display for Seconds {
     }
 }
 
-/// A fault as a last pair, or nothing where all went well.
+/// An error as a last pair, or nothing if all went well.
 #[derive(Clone, Copy)]
 struct Outcome(Ending);
 

@@ -39,7 +39,7 @@ whole_of_texts (text ∷ texts) after plain =
 whole_of_rest : (rest : List ℕ) → HasNoFeed rest → (lines_of rest).whole ≡ []
 whole_of_rest rest plain = ap (λ ls. ls.whole) (lines_of-rest rest plain)
 
--- Where no line follows them, they are all whole lines.
+-- If no line follows them, they are all whole lines.
 pub all_whole : (bytes : List ℕ) (left : Option (List ℕ)) (texts : List (List ℕ)) → AllByRecursion HasNoFeed texts
     → Consumes (Some bytes) left (text_of_lines texts) → HasNoLine left → (lines_of bytes).whole ≡ texts
 all_whole bytes None texts plain text ends = absurd text
@@ -80,14 +80,14 @@ all_more P (y ∷ xs) x h k = (h.0, all_more P xs x h.1 k)
 part_none : (m : Meaning) (stream : Option (List ℕ)) → HasReadPart m stream [] m stream
 part_none m stream = record { each = tt; plain = tt; text = none_used stream; meaning = refl }
 
--- These were read, and so many lines with the first one.
+-- These were read, and this many lines with the first one.
 pub record HasReadMore (m : Meaning) (stream : Option (List ℕ)) (read : ℕ) (now : Meaning) (left : Option (List ℕ)) : Type 0 where
   pub entries : List Entry
   pub part : HasReadPart m stream entries now left
   pub number : read ≡ length entries + 1
 
--- The loop begins after the first line, where one line is read and nothing of it is held. No file
--- names this lemma: the search finds it.
+-- The loop begins after the first line: one line is read, and nothing of it is held. No file names
+-- this lemma: the search finds it.
 pub read_none : (m : Meaning) (stream : Option (List ℕ)) → HasReadMore m stream 1 m stream
 read_none m stream = record { entries = []; part = part_none m stream; number = refl }
 
@@ -139,7 +139,7 @@ read_all false m stream read now new left after is so_far step valid =
       valid = valid;
     }
 
--- The exit of the loop: the next line has a fault, which is that of the journal. The search finds
+-- The exit of the loop: the next line has an error, which is that of the journal. The search finds
 -- this lemma.
 pub read_fails : (m : Meaning) (stream : Option (List ℕ)) (read : ℕ) (now : Meaning) (left : Option (List ℕ)) (e : SyncError)
     → HasReadMore m stream read now left → IsMeaning now → FailsNext now (read + 1) left e → FailsBehindLines m 1 stream e
@@ -207,7 +207,7 @@ pub journal_none : (m : Meaning) (stream : Option (List ℕ)) → HasNoLine stre
 journal_none m None ends = tt
 journal_none m (Some bytes) ends = subst (λ ls. ReadsLines m ls m) (sym (whole_of_rest bytes ends)) refl
 
--- A first line that has a fault is the first whole line.
+-- A first line that has an error is the first whole line.
 start_fault : (m : Meaning) (bytes text : List ℕ) (after : Option (List ℕ)) (e : SyncError) → HasLine (Some bytes) after text
     → RefusesJournalStart m.config text e → HasBadStart m.config (lines_of bytes).whole e
 start_fault m bytes text after e line cause =
@@ -228,7 +228,7 @@ start_refused m (Some bytes) (Refused n why) h = absurd h
 start_refused m (Some bytes) Io h = tt
 start_refused m (Some bytes) NoMemory h = tt
 
--- A line that has a fault, after lines that have none, is the first one.
+-- A line that has an error, after lines that have none, is the first one.
 entry_fault : (m now : Meaning) (bytes : List ℕ) (s left after : Option (List ℕ)) (entries : List Entry) (text : List ℕ) (e : SyncError)
     → HasLine (Some bytes) s (written_header m.config) → HasReadPart m s entries now left → IsMeaning now
     → HasLine left after text → RefusesSoleLine now (1 + length entries + 1) text e → HasBadEntry m (lines_of bytes).whole e
@@ -267,7 +267,7 @@ lines_refused m (Some bytes) s NoMemory start h = tt
 
 -- ---- the whole call
 
--- Where nothing was read ahead, the stream is the source's.
+-- If nothing was read ahead, the stream is the source's.
 pub unread : (known : Option (List ℕ)) (kept : List ℕ) → kept ≡ [] → prepend_known kept known ≡ known
 unread None kept e = refl
 unread (Some xs) kept e = ap (λ k. Some (k ++ xs)) e
@@ -278,7 +278,7 @@ pub call_starts_badly : (m : Meaning) (config : Configuration) (known s : Option
 call_starts_badly m config known s e own same fails =
     start_refused m known e (subst (λ x. FailsStart m.config x e) same (subst (λ k. FailsStart k s e) own fails))
 
--- the first line, where it is whole
+-- the first line, if it is whole
 whole_start : (whole : Bool) (m : Meaning) (config : Configuration) (known s t : Option (List ℕ)) → whole ≡ true → config ≡ m.config → s ≡ known
     → FindsStart config s t whole → HasLine known t (written_header m.config)
 whole_start true m config known s t is own same found =

@@ -63,14 +63,14 @@ first_entries (text ∷ texts) later (entry ∷ entries) each e =
     let rest = first_entries texts later entries each.1 tail in
     record { entries = entry ∷ rest.entries; each = (each.0, rest.each); spelt = λ i. head i ∷ rest.spelt i }
 
--- Where lines are read, a beginning of them is read.
+-- If lines are read, a beginning of them is read.
 reads_first : (m now : Meaning) (texts later : List (List ℕ)) → ReadsLines m (texts ++ later) now → (then : Meaning) × ReadsLines m texts then
 reads_first m now [] later h = (m, refl)
 reads_first m now (text ∷ texts) later h =
     let first = first_entries texts later h.1.entries h.1.each h.1.spelt in
     (with_entries first.entries m, (h.0, record { entries = first.entries; each = first.each; spelt = first.spelt; meaning = refl }))
 
--- Where a journal is read, each beginning of it is read.
+-- If a journal is read, each beginning of it is read.
 pub beginning_read : (m now : Meaning) (bytes : List ℕ) (size : ℕ) → ReadsJournal m (Some bytes) now
     → (then : Meaning) × ReadsJournal m (Some (take size bytes)) then
 beginning_read m now bytes size h =
@@ -79,11 +79,11 @@ beginning_read m now bytes size h =
 
 -- ---- what is refused
 
--- A fault of the first line is one of more lines.
+-- An error of the first line is one of more lines.
 start_more : (config : Configuration) (texts later : List (List ℕ)) (e : SyncError) → HasBadStart config texts e → HasBadStart config (texts ++ later) e
 start_more config texts later e h = record { text = h.text; later = h.later ++ later; is = ap (λ l. l ++ later) h.is; cause = h.cause }
 
--- A fault of another line is one of more lines.
+-- An error of another line is one of more lines.
 entry_more : (m : Meaning) (texts later : List (List ℕ)) (e : SyncError) → HasBadEntry m texts e → HasBadEntry m (texts ++ later) e
 entry_more m texts later e h = record {
   before = h.before;
@@ -109,7 +109,7 @@ refused_more m texts later (Refused n why) h = entry_more m texts later (Refused
 refused_more m texts later Io h = tt
 refused_more m texts later NoMemory h = tt
 
--- A beginning of a journal has no fault that the journal does not have.
+-- A beginning of a journal has no error that the journal does not have.
 pub beginning_refused : (m : Meaning) (bytes : List ℕ) (size : ℕ) (e : SyncError) → RefusesJournal m (Some (take size bytes)) e
     → RefusesJournal m (Some bytes) e
 beginning_refused m bytes size e h =

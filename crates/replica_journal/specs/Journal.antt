@@ -1,5 +1,5 @@
 -- The journal: what came since a snapshot, in the order in which it came, and what its bytes say
--- wherever they are cut.
+-- wherever they end.
 use Rattle.std.specs.Prelude.{◌≡◌, ℕ, ◌+◌, ◌<◌, ◌⊎◌, ◌++◌, ◌∷◌, List, [], length, map, flat_map, ⊤}
 use Rattle.std.specs.Prelude.{Option, None, Some}
 use Rattle.std.specs.List.{AllByRecursion}
@@ -41,7 +41,7 @@ pub record ReadsEntries (m : Meaning) (texts : List (List ℕ)) (new : Meaning) 
   pub spelt : texts ≡ map entry_line entries
   pub meaning : new ≡ with_entries entries m
 
--- The first line is that of the configuration. Where it is not whole, nothing was appended.
+-- The first line is that of the configuration. If it is not whole, nothing was appended.
 abbrev pub ReadsLines : Meaning → List (List ℕ) → Meaning → Type 0
 ReadsLines m [] new = new ≡ m
 ReadsLines m (first ∷ texts) new = (first ≡ written_header m.config) × ReadsEntries m texts new
@@ -53,12 +53,12 @@ ReadsJournal m (Some bytes) new = ReadsLines m (lines_of bytes).whole new
 
 -- ---- what is refused
 
--- what is wrong with the first line; one that is too long is none
+-- what is wrong with the first line; one that is too long is not a first line
 abbrev pub RefusesJournalStart : Configuration → List ℕ → SyncError → Type 0
 RefusesJournalStart config text e = ((e ≡ BadHeader) × (line_limit < length text))
     ⊎ RefusesSoleHeader config text e
 
--- The first line has this fault.
+-- The first line has this error.
 pub record HasBadStart (config : Configuration) (texts : List (List ℕ))
     (e : SyncError) : Type 0 where
   pub text : List ℕ
@@ -67,7 +67,7 @@ pub record HasBadStart (config : Configuration) (texts : List (List ℕ))
   pub cause : RefusesJournalStart config text e
 
 -- The first line is right, the lines of these entries follow it, which may all be held, and the
--- line after them has this fault. Lines count from 1.
+-- line after them has this error. Lines count from 1.
 pub record HasBadEntry (m : Meaning) (texts : List (List ℕ)) (e : SyncError) : Type 0 where
   pub before : List Entry
   pub text : List ℕ
@@ -77,7 +77,7 @@ pub record HasBadEntry (m : Meaning) (texts : List (List ℕ)) (e : SyncError) :
   pub is : texts ≡ written_header m.config ∷ (map entry_line before ++ text ∷ later)
   pub cause : RefusesSoleLine (with_entries before m) (length before + 2) text e
 
--- what is wrong with the first whole line that has a fault; nothing is known of the lines where the
+-- what is wrong with the first whole line that has an error; nothing is known of the lines if the
 -- source failed or memory ran out
 abbrev pub RefusesWholeLines : Meaning → List (List ℕ) → SyncError → Type 0
 RefusesWholeLines m texts BadHeader = HasBadStart m.config texts BadHeader

@@ -1,3 +1,3 @@
--- What a caller cites stands in `Journal`; `Inside` has the steps of reading.
+-- What a caller cites is in `Journal`; `Inside` has the steps of reading.
 pub mod Journal
 pub mod Inside

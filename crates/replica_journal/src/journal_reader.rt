@@ -18,14 +18,13 @@ use std::alloc::Global;
 /// Reads a journal over what a snapshot gave: the first line, which is a snapshot's, and then the
 /// lines of receipts and records of distrust in any order, any of them more than once. The closure
 /// holds what it held and what the whole lines say. A rest without a line feed, which a kill or a
-/// failed write may leave, says nothing, also where it is the first line.
+/// failed write may leave, says nothing, also if it is the first line.
 ///
-/// The work is linear in the bytes, beside that of the takes. Memory is taken for one line.
+/// The work is linear in the bytes, apart from that of the takes. Memory is taken for one line.
 ///
 /// # Errors
-/// There is no closure then. Lines count from 1. Of several faults the one that comes first in the
-/// bytes:
-/// - [`SyncError::BadHeader`]: the line is no first line, or has more than 8,388,608 bytes,
+/// There is no closure then. Lines count from 1. The first error in the order of the bytes:
+/// - [`SyncError::BadHeader`]: the line is not a first line, or has more than 8,388,608 bytes,
 /// - [`SyncError::ConfigDiffers`]: it is of another configuration,
 /// - [`SyncError::VersionDiffers`]: it is of another format than the second,
 /// - [`SyncError::NotCanonical`]: a line is not that of a record or a receipt, or has more than
@@ -103,7 +102,7 @@ fn read_entries<C: Closure, R: Source>(
     Ok(())
 }
 
-// Takes what the next line says, where so many were read, and returns whether there is one.
+// Takes what the next line says, after this many, and returns whether there is one.
 fn read_entry<C: Closure, R: Source>(
     alloc: Global,
     closure: &mut C,

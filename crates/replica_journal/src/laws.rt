@@ -8,9 +8,9 @@ ghost use Rattle.replica_core.specs.declared.error.SyncError.{SyncError};
 ghost use Rattle.replica_journal.specs.Journal.{AreWellFormed, ReadsJournal, RefusesJournal};
 ghost use Rattle.replica_journal.specs.Journal.{journal_text};
 
-/// The journal that is written of receipts and records is read as these, beside what was held. A
-/// kill leaves a beginning of its bytes: where the whole is read, so is each beginning, as what its
-/// whole lines say; and a beginning has no fault that the whole does not have.
+/// The journal that is written of receipts and records is read as these, added to what was held. A
+/// kill leaves a beginning of its bytes: if the whole is read, so is each beginning, as what its
+/// whole lines say; and a beginning has no error that the whole does not have.
 pub fn journals()
     ensures written { (m : Meaning) (entries : List Entry) → AreWellFormed entries
         → ReadsJournal m (Some (journal_text m.config entries)) (with_entries entries m) }

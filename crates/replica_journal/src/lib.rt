@@ -1,5 +1,5 @@
 //! The text that keeps what a replica took since its last snapshot: `journal_writer` appends to it,
-//! and `journal_reader` reads it, also where a crash cut it off.
+//! and `journal_reader` reads it, also if a crash cut it off.
 #![tactic(auto)]
 
 mod journal_reader;

@@ -9,7 +9,8 @@ use std::alloc::{AllocError, Global};
 use std::io::Eprint;
 
 /// The lines of the audit file for the changes of this turn, in the order in which the journal gets
-/// their lines. Memory also runs out where it ran out when one of the changes was made.
+/// their lines. It also fails for lack of memory if memory ran out when one of the changes was
+/// made.
 pub(crate) fn audit_lines<C: Closure>(
     alloc: Global,
     held: &HeldState<C>,

@@ -5,15 +5,20 @@ use fedbundle::FileFault;
 use peer_talks::HeldState;
 use progress_line::ProgressMode;
 use replica_connections::ConnectionTable;
+use replica_core::SyncError;
 use replica_events::{LogEvent, log_event};
 use state_files::{
-    AppendFault, AuditFile, FoldFault, Journal, LostFile, StateLock, begin_anew, fold_state,
-    save_snapshot,
+    AppendFault, AppendStep, AuditFile, FoldFault, Journal, KeepStep, Keeping, LostFile, StateLock,
+    begin_anew, fold_state, save_snapshot,
 };
 use std::alloc::Global;
 use std::fs::{File, Files};
 use std::io::Eprint;
 use std::time::Clock;
+
+/// How many steps there are until the changes of a turn are on the disk: three with the audit file,
+/// and one with the state's files.
+const KEEP_STEPS: u32 = 4;
 
 /// Why a change is not on the disk.
 #[derive(Clone, Copy, Debug)]
@@ -36,6 +41,8 @@ pub(crate) struct KeptFiles {
     lock: StateLock,
     journal: Journal,
     audit: Option<AuditFile>,
+    // Which of the audit file and the state's files is due.
+    keeping: Keeping,
     // Whether a fault came while the journal was emptied: the state file has all that is held, and
     // no line may be appended before a journal is begun anew.
     is_unsettled: bool,
@@ -55,6 +62,7 @@ impl KeptFiles {
             lock,
             journal,
             audit,
+            keeping: Keeping::begin(),
             is_unsettled: false,
             folds: 0,
             progress,
@@ -77,8 +85,8 @@ impl KeptFiles {
     }
 
     /// Puts on the disk what came, and looks whether it is in the files that have the names. Only
-    /// then it may be acknowledged. The lines of the audit file are on the disk first, so a kill
-    /// leaves no change there is no line of. `moment` is the Unix second.
+    /// then it may be acknowledged. The lines of the audit file are on the disk first, in the order
+    /// of [`Keeping`], so a kill leaves no change there is no line of. `moment` is the Unix second.
     pub(crate) fn keep<C: Closure, R: Files<File = File> + Clock + Eprint>(
         &mut self,
         rt: &R,
@@ -88,16 +96,59 @@ impl KeptFiles {
         path: &str,
         moment: u64,
     ) -> Result<(), KeepFault> {
-        if let Some(audit) = &mut self.audit {
-            let written = match audit_lines(alloc, held, table, moment) {
-                Ok(lines) => audit.append(rt, lines.as_slice()),
-                Err(error) => Err(FileFault::from(error)),
+        let lines = self.lines_of(alloc, held, table, moment)?;
+        self.keeping.add(!lines.is_empty());
+        for _ in 0..KEEP_STEPS {
+            let Some(step) = self.keeping.next() else {
+                break;
             };
-            if let Err(fault) = written {
-                return Err(KeepFault::Audit(fault));
+            let done = match step {
+                KeepStep::Audit(step) => self.audit_step(rt, lines.as_slice(), step),
+                KeepStep::State => self.keep_state(rt, alloc, held, table, path),
+            };
+            if let Err(fault) = done {
+                self.keeping.failed();
+                return Err(fault);
             }
+            self.keeping.done();
         }
-        Ok(self.keep_state(rt, alloc, held, table, path)?)
+        if self.keeping.is_done() {
+            Ok(())
+        } else {
+            Err(KeepFault::State(FileFault::from(SyncError::Io)))
+        }
+    }
+
+    // The lines that the audit file gets for this turn; none where there is no such file.
+    fn lines_of<C: Closure>(
+        &self,
+        alloc: Global,
+        held: &HeldState<C>,
+        table: &ConnectionTable,
+        moment: u64,
+    ) -> Result<Vec<u8>, KeepFault> {
+        if self.audit.is_none() {
+            return Ok(Vec::new(alloc));
+        }
+        match audit_lines(alloc, held, table, moment) {
+            Ok(lines) => Ok(lines),
+            Err(error) => Err(KeepFault::Audit(FileFault::from(error))),
+        }
+    }
+
+    fn audit_step<R: Files>(
+        &mut self,
+        files: &R,
+        lines: &[u8],
+        step: AppendStep,
+    ) -> Result<(), KeepFault> {
+        match &mut self.audit {
+            Some(audit) => match audit.do_step(files, lines, step) {
+                Ok(()) => Ok(()),
+                Err(fault) => Err(KeepFault::Audit(fault)),
+            },
+            None => Ok(()),
+        }
     }
 
     fn keep_state<C: Closure, R: Files<File = File> + Clock + Eprint>(
@@ -107,17 +158,20 @@ impl KeptFiles {
         held: &HeldState<C>,
         table: &ConnectionTable,
         path: &str,
-    ) -> Result<(), FileFault> {
+    ) -> Result<(), KeepFault> {
         if self.is_unsettled {
             if held.fresh.is_empty() && !table.has_changes() {
                 return Ok(());
             }
-            return self.begin_anew(rt, alloc, &held.closure, path);
+            return Ok(self.begin_anew(rt, alloc, &held.closure, path)?);
         }
         match self.append(rt, held.fresh.as_slice(), table, path) {
             Ok(()) => Ok(()),
-            Err(AppendFault::File(fault)) => Err(fault),
-            Err(AppendFault::Lost(lost)) => self.mend(rt, alloc, &held.closure, path, lost),
+            Err(AppendFault::File(fault)) => Err(KeepFault::State(fault)),
+            Err(AppendFault::Lost(lost)) => {
+                self.mend(rt, alloc, &held.closure, path, lost)?;
+                Ok(())
+            }
         }
     }
 

@@ -26,9 +26,9 @@ const MOST_EVENTS: usize = 256;
 /// Runs a replica until a request stops it or the state cannot be kept. It has the lock of the
 /// state for all that time. Once it accepts requests it prints `ready`, the configuration's digest,
 /// and how many receipts and records of distrust it holds. Before that it prints on standard error
-/// where pages are asked for, if the system has chosen the port or [`Settings::is_verbose`] is set.
+/// the address of the pages, if the system has chosen the port or [`Settings::is_verbose`] is set.
 ///
-/// A change is on the disk before it is acknowledged. So the process may be killed at any moment.
+/// A change is on the disk before it is acknowledged. So the process may be killed at any time.
 ///
 /// # Errors
 /// - [`Exit::Locked`]: another command has the lock of the state,
@@ -88,7 +88,7 @@ fn find<R: Files<File = File>>(
     }
 }
 
-// What is held, all of which is in the snapshot then; or, where that could not be written, in the
+// What is held, all of which is in the snapshot then; or, if that could not be written, in the
 // files as they were.
 fn load<C: Closure, R: Files<File = File> + Clock + Eprint>(
     rt: &R,

@@ -1,11 +1,11 @@
-//! What the words say of a replica.
+//! What the arguments say of a replica.
 use local_answers::PageLimits;
 use progress_line::ProgressMode;
 use replica_sockets::ListenPlaces;
 use std::net::SocketAddr;
 use std::time::Duration;
 
-/// What the words say of a replica.
+/// What the arguments say of a replica.
 #[derive(Clone, Copy, Debug)]
 pub struct Settings<'a, 'p> {
     /// The path of the state file.
@@ -16,9 +16,9 @@ pub struct Settings<'a, 'p> {
     pub read_socket: Option<&'a str>,
     /// The path of a file to which a line is appended for each change.
     pub audit: Option<&'a str>,
-    /// Where other replicas pull from this one.
+    /// The address from which other replicas pull.
     pub listen: Option<SocketAddr>,
-    /// Where pages for health and metrics are asked for.
+    /// The address of the pages for health and metrics.
     pub health: Option<SocketAddr>,
     /// By which limits these warn.
     pub page_limits: PageLimits,
@@ -34,14 +34,14 @@ pub struct Settings<'a, 'p> {
     pub most_request_bytes: u64,
     /// Whether it may begin without a state file.
     pub is_new: bool,
-    /// Whether each connection is reported that has ended, and not only those at fault.
+    /// Whether each connection that has ended is reported, and not only those that failed.
     pub is_verbose: bool,
     /// Whether it is said how far the state is read or written.
     pub progress: ProgressMode,
 }
 
 impl<'a> Settings<'a, '_> {
-    /// Where the replica listens.
+    /// The places at which the replica listens.
     pub(crate) fn places(&self) -> ListenPlaces<'a> {
         ListenPlaces {
             socket: self.socket,

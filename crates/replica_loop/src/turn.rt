@@ -14,7 +14,9 @@ use health_pages::LoopCounts;
 use local_answers::{PageLimits, PageSource};
 use mio::Events;
 use mio::net::TcpStream;
-use peer_talks::{Ending, HeldState, Peers, PullTalk, ServedTalk};
+use peer_talks::{
+    DueSession, Ending, HeldState, PeerAnswer, Peers, PullTalk, ServedTalk, SessionEnd,
+};
 use replica_connections::{
     ConnectionTable, LiveConnection, LocalTalk, PageTalk, Surroundings, Talk,
 };
@@ -85,18 +87,15 @@ impl RunningReplica {
         let now = at_step(Step::Socket, Instant::now(rt))?;
         let listeners = Listeners::open(rt, &settings.places(), now)?;
         let began = unix_seconds(rt).unwrap_or(0);
+        let begun = beginning.begin_journal(rt, alloc, closure, settings.state);
+        let journal = file_at_step(Step::Journal, begun)?;
+        // All that is held is on the disk by now, so a line that stays is of a change that is kept.
         let audit = begin_audit(rt, alloc, closure, settings.audit, began)?;
-        let journal = beginning.begin_journal(rt, alloc, closure, settings.state);
         Ok(RunningReplica {
             listeners,
             table: ConnectionTable::new(alloc, settings.most_request_bytes)?,
             peers: Peers::new(alloc, settings.peers, settings.every, now)?,
-            files: KeptFiles::new(
-                lock,
-                file_at_step(Step::Journal, journal)?,
-                audit,
-                settings.progress,
-            ),
+            files: KeptFiles::new(lock, journal, audit, settings.progress),
             events: EventCounts::new(alloc),
             now,
             began,
@@ -256,34 +255,41 @@ impl RunningReplica {
         &mut self,
         rt: &R,
         alloc: Global,
-        closure: &C,
+        held: &mut HeldState<C>,
         most_bytes: u64,
     ) {
-        let held = self
+        let files = self
             .files
             .snapshot_bytes()
             .saturating_add(self.files.journal_bytes());
-        let left = most_bytes.saturating_sub(held);
+        let left = most_bytes.saturating_sub(files);
         for _ in 0..PULLS_A_TURN {
             if !self.may_pull() {
                 break;
             }
-            let Some((number, peer)) = self.peers.begin(self.now) else {
+            let Some(due) = self.peers.begin(self.now) else {
                 break;
             };
-            let begun = match PullTalk::new(alloc, closure, number, peer, left) {
-                Ok(talk) => self.connect(rt, talk, peer),
+            let begun = match PullTalk::new(alloc, held, due, left) {
+                Ok(talk) => self.connect(rt, talk, due.address),
                 Err(why) => Err(Ending::Fault(why)),
             };
             if let Err(ending) = begun {
-                self.peers.end(number, ending, 0, None);
-                log_event(
-                    rt,
-                    alloc,
-                    LogEvent::Pull(peer, NOTHING_NEW, Duration::ZERO, ending),
-                );
+                self.end_unbegun(rt, alloc, due, ending);
             }
         }
+    }
+
+    // There is no connection.
+    fn end_unbegun<R: Eprint>(&mut self, rt: &R, alloc: Global, due: DueSession, ending: Ending) {
+        let session = SessionEnd {
+            ending,
+            answer: PeerAnswer::Nothing,
+            receipts: 0,
+        };
+        self.peers.end(due.number, session, self.now, None);
+        let event = LogEvent::Pull(due.address, NOTHING_NEW, Duration::ZERO, ending);
+        log_event(rt, alloc, event);
     }
 
     fn connect<R: Net>(&mut self, rt: &R, talk: PullTalk, peer: SocketAddr) -> Result<(), Ending> {
@@ -392,7 +398,7 @@ impl RunningReplica {
         for conn in self.table.all() {
             if let Some(ending) = conn.ending {
                 let time = self.now.duration_since(conn.begun);
-                note_pull(rt, &mut self.peers, conn, ending);
+                note_pull(rt, &mut self.peers, conn, ending, self.now);
                 self.counts.note_end(conn, ending);
                 if let Some(event) = event_of(conn, ending, time, is_verbose) {
                     self.events.note(rt, alloc, event, self.now);
@@ -460,10 +466,26 @@ fn running_status<'a, R: Clock>(
     }
 }
 
-// Counts what a session brought.
-fn note_pull<R: Clock>(rt: &R, peers: &mut Peers, conn: &LiveConnection, ending: Ending) {
-    if let Talk::Pull(talk) = &conn.talk {
-        peers.end(talk.number(), ending, talk.taken(), unix_seconds(rt));
+// Counts what a session brought, or begins it again without sums.
+fn note_pull<R: Clock>(
+    rt: &R,
+    peers: &mut Peers,
+    conn: &LiveConnection,
+    ending: Ending,
+    now: Instant,
+) {
+    let Talk::Pull(talk) = &conn.talk else {
+        return;
+    };
+    if ending == Ending::WithoutSums {
+        peers.begin_without_sums(talk.number(), now);
+    } else {
+        let session = SessionEnd {
+            ending,
+            answer: talk.answer(),
+            receipts: talk.taken(),
+        };
+        peers.end(talk.number(), session, now, unix_seconds(rt));
     }
 }
 
@@ -482,8 +504,10 @@ fn event_of(
     is_verbose: bool,
 ) -> Option<LogEvent> {
     let is_said = is_verbose || ending != Ending::Well;
-    if ending == Ending::GaveWay {
-        return Some(LogEvent::Refuse);
+    match ending {
+        Ending::GaveWay => return Some(LogEvent::Refuse),
+        Ending::WithoutSums => return None,
+        Ending::Well | Ending::Fault(_) | Ending::TooManyBytes => {}
     }
     match &conn.talk {
         Talk::Pull(talk) => Some(LogEvent::Pull(conn.peer?, new_of(talk), time, ending)),
@@ -532,7 +556,7 @@ pub(crate) fn turn<C: Closure, R: Files<File = File> + Net + Clock + Eprint>(
 ) -> Result<bool, KeepFault> {
     running.wait(rt, alloc, events);
     running.accept(rt, alloc);
-    running.begin_pulls(rt, alloc, &held.closure, settings.most_bytes);
+    running.begin_pulls(rt, alloc, held, settings.most_bytes);
     running.read(rt, alloc, held);
     running.end_connections(rt, alloc, settings.is_verbose);
     running.go_on(rt, alloc, held);

@@ -57,6 +57,8 @@ impl TurnCounts {
             Talk::Page(_) if conn.sent_bytes() > 0 => {
                 ended.pages = ended.pages.saturating_add(1);
             }
+            // The session continues on another connection.
+            Talk::Pull(_) if ending == Ending::WithoutSums => {}
             Talk::Served(_) | Talk::Pull(_) => {
                 ended.sessions = ended.sessions.saturating_add(1);
             }

@@ -2,7 +2,7 @@
 //!
 //! Connections come in at the `listeners`: a `socket_path` is that of one of them, and a `socket`
 //! is what an accept or a connect gave. `step_fault` says at which step the system refused
-//! something. Of the system's sockets no clause says anything: proved here is safety.
+//! something. No clause says anything of the system's sockets: only safety is proved here.
 #![tactic(auto)]
 
 mod listeners;

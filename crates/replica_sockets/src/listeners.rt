@@ -1,5 +1,5 @@
-//! Where connections come in: the sockets of local requests, the address where other replicas ask,
-//! and the one where pages are asked for; and the poll, which says what is ready.
+//! The places at which connections come in: the sockets of local requests, the address for other
+//! replicas, and the one for pages; and the poll, which says what is ready.
 use crate::socket::Socket;
 use crate::socket_path::{FileId, file_id, too_long};
 use crate::step_fault::{at_step, file_at_step};
@@ -43,16 +43,16 @@ const GOSSIP_A_SPAN: u64 = 8;
 
 const HEALTH_A_SPAN: u64 = 8;
 
-/// Where a replica listens.
+/// The places at which a replica listens.
 #[derive(Clone, Copy, Debug)]
 pub struct ListenPlaces<'a> {
     /// The path of the socket for local requests.
     pub socket: &'a str,
     /// The path of a second socket, at which nothing can be changed.
     pub read_socket: Option<&'a str>,
-    /// Where other replicas pull from this one.
+    /// The address from which other replicas pull.
     pub listen: Option<SocketAddr>,
-    /// Where pages for health and metrics are asked for.
+    /// The address of the pages for health and metrics.
     pub health: Option<SocketAddr>,
 }
 
@@ -166,7 +166,7 @@ impl Listeners {
         })
     }
 
-    /// The address where pages are asked for, as the system has chosen it.
+    /// The address of the pages, as the system has chosen it.
     pub fn health_address(&self) -> Option<SocketAddr> {
         let health = self.health.as_ref()?;
         health.socket.local_addr().ok()
@@ -198,7 +198,7 @@ impl Listeners {
         }
     }
 
-    /// How long to wait before the next accept: `None` where nobody waits.
+    /// How long to wait before the next accept: `None` if nobody waits.
     pub fn time_left(&self, now: Instant) -> Option<Duration> {
         let read = match &self.read {
             Some(read) => read.queue.time_left(now),
@@ -282,7 +282,7 @@ impl AddressListener {
         }
         match self.socket.accept() {
             Ok((stream, peer)) => {
-                // Without it an answer may wait for a moment.
+                // Without it an answer may wait for a while.
                 let _ = stream.set_nodelay(true);
                 self.queue.note_arrival(now);
                 Ok((Socket::Tcp(stream), peer))
@@ -330,7 +330,7 @@ impl LocalListener {
     }
 }
 
-// The earlier of two moments, where there are any.
+// The shorter of two spans, if there are any.
 fn first_of(one: Option<Duration>, other: Option<Duration>) -> Option<Duration> {
     match (one, other) {
         (Some(one), Some(other)) => Some(one.min(other)),
@@ -348,7 +348,7 @@ impl Queue {
         }
     }
 
-    // One came. Where no more may come within this span, the others wait for the next one.
+    // One came. If no more may come within this span, the others wait for the next one.
     fn note_arrival(&mut self, now: Instant) {
         let millis = now.duration_since(self.begun).as_millis();
         let span = u64::try_from(millis).unwrap_or(u64::MAX) / SPAN_MILLIS;
@@ -359,7 +359,7 @@ impl Queue {
         }
     }
 
-    // How long to wait before the next accept: `None` where nobody waits.
+    // How long to wait before the next accept: `None` if nobody waits.
     fn time_left(&self, now: Instant) -> Option<Duration> {
         if !self.is_filled {
             return None;

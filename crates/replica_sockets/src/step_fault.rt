@@ -1,8 +1,8 @@
-//! Ends by a fault of the system, with the step at which it came up.
+//! Ends with an error of the system and the step at which it came up.
 use fedbundle::{Exit, FileFault, Step};
 use std::io;
 
-/// What the system gave, or the end by its fault at the step.
+/// What the system gave, or the end with its error at the step.
 pub fn at_step<T: Drop>(step: Step, done: io::Result<T>) -> Result<T, Exit> {
     match done {
         Ok(value) => Ok(value),

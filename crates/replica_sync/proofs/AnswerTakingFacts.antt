@@ -29,7 +29,7 @@ use Rattle.replica_sync.proofs.PullStepFacts.{first_fault, here_fault, next_line
 pub none_taken : (start : TakingPlace) → start.lines.is_begun ≡ false → HasTakenPart start start
 none_taken start none = record { bucket = refl; part = inl (record { none = none; read = refl; held = refl; left = refl }) }
 
--- So much of the answer is taken with the last line; this is still to come.
+-- This part of the answer is taken with the last line; this is still to come.
 record LineTaken (start : TakingPlace) (left : LineLeft) (held : Meaning) (stream : Option (List ℕ)) (number : ℕ) : Type 0 where
   pub count : ℕ
   pub distrusts : ℕ
@@ -178,7 +178,7 @@ unread m bucket first stream after new e same h = record {
   meaning = same;
 }
 
--- Where a device failed or memory ran out, nothing need be wrong with the first line.
+-- If a device failed or memory ran out, nothing need be wrong with the first line.
 unread_by : (m : Meaning) (bucket first : ℕ) (stream : Option (List ℕ)) (new : Meaning) (e : SyncError) → new ≡ m → (e ≡ Io) ⊎ (e ≡ NoMemory)
     → StopsGive m bucket first stream new e
 unread_by m bucket first stream new e same (inl failed) =
@@ -186,12 +186,12 @@ unread_by m bucket first stream new e same (inl failed) =
 unread_by m bucket first stream new e same (inr refused) =
     unread m bucket first stream stream new e same (subst (RefusesHead (wish_of m bucket) stream stream) (sym refused) tt)
 
--- Where the have could not be written nothing of the answer is read.
+-- If the have could not be written, nothing of the answer is read.
 pub give_unread : (m : Meaning) (bucket first : ℕ) (stream : Option (List ℕ)) (e : SyncError)
     → (e ≡ Io) ⊎ (e ≡ NoMemory) → StopsGive m bucket first stream m e
 give_unread m bucket first stream e why = unread_by m bucket first stream m e refl why
 
--- The first line has a fault.
+-- The first line has an error.
 head_faulty : (now : TakingPlace) (e : SyncError) → now.lines.is_begun ≡ false → (line : HasFaultyLine now e)
     → RefusesHead (wish_of now.held now.lines.bucket) now.left line.after e
 head_faulty now e none line =
@@ -226,7 +226,7 @@ abbrev pub RefusesAfter : TakingPlace → TakingPlace → State → ℕ → ℕ 
 RefusesAfter start now content count distrusts after e =
     RefusesNextEntry (refused_line start.held.config (state_of start.held) (start.lines.read + 1) content) count distrusts content now.left after e
 
--- What stops the answer after so much of it.
+-- What stops the answer after this much of it.
 some_stops_at : (start now : TakingPlace) (new : Meaning) (e : SyncError) (some : HasSomeTaken start now) (after : Option (List ℕ)) → new ≡ now.held
     → RefusesAfter start now some.content some.count some.distrusts after e
     → StopsGive start.held start.lines.bucket (start.lines.read + 1) start.left new e
@@ -243,7 +243,7 @@ some_stops_at start now new e some after same h = record {
   meaning = same ∙ some.meaning;
 }
 
--- A later line has a fault.
+-- A later line has an error.
 later_faulty : (start now : TakingPlace) (e : SyncError) (some : HasSomeTaken start now) → 0 < now.lines.due.receipts + now.lines.due.records
     → (line : HasFaultyLine now e) → RefusesAfter start now some.content some.count some.distrusts line.after e
 later_faulty start now e some due line =
@@ -292,7 +292,7 @@ some_fails start now new e some due same (inr (inl cut)) =
 some_fails start now new e some due same (inr (inr line)) =
     some_stops_at start now new e some line.after same (later_faulty start now e some due line)
 
--- The exit of the loop: a fault stops the answer there.
+-- The exit of the loop: an error stops the answer there.
 pub part_fails : (start now : TakingPlace) (new : Meaning) (e : SyncError) → HasTakenPart start now
     → (now.lines.is_begun ≡ true → 0 < now.lines.due.receipts + now.lines.due.records)
     → new ≡ now.held → RefusesNextLine now e → StopsGive start.held start.lines.bucket (start.lines.read + 1) start.left new e

@@ -45,7 +45,7 @@ given-receipts c k state bucket valid =
     each-to IsReceipt (receipts_lacking (state_of k) bucket (ids_held state bucket))
     (λ s h. each-from IsReceipt k.held valid.receipts s (filter-from (lacking state bucket) k.held s h).0)
 
--- Of the bucket's receipts that the other holds, the answer brings each whose id is not held.
+-- The answer brings each of the bucket's receipts that the other holds and whose id is not held.
 answer-brings : (c : Configuration) (k : Meaning) (state : State) (bucket : ℕ) (r : Receipt) → IsMeaning k → AllByRecursion IsReceipt state.held
     → Has k.held r → bucket_of_id r ≡ bucket → HasId (joined state (give_of k (have_in c state bucket)).content) r
 answer-brings c k state bucket r valid own has here =
@@ -160,7 +160,7 @@ module _ (m k held : Meaning) (asked replied rest : List ℕ) (count : ℕ) (val
       (subst (λ (rs : List GiveMessage). Has (after_gives (state_of m) rs).records x)
       (gives-given m k held asked replied rest count valid other kept same all pulls) has)
 
-  -- where ids differ, the receipt that was brought is the one that the other held
+  -- if ids differ, the receipt that was brought is the one that the other held
   receipt-itself : HasDistinctIds (joined (state_of m) (state_of k)) → (r : Receipt) → Has k.held r → Has final.held r
   receipt-itself distinct r has =
       let brought = receipt-brought r has in

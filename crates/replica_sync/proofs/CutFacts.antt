@@ -36,7 +36,7 @@ pub front_of_piece : (piece : List ℕ) (place : Option ℕ) (count : ℕ) → A
 front_of_piece piece None count none is = (All-take (λ (x : ℕ). x ≢ 10) count piece none, omega arith)
 front_of_piece piece (Some k) count feed is = (subst (λ n. HasNoFeed (take n piece)) (sym is) feed.plain, omega (arith, feed.inside))
 
--- What was kept and a piece are too long where the piece has too many bytes before its line feed.
+-- What was kept and a piece are too long if the piece has too many bytes before its line feed.
 pub overlong : (most : ℕ) (kept piece : List ℕ) (place : Option ℕ) (count : ℕ) → HasNoFeed kept → AtFeed piece place
     → count ≡ unwrap_or place (length piece) → most - length kept < count → IsOverlong most (kept ++ piece)
 overlong most kept piece place count plain feed is over =

@@ -1,20 +1,22 @@
 mod ServingFacts
 mod TakingFacts
 pub mod PullingFacts
-mod WelcomeFacts
-mod SessionFacts
-mod OwnMessageFacts
-mod UnderstandingFacts
+pub mod WelcomeFacts
+pub mod SessionFacts
+pub mod OwnMessageFacts
+pub mod UnderstandingFacts
 mod WorldFacts
 mod BringsFacts
 mod CutFacts
-mod ServedPieceFacts
+pub mod ServedPieceFacts
 mod ServeLawFacts
 mod NewEntryFacts
 mod NewsFacts
-mod PullLinesFacts
-mod PulledPieceFacts
-mod PullStepFacts
+pub mod PullLinesFacts
+pub mod PulledPieceFacts
+pub mod PullStepFacts
+mod FeedFacts
 mod PullLawFacts
 mod AnswerTakingFacts
+pub mod PlanLawFacts
 mod StandardFacts

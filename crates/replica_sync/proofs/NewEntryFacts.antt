@@ -39,7 +39,7 @@ new_entry m (Record x) receipts records is form unheld = λ same.
 new_entry m (AReceipt r) receipts records is form unheld = λ same.
     unheld (subst (λ l. Contains l r) (ap (λ (k : Meaning). k.held) same) ((receipts.members r r m.held form is.receipts).1 (inl refl)))
 
--- What may stand at a place of an answer has its form.
+-- What may be at a place of an answer has its form.
 pub well_formed : (wanted : Wanted) (last text : List ℕ) (entry : Entry) → IsNextEntry wanted last text entry → IsWellFormed entry
 well_formed Records last text (Record x) next = next.is.is
 well_formed Records last text (AReceipt r) next = absurd next.is.is

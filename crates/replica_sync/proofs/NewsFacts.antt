@@ -34,7 +34,7 @@ use Rattle.replica_sync.specs.declared.news.News.{News}
 pub held_empty : (m : Meaning) (news : News) → news.later.items ≡ [] → held_with news m ≡ m
 held_empty m news none = λ i. record m { records = with_items distrust_cmp (none i) m.records }
 
--- Where none waits, nothing has to be shown of those that do.
+-- If none waits, nothing has to be shown of those that do.
 pub waits_empty : (m : Meaning) (news : News) → IsMeaning m → IsEmptyNews news → Waits m news
 waits_empty m news is empty =
     let zero = ap length empty.none in
@@ -59,7 +59,7 @@ held_again m news x sets is held =
 
 -- ---- a record that may wait
 
--- What is above the last of a rising list is above all of it.
+-- What is above the last of a sorted list is above all of it.
 above_at : (xs : List Distrust) (n : ℕ) (last x : Distrust) → IsTotalOrder distrust_cmp → IsStrictlySortedBy distrust_cmp xs → suc n ≡ length xs
     → slice_get xs n ≡ Some last → distrust_cmp last x ≡ Less → AllByRecursion (λ y. distrust_cmp y x ≡ Less) xs
 above_at [] n last x total rises long at below = tt
@@ -73,7 +73,7 @@ above_at (y ∷ z ∷ zs) (suc n) last x total rises long at below =
     let rest = above_at (z ∷ zs) n last x total (rising_tail distrust_cmp y (z ∷ zs) rises) (omega (arith, long)) at below in
     (total.trans y z x (rising_head distrust_cmp y (z ∷ zs) rises).0 rest.0, rest)
 
--- The same, where the last one is named by the length.
+-- The same, with the last one named by the length.
 pub above_all : (xs : List Distrust) (last x : Distrust) → IsTotalOrder distrust_cmp → IsStrictlySortedBy distrust_cmp xs
     → slice_get xs (length xs - 1) ≡ Some last → distrust_cmp last x ≡ Less → AllByRecursion (λ y. distrust_cmp y x ≡ Less) xs
 above_all [] last x total rises at below = tt
@@ -82,7 +82,7 @@ above_all (y ∷ ys) last x total rises at below =
     above_at (y ∷ ys) (length ys) last x total rises (omega arith)
     (subst (λ (n : ℕ). slice_get (y ∷ ys) n ≡ Some last) place at) below
 
--- Many items make a set longer by so many at most.
+-- Items make a set longer by at most their number.
 with_items-few : (items xs : List Distrust) → length (with_items distrust_cmp items xs) ≤ length items + length xs
 with_items-few [] xs = omega arith
 with_items-few (i ∷ items) xs =
@@ -152,9 +152,9 @@ new_record m news x sets may = λ same.
       | inr held ↦ may.unheld held
     ]
 
--- ---- what is taken at once
+-- ---- what is taken immediately
 
--- Where those that waited are held, and none waits afterwards, the line is taken after them.
+-- If those that waited are held, and none waits afterwards, the line is taken after them.
 pub at_once : (m mid n : Meaning) (old new : News) (number : ℕ) (entry : Entry) (result : Result ℕ SyncError) → mid ≡ held_with old m
     → new.later.items ≡ [] → MatchResult result (TakesEntry mid entry n) (HasRefusedNew mid number entry n)
     → IfOk result (λ count. count ≤ 1) → Waits n new → Journals mid n old.journal.items new.journal.items

@@ -73,7 +73,7 @@ one-longer : {A : Type 0} (cmp : A → A → Ordering) (item : A) (set : List A)
 one-longer cmp item [] = omega arith
 one-longer cmp item (head ∷ rest) = placed-few (cmp item head) item head rest (with_item cmp item rest) (one-longer cmp item rest)
 
--- a set with so many items more is longer by so many at most
+-- items make a set longer by at most their number
 no-longer : {A : Type 0} (cmp : A → A → Ordering) (items set : List A) → length (with_items cmp items set) ≤ length items + length set
 no-longer cmp [] set = omega arith
 no-longer cmp (x ∷ items) set =

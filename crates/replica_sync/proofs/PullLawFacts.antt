@@ -34,13 +34,13 @@ use Rattle.replica_sync.proofs.PullStepFacts.{next_line}
 -- ---- pieces between which nothing changes
 
 -- what is held between two parts of the pieces
-record Halves (before : Meaning) (first second : List PulledPiece) (after : Meaning) : Type 0 where
+pub record Halves (before : Meaning) (first second : List PulledPiece) (after : Meaning) : Type 0 where
   pub then : Meaning
   pub before_it : AreAlone before first then
   pub after_it : AreAlone then second after
 
 -- Pieces between which nothing changes are two such parts.
-halves : (before : Meaning) (first second : List PulledPiece) (after : Meaning) → AreAlone before (first ++ second) after
+pub halves : (before : Meaning) (first second : List PulledPiece) (after : Meaning) → AreAlone before (first ++ second) after
     → Halves before first second after
 halves before [] second after h = record { then = before; before_it = refl; after_it = h }
 halves before (c ∷ first) second after h =
@@ -48,7 +48,7 @@ halves before (c ∷ first) second after h =
     record { then = rest.then; before_it = (h.0, rest.before_it); after_it = rest.after_it }
 
 -- What is held after them is what was held, with the entries that they take.
-alone_takes : (before : Meaning) (came : List PulledPiece) (after : Meaning) (entries : List Entry) → AreAlone before came after
+pub alone_takes : (before : Meaning) (came : List PulledPiece) (after : Meaning) (entries : List Entry) → AreAlone before came after
     → TakesInTurn came entries → after ≡ with_entries entries before
 alone_takes before [] after [] h takes = h
 alone_takes before [] after (e ∷ entries) h takes = absurd takes
@@ -59,7 +59,7 @@ alone_takes before (c ∷ came) after (e ∷ entries) h (inr takes) =
     alone_takes c.new came after entries h.1 takes.1 ∙ ap (with_entries entries) (takes.0 ∙ ap (with_entry e) h.0)
 
 -- What is held after the last of them is what is held then.
-alone_last : (before : Meaning) (came : List PulledPiece) (c : PulledPiece) (after : Meaning) → AreAlone before (came ++ c ∷ []) after → after ≡ c.new
+pub alone_last : (before : Meaning) (came : List PulledPiece) (c : PulledPiece) (after : Meaning) → AreAlone before (came ++ c ∷ []) after → after ≡ c.new
 alone_last before [] c after h = h.1
 alone_last before (d ∷ came) c after h = alone_last d.new came c after h.1
 
@@ -104,7 +104,7 @@ takes_both (c ∷ first) second (x ∷ xs) ys (inr h) k = inr (h.0, takes_both f
 abbrev entries_pulled : List PulledGive → List Entry
 entries_pulled gives = flat_map (λ (g : PulledGive). entries_of g.give.content) gives
 
-gives_take : (config : Configuration) (bucket : ℕ) (gives : List PulledGive) → ArePulledGives config bucket gives
+gives_take : (config : Configuration) (bucket : ℕ) (gives : List PulledGive) → ArePulledGives None config bucket gives
     → TakesInTurn (flat_map pieces_of gives) (entries_pulled gives)
 gives_take config bucket [] each = tt
 gives_take config bucket (g ∷ gives) each =
@@ -124,14 +124,14 @@ with_receipts [] m = refl
 with_receipts (r ∷ rs) m = with_receipts rs (with_entry (AReceipt r) m)
 
 -- With the entries of what is gained it is joined with that.
-with_content : (m : Meaning) (content : State) → with_entries (entries_of content) m ≡ meaning_of_state m.config (joined (state_of m) content)
+pub with_content : (m : Meaning) (content : State) → with_entries (entries_of content) m ≡ meaning_of_state m.config (joined (state_of m) content)
 with_content m content =
     fold-append (λ (before : Meaning) (entry : Entry). with_entry entry before) m (of_records content.records) (of_receipts content.held)
     ∙ ap (with_entries (of_receipts content.held)) (with_records content.records m)
     ∙ with_receipts content.held (record m { records = with_items distrust_cmp content.records m.records })
 
 -- A meaning is that of its configuration and of what is held.
-of_config : (config : Configuration) (m : Meaning) → m.config ≡ config → m ≡ meaning_of_state config (state_of m)
+pub of_config : (config : Configuration) (m : Meaning) → m.config ≡ config → m ≡ meaning_of_state config (state_of m)
 of_config config m own = λ i. record { config = own i; held = m.held; records = m.records }
 
 -- ---- whole answers
@@ -141,11 +141,11 @@ pub record GivesAlone (config : Configuration) (bucket : ℕ) (m : Meaning) (giv
   pub each : AreGives config bucket (gives_of gives)
   pub text : bytes_pulled (flat_map pieces_of gives) ≡ flat_map give_text (gives_of gives)
   pub meaning : after ≡ meaning_of_state config (after_gives (state_of m) (gives_of gives))
-  pub haves : haves_pulled m bucket gives ≡ haves_of config bucket (state_of m) (gives_of gives)
+  pub haves : haves_pulled None m bucket gives ≡ haves_of config bucket (state_of m) (gives_of gives)
   pub end : held_at_end m gives ≡ after
 
 gives_alone : (config : Configuration) (bucket : ℕ) (m : Meaning) (gives : List PulledGive) (after : Meaning) → m.config ≡ config
-    → ArePulledGives config bucket gives → AreAlone m (flat_map pieces_of gives) after → GivesAlone config bucket m gives after
+    → ArePulledGives None config bucket gives → AreAlone m (flat_map pieces_of gives) after → GivesAlone config bucket m gives after
 gives_alone config bucket m [] after own each alone = record {
   each = tt;
   text = refl;
@@ -168,7 +168,7 @@ gives_alone config bucket m (g ∷ gives) after own each alone =
           ∙ ap (λ (l : List ℕ). l ++ bytes_pulled (flat_map pieces_of gives)) each.0.text
           ∙ ap (λ (l : List ℕ). give_text g.give ++ l) rest.text;
       meaning = rest.meaning ∙ ap (λ (s : State). meaning_of_state config (after_gives s (gives_of gives))) state;
-      haves = ap (λ (k : Meaning). have_of k bucket ∷ haves_pulled g.last.new (bucket + 1) gives) (of_config config m own)
+      haves = ap (λ (k : Meaning). have_of k bucket ∷ haves_pulled None g.last.new (bucket + 1) gives) (of_config config m own)
           ∙ ap (λ (qs : List HaveMessage). have_in config (state_of m) bucket ∷ qs)
           (rest.haves ∙ ap (λ (s : State). haves_of config (bucket + 1) s (gives_of gives)) state);
       end = rest.end;
@@ -182,7 +182,7 @@ pub record AloneThere (start : Meaning) (came : List PulledPiece) (gives : List 
   pub text : bytes_pulled came ≡ flat_map give_text (gives_of gives) ++ bytes_pulled later
 
 alone_there : (start : Meaning) (came : List PulledPiece) (gives : List PulledGive) (later : List PulledPiece) (held : Meaning)
-    → PulledGives start came gives later → AreAlone start came held → AloneThere start came gives later held
+    → PulledGives None start came gives later → AreAlone start came held → AloneThere start came gives later held
 alone_there start came gives later held whole alone =
     let parts = halves start (flat_map pieces_of gives) later held (subst (λ (l : List PulledPiece). AreAlone start l held) whole.order alone) in
     let there = gives_alone start.config 0 start gives parts.then refl whole.each parts.before_it in
@@ -197,7 +197,7 @@ alone_there start came gives later held whole alone =
 
 -- The receipts that a session brought are those that are held then and were not.
 gained_there : (start : Meaning) (came : List PulledPiece) (gives : List PulledGive) (later : List PulledPiece) (entries : List Entry) (held : Meaning)
-    → PulledGives start came gives later → TakesInTurn later entries → AreAlone start came held → HasGained start held (receipts_pulled came)
+    → PulledGives None start came gives later → TakesInTurn later entries → AreAlone start came held → HasGained start held (receipts_pulled came)
 gained_there start came gives later entries held whole takes alone =
     alone_gains start came held (entries_pulled gives ++ entries) alone
     (subst (λ (l : List PulledPiece). TakesInTurn l (entries_pulled gives ++ entries)) (sym whole.order)
@@ -205,7 +205,7 @@ gained_there start came gives later entries held whole takes alone =
 
 -- The have about the next bucket is made of what is held when the last answer ended.
 next_have : (start : Meaning) (gives : List PulledGive) (then : Meaning) → GivesAlone start.config 0 start gives then
-    → haves_asked start gives ≡ haves_of start.config 0 (state_of start) (gives_of gives)
+    → haves_asked None start gives ≡ haves_of start.config 0 (state_of start) (gives_of gives)
     ++ have_in start.config (after_gives (state_of start) (gives_of gives)) (length (gives_of gives)) ∷ []
 next_have start gives then there =
     ap (λ (qs : List HaveMessage). qs ++ have_of (held_at_end start gives) (length gives) ∷ []) there.haves
@@ -226,7 +226,7 @@ held_there start gives then held pieces content there alone takes =
 
 -- All came.
 pub all_pulled : (lines : AnswerLines) (start : Meaning) (came : List PulledPiece) (held : Meaning) (written : List ℕ)
-    → HasPulledAll lines start came written → AreAlone start came held → PullsAll (known_run (bytes_pulled came) written) start held
+    → HasPulledAll None lines start came written → AreAlone start came held → PullsAll (known_run (bytes_pulled came) written) start held
 all_pulled lines start came held written all alone =
     let there = alone_there start came all.gives all.later held all.whole alone in
     let size = length-map all.gives (λ (g : PulledGive). g.give) in
@@ -264,14 +264,14 @@ cut_cause lines config state before later rest due plain some =
     })
 
 -- The stream ends before all came.
-pub cut_pulled : (lines : AnswerLines) (start : Meaning) (came : List PulledPiece) (held : Meaning) (rest written : List ℕ)
+pub cut_pulled : (answered : ℕ) (lines : AnswerLines) (start : Meaning) (came : List PulledPiece) (held : Meaning) (rest written : List ℕ)
     → (lines.is_begun ≡ true → 0 < lines.due.receipts + lines.due.records) → HasNoFeed rest
-    → GoesOnPulling lines start came rest written → AreAlone start came held
+    → GoesOnPulling None answered lines start came rest written → AreAlone start came held
     → PullsUpTo (known_run (bytes_pulled came) written) start held Truncated × HasGained start held (receipts_pulled came)
-cut_pulled lines start came held rest written due plain on alone =
+cut_pulled answered lines start came held rest written due plain on alone =
     let there = alone_there start came on.gives on.later held on.whole alone in
     let size = length-map on.gives (λ (g : PulledGive). g.give) in
-    let few = on.few in
+    let few : length on.gives < 256 = on.few in
     let state = after_gives (state_of start) (gives_of on.gives) in
     let at : lines.bucket ≡ length (gives_of on.gives) = on.bucket ∙ sym size in
     let asked = on.asked ∙ ap (flat_map have_text) (next_have start on.gives there.then there.whole) in
@@ -328,13 +328,13 @@ tail_of later more = bytes_pulled later ++ more
 
 -- Where a line is not taken, the session ends there as soon as a line feed comes.
 pub stopped_pulled : (start : Meaning) (came : List PulledPiece) (held : Meaning) (written : List ℕ) (e : SyncError) (more after : List ℕ)
-    → StopsInGive start came written e → AreAlone start came held
+    → StopsInGive None start came written e → AreAlone start came held
     → PullsUpTo (known_run (bytes_pulled came ++ (more ++ (10 ∷ after))) written) start held e × HasGained start held (receipts_pulled came)
 stopped_pulled start came held written e more after stops alone =
     let there = alone_there start came stops.gives (stops.part ++ stops.last ∷ stops.later) held stops.whole alone in
     let parts = halves there.then stops.part (stops.last ∷ stops.later) held there.alone in
     let size = length-map stops.gives (λ (g : PulledGive). g.give) in
-    let few = stops.few in
+    let few : length stops.gives < 256 = stops.few in
     let gives = gives_of stops.gives in
     let state = after_gives (state_of start) gives in
     let bytes = bytes_pulled stops.part ++ stops.last.bytes in
@@ -376,12 +376,12 @@ texts_begin first second =
 
 -- Where memory ran out for a have, the session ends before it.
 pub unasked_pulled : (start : Meaning) (came : List PulledPiece) (held : Meaning) (written : List ℕ) (e : SyncError) (more after : List ℕ)
-    → StopsAsking start came written e → AreAlone start came held
+    → StopsAsking None start came written e → AreAlone start came held
     → PullsUpTo (known_run (bytes_pulled came ++ (more ++ (10 ∷ after))) written) start held e × HasGained start held (receipts_pulled came)
 unasked_pulled start came held written e more after stops alone =
     let there = alone_there start came stops.gives (stops.part ++ stops.last ∷ stops.later) held stops.whole alone in
     let size = length-map stops.gives (λ (g : PulledGive). g.give) in
-    let few = stops.few in
+    let few : length stops.gives + 1 < 256 = stops.few in
     let gives = gives_of stops.gives in
     let give = stops.give in
     let state = after_gives (state_of start) gives in
@@ -394,7 +394,7 @@ unasked_pulled start came held written e more after stops alone =
     let then_is = held_there start stops.gives there.then one.then (stops.part ++ stops.last ∷ []) give.content there.whole one.before_it stops.takes in
     let all_states : after_gives (state_of start) (gives ++ give ∷ []) ≡ joined state give.content =
     fold-append (λ (before : State) (g : GiveMessage). joined before g.content) (state_of start) gives (give ∷ []) in
-    let asked_is : haves_asked start stops.gives ≡ haves_of start.config 0 (state_of start) (gives ++ give ∷ []) =
+    let asked_is : haves_asked None start stops.gives ≡ haves_of start.config 0 (state_of start) (gives ++ give ∷ []) =
     next_have start stops.gives there.then there.whole
     ∙ sym (haves_more start.config 0 (length gives) (state_of start) gives give (omega arith)) in
     let next = have_in start.config (after_gives (state_of start) (gives ++ give ∷ [])) (length (gives ++ give ∷ [])) ∷ [] in
@@ -441,46 +441,47 @@ unasked_pulled start came held written e more after stops alone =
 -- ---- the machine
 
 -- What a session that came to its end did.
-pub over_pulls : (f : Option SyncError) (lines : AnswerLines) (m held : Meaning) (came : List PulledPiece) (rest written due : List ℕ) (count : ℕ)
-    → f ≡ None → lines.bucket ≡ 256 → due ≡ [] → count ≡ receipts_pulled came → PullsPieces f lines m came rest (written ++ due) → AreAlone m came held
+pub over_pulls : (f : Option SyncError) (answered : ℕ) (lines : AnswerLines) (m held : Meaning) (came : List PulledPiece) (rest written due : List ℕ)
+    (count : ℕ) → f ≡ None → lines.bucket ≡ 256 → due ≡ [] → count ≡ receipts_pulled came
+    → PullsPieces None f answered lines m came rest (written ++ due) → AreAlone m came held
     → Pulls (known_run (bytes_pulled came) written) m held (Ok count)
-over_pulls None lines m held came rest written due count sound over idle taken (inl on) alone =
-    absurd (let few = on.few in let bucket = on.bucket in omega (arith, few, bucket, over))
-over_pulls None lines m held came rest written due count sound over idle taken (inr all) alone =
-    let there = subst (HasPulledAll lines m came) (ap (λ (l : List ℕ). written ++ l) idle ∙ append-nil written) all in (
+over_pulls None answered lines m held came rest written due count sound over idle taken (inl on) alone =
+    absurd (let below = on.below in omega (arith, below, over))
+over_pulls None answered lines m held came rest written due count sound over idle taken (inr all) alone =
+    let there = subst (HasPulledAll None lines m came) (ap (λ (l : List ℕ). written ++ l) idle ∙ append-nil written) all in (
       all_pulled lines m came held written there alone,
       subst (HasGained m held) (sym taken) (gained_there m came all.gives all.later [] held all.whole all.takes alone),
     )
-over_pulls (Some e) lines m held came rest written due count sound over idle taken pulls alone = absurd (cc)
+over_pulls (Some e) answered lines m held came rest written due count sound over idle taken pulls alone = absurd (cc)
 
 -- What a session did whose stream ends before that.
-pub cut_pulls : (f : Option SyncError) (lines : AnswerLines) (m held : Meaning) (came : List PulledPiece) (rest written due : List ℕ) (count : ℕ)
+pub cut_pulls : (f : Option SyncError) (answered : ℕ) (lines : AnswerLines) (m held : Meaning) (came : List PulledPiece) (rest written due : List ℕ) (count : ℕ)
     → f ≡ None → (lines.bucket ≡ 256 → ⊥) → due ≡ [] → count ≡ receipts_pulled came
     → (lines.is_begun ≡ true → 0 < lines.due.receipts + lines.due.records) → HasNoFeed rest
-    → PullsPieces f lines m came rest (written ++ due) → AreAlone m came held
+    → PullsPieces None f answered lines m came rest (written ++ due) → AreAlone m came held
     → Pulls (known_run (bytes_pulled came) written) m held (Err (record { why = Truncated; taken = count }))
-cut_pulls None lines m held came rest written due count sound more idle taken some plain (inl on) alone =
-    let there = subst (GoesOnPulling lines m came rest) (ap (λ (l : List ℕ). written ++ l) idle ∙ append-nil written) on in
-    let cut = cut_pulled lines m came held rest written some plain there alone in
+cut_pulls None answered lines m held came rest written due count sound more idle taken some plain (inl on) alone =
+    let there = subst (GoesOnPulling None answered lines m came rest) (ap (λ (l : List ℕ). written ++ l) idle ∙ append-nil written) on in
+    let cut = cut_pulled answered lines m came held rest written some plain there alone in
     (cut.0, subst (HasGained m held) (sym taken) cut.1)
-cut_pulls None lines m held came rest written due count sound more idle taken some plain (inr all) alone = absurd (more all.bucket)
-cut_pulls (Some e) lines m held came rest written due count sound more idle taken some plain pulls alone = absurd (cc)
+cut_pulls None answered lines m held came rest written due count sound more idle taken some plain (inr all) alone = absurd (more all.bucket)
+cut_pulls (Some e) answered lines m held came rest written due count sound more idle taken some plain pulls alone = absurd (cc)
 
 -- What a session did that a fault ended.
-pub stopped_pulls : (f : Option SyncError) (lines : AnswerLines) (m held : Meaning) (came : List PulledPiece) (rest written due more after : List ℕ)
-    (count : ℕ) (e : SyncError) → f ≡ Some e → (f ≢ None → due ≡ []) → count ≡ receipts_pulled came
-    → PullsPieces f lines m came rest (written ++ due) → AreAlone m came held
+pub stopped_pulls : (f : Option SyncError) (answered : ℕ) (lines : AnswerLines) (m held : Meaning) (came : List PulledPiece)
+    (rest written due more after : List ℕ) (count : ℕ) (e : SyncError) → f ≡ Some e → (f ≢ None → due ≡ []) → count ≡ receipts_pulled came
+    → PullsPieces None f answered lines m came rest (written ++ due) → AreAlone m came held
     → Pulls (known_run (bytes_pulled came ++ (more ++ (10 ∷ after))) written) m held (Err (record { why = e; taken = count }))
-stopped_pulls None lines m held came rest written due more after count e stopped idle taken pulls alone = absurd (cc)
-stopped_pulls (Some d) lines m held came rest written due more after count e stopped idle taken (inl stops) alone =
+stopped_pulls None answered lines m held came rest written due more after count e stopped idle taken pulls alone = absurd (cc)
+stopped_pulls (Some d) answered lines m held came rest written due more after count e stopped idle taken (inl stops) alone =
     let none : due ≡ [] = idle (λ is. absurd (cc)) in
-    let there = subst (λ (l : List ℕ). StopsInGive m came l d) (ap (λ (l : List ℕ). written ++ l) none ∙ append-nil written) stops in
+    let there = subst (λ (l : List ℕ). StopsInGive None m came l d) (ap (λ (l : List ℕ). written ++ l) none ∙ append-nil written) stops in
     let same : d ≡ e = cc in
-    let did = stopped_pulled m came held written e more after (subst (StopsInGive m came written) same there) alone in
+    let did = stopped_pulled m came held written e more after (subst (StopsInGive None m came written) same there) alone in
     (did.0, subst (HasGained m held) (sym taken) did.1)
-stopped_pulls (Some d) lines m held came rest written due more after count e stopped idle taken (inr stops) alone =
+stopped_pulls (Some d) answered lines m held came rest written due more after count e stopped idle taken (inr stops) alone =
     let none : due ≡ [] = idle (λ is. absurd (cc)) in
-    let there = subst (λ (l : List ℕ). StopsAsking m came l d) (ap (λ (l : List ℕ). written ++ l) none ∙ append-nil written) stops in
+    let there = subst (λ (l : List ℕ). StopsAsking None m came l d) (ap (λ (l : List ℕ). written ++ l) none ∙ append-nil written) stops in
     let same : d ≡ e = cc in
-    let did = unasked_pulled m came held written e more after (subst (StopsAsking m came written) same there) alone in
+    let did = unasked_pulled m came held written e more after (subst (StopsAsking None m came written) same there) alone in
     (did.0, subst (HasGained m held) (sym taken) did.1)

@@ -1,7 +1,7 @@
 -- Several lines, taken by one call.
 use Rattle.std.proofs.Common.{◌≡◌, ◌≢◌, ℕ, zero, suc, ◌+◌, ◌-◌, ◌<◌, ◌≤◌, ◌⊎◌, inl, inr, List, [], ◌∷◌, ◌++◌, length, take, drop}
 use Rattle.std.proofs.Common.{refl, sym, ap, ◌∙◌, subst, append_assoc, append-nil, length-append, length-drop, take-append-drop, arith}
-use Rattle.std.specs.Prelude.{flat_map}
+use Rattle.std.specs.Prelude.{flat_map, Option}
 use Rattle.std.proofs.lemmas.Grind.{flat_map-append}
 use Rattle.std.proofs.lemmas.List.{take_rest}
 use Rattle.std.proofs.lemmas.List.Sums.{fold-append}
@@ -13,7 +13,7 @@ use Rattle.replica_core.proofs.JudgeFacts.{all-push}
 use Rattle.replica_texts.specs.SoleLines.{IsWellFormed}
 use Rattle.replica_journal.specs.Journal.{entry_text}
 use Rattle.replica_sync.specs.PulledPieces.{AreAlone, AreNewInTurn, Journals, JournalsAll, JournalsEntry, PulledPiece}
-use Rattle.replica_sync.specs.PullSessions.{EndsInFeed, HasPulledPieces, IsOverPulling, PullsLines, TakesBytes, TakesLines, TakesNoMore, due_have}
+use Rattle.replica_sync.specs.PullSessions.{EndsInFeed, HasPulledAbout, IsOverPulling, PullsLines, TakesBytes, TakesLines, TakesNoMore, due_have}
 use Rattle.replica_sync.specs.declared.piece_pulling.Pulling.{Pulling}
 use Rattle.replica_sync.proofs.PulledPieceFacts.{bytes_more}
 
@@ -73,8 +73,8 @@ alone_more before after (first ∷ came) c alone same = (alone.0, alone_more fir
 
 -- what one call does to a session, whichever it is
 abbrev pub PullsPiece : Pulling → PulledPiece → Pulling → Type 0
-PullsPiece before c after = (start : Meaning) (came : List PulledPiece) (written : List ℕ) → c.old.config ≡ start.config
-    → HasPulledPieces before start came written → HasPulledPieces after start (came ++ c ∷ []) written
+PullsPiece before c after = (plan : Option (List ℕ)) (start : Meaning) (came : List PulledPiece) (written : List ℕ) → c.old.config ≡ start.config
+    → HasPulledAbout plan before start came written → HasPulledAbout plan after start (came ++ c ∷ []) written
 
 -- the same, by its parts
 abbrev pub Lines : Pulling → Meaning → List ℕ → Pulling → Meaning → Type 0
@@ -86,7 +86,7 @@ pulls_none p m = record {
   pieces = [];
   whole = refl;
   alone = refl;
-  pulls = λ start came written same h. subst (λ (l : List PulledPiece). HasPulledPieces p start l written) (sym (append-nil came)) h;
+  pulls = λ plan start came written same h. subst (λ (l : List PulledPiece). HasPulledAbout plan p start l written) (sym (append-nil came)) h;
 }
 
 -- One more line is taken.
@@ -96,9 +96,9 @@ pulls_more p then q old mid bytes c all at same one = record {
   pieces = all.pieces ++ c ∷ [];
   whole = bytes_more all.pieces c ∙ ap (λ (l : List ℕ). l ++ c.bytes) all.whole;
   alone = alone_more old mid all.pieces c all.alone at;
-  pulls = λ start came written own h.
-      subst (λ (l : List PulledPiece). HasPulledPieces q start l written) (append_assoc came all.pieces (c ∷ []))
-      (one start (came ++ all.pieces) written (ap (λ (m : Meaning). m.config) at ∙ same ∙ own) (all.pulls start came written own h));
+  pulls = λ plan start came written own h.
+      subst (λ (l : List PulledPiece). HasPulledAbout plan q start l written) (append_assoc came all.pieces (c ∷ []))
+      (one plan start (came ++ all.pieces) written (ap (λ (m : Meaning). m.config) at ∙ same ∙ own) (all.pulls plan start came written own h));
 }
 
 -- ---- the bytes

@@ -2,7 +2,7 @@
 use Rattle.std.proofs.Common.{◌≡◌, ℕ, zero, suc, ◌+◌, ◌-◌, ◌<◌, ◌≤◌, ◌⊎◌, inl, inr, Bool, true, false, List, [], ◌∷◌, ◌++◌, length, take, drop}
 use Rattle.std.proofs.Common.{Option, None, Some, refl, sym, ap, ◌∙◌, subst, append_assoc, append-nil, length-append, take-append-drop, length-take, arith}
 use Rattle.std.specs.List.{flat_map}
-use Rattle.std.specs.Prelude.{◌↔◌}
+use Rattle.std.specs.Prelude.{◌↔◌, MatchOption}
 use Rattle.std.proofs.lemmas.Bool.{cases_eq}
 use Rattle.std.proofs.lemmas.List.{take_all}
 use Rattle.fed_config.specs.Configuration.{Configuration}
@@ -24,11 +24,13 @@ use Rattle.replica_texts.specs.declared.entry_line.Wanted.{Wanted}
 use Rattle.replica_texts.specs.declared.entry_line.Wanted.TheVariants.{Records, Receipts}
 use Rattle.replica_sync.proofs.TakingFacts.{wants}
 use Rattle.replica_sync.specs.Pieces.{EndsLine, piece_run}
+use Rattle.replica_sync.specs.Plans.{answered_of, bucket_at, asked_count, plan_of}
 use Rattle.replica_sync.specs.PulledPieces.{IsPulledGive, PulledGive, PulledGives, PulledPiece, bytes_pulled, lines_pulled, receipts_pulled}
 use Rattle.replica_sync.specs.PullSessions.{GoesOnPulling, HasLinesOf, HasNoLineOf, HasPartOf, PullsPieces, StopsAnswer}
 use Rattle.replica_sync.specs.PullSessions.{EndsInFeed, StopsAsking, StopsInGive, refused_where}
-use Rattle.replica_sync.specs.Inside.AnswerSteps.{Asks, EndsAnswer, FailsPulled, LineLeft, PullState, RefusesAnswerLine, RefusesAsking, RefusesEnded}
-use Rattle.replica_sync.specs.Inside.AnswerSteps.{RefusesLong, RefusesPulled, StaysWithin, TakesAnswerLine, TakesPulled, WaitsOn}
+use Rattle.replica_sync.specs.Inside.AnswerSteps.{HasNoLines, HasSameCountsBut}
+use Rattle.replica_sync.specs.Inside.AnswerSteps.{Asks, EndsAnswer, FailsPulled, GoesOnAfter, IsNextAt, LineLeft, PassesOn, PullState, RefusesAnswerLine}
+use Rattle.replica_sync.specs.Inside.AnswerSteps.{RefusesAsking, RefusesEnded, RefusesLong, RefusesPulled, StaysWithin, TakesAnswerLine, TakesPulled, WaitsOn}
 use Rattle.replica_sync.specs.Inside.NextLines.{IsNextOf, RefusesHere}
 use Rattle.replica_sync.specs.declared.answer_lines.AnswerLines.{AnswerLines}
 use Rattle.replica_sync.proofs.CutFacts.{ended_split}
@@ -43,43 +45,46 @@ none_more : (later : List PulledPiece) (c : PulledPiece) → c.bytes ≡ [] → 
 none_more later c none before = bytes_more later c ∙ ap (λ (l : List ℕ). l ++ c.bytes) before ∙ none
 
 -- Where nothing is taken, the session is where it was.
-pub pulled_nothing : (f : Option SyncError) (lines : AnswerLines) (start : Meaning) (came : List PulledPiece) (rest output : List ℕ) (c : PulledPiece)
-    → f ≡ None → c.bytes ≡ [] → c.new ≡ c.old → PullsPieces f lines start came rest output
-    → PullsPieces f lines start (came ++ c ∷ []) rest output
-pulled_nothing None lines start came rest output c sound none quiet (inl on) = inl (record {
+pub pulled_nothing : (plan : Option (List ℕ)) (f : Option SyncError) (answered : ℕ) (lines : AnswerLines) (start : Meaning) (came : List PulledPiece)
+    (rest output : List ℕ) (c : PulledPiece)
+    → f ≡ None → c.bytes ≡ [] → c.new ≡ c.old → PullsPieces plan f answered lines start came rest output
+    → PullsPieces plan f answered lines start (came ++ c ∷ []) rest output
+pulled_nothing plan None answered lines start came rest output c sound none quiet (inl on) = inl (record {
   gives = on.gives;
   later = on.later ++ c ∷ [];
-  whole = pulled_more start came on.gives on.later c on.whole;
+  whole = pulled_more plan start came on.gives on.later c on.whole;
   few = on.few;
+  number = on.number;
   bucket = on.bucket;
+  below = on.below;
   part = subst (HasPartOf start.config lines (lines_pulled on.gives) (on.later ++ c ∷ [])) (ap (λ (l : List ℕ). rest ++ l) none ∙ append-nil rest)
       (part_within start.config lines (lines_pulled on.gives) on.later rest c quiet on.part);
   asked = on.asked;
 })
-pulled_nothing None lines start came rest output c sound none quiet (inr all) = inr (record {
+pulled_nothing plan None answered lines start came rest output c sound none quiet (inr all) = inr (record {
   gives = all.gives;
   later = all.later ++ c ∷ [];
-  whole = pulled_more start came all.gives all.later c all.whole;
+  whole = pulled_more plan start came all.gives all.later c all.whole;
   all = all.all;
   bucket = all.bucket;
   none = none_more all.later c none all.none;
   takes = takes_quiet all.later [] c all.takes quiet;
   asked = all.asked;
 })
-pulled_nothing (Some e) lines start came rest output c sound none quiet pulls = absurd (cc)
+pulled_nothing plan (Some e) answered lines start came rest output c sound none quiet pulls = absurd (cc)
 
 -- After a fault nothing is taken, whatever comes.
-pub pulled_still : (f : Option SyncError) (why : SyncError) (lines : AnswerLines) (start : Meaning) (came : List PulledPiece) (rest output : List ℕ)
-    (c : PulledPiece) → f ≡ Some why → c.new ≡ c.old → PullsPieces f lines start came rest output
-    → PullsPieces f lines start (came ++ c ∷ []) rest output
-pulled_still None why lines start came rest output c stopped quiet pulls = absurd (cc)
-pulled_still (Some e) why lines start came rest output c stopped quiet (inl stops) = inl (record {
+pub pulled_still : (plan : Option (List ℕ)) (f : Option SyncError) (why : SyncError) (answered : ℕ) (lines : AnswerLines) (start : Meaning)
+    (came : List PulledPiece) (rest output : List ℕ) (c : PulledPiece) → f ≡ Some why → c.new ≡ c.old → PullsPieces plan f answered lines start came rest output
+    → PullsPieces plan f answered lines start (came ++ c ∷ []) rest output
+pulled_still plan None why answered lines start came rest output c stopped quiet pulls = absurd (cc)
+pulled_still plan (Some e) why answered lines start came rest output c stopped quiet (inl stops) = inl (record {
   gives = stops.gives;
   part = stops.part;
   last = stops.last;
   later = stops.later ++ c ∷ [];
-  whole = subst (PulledGives start (came ++ c ∷ []) stops.gives) (append_assoc stops.part (stops.last ∷ stops.later) (c ∷ []))
-      (pulled_more start came stops.gives (stops.part ++ stops.last ∷ stops.later) c stops.whole);
+  whole = subst (PulledGives plan start (came ++ c ∷ []) stops.gives) (append_assoc stops.part (stops.last ∷ stops.later) (c ∷ []))
+      (pulled_more plan start came stops.gives (stops.part ++ stops.last ∷ stops.later) c stops.whole);
   few = stops.few;
   content = stops.content;
   takes = stops.takes;
@@ -87,13 +92,13 @@ pulled_still (Some e) why lines start came rest output c stopped quiet (inl stop
   cause = stops.cause;
   asked = stops.asked;
 })
-pulled_still (Some e) why lines start came rest output c stopped quiet (inr stops) = inr (record {
+pulled_still plan (Some e) why answered lines start came rest output c stopped quiet (inr stops) = inr (record {
   gives = stops.gives;
   part = stops.part;
   last = stops.last;
   later = stops.later ++ c ∷ [];
-  whole = subst (PulledGives start (came ++ c ∷ []) stops.gives) (append_assoc stops.part (stops.last ∷ stops.later) (c ∷ []))
-      (pulled_more start came stops.gives (stops.part ++ stops.last ∷ stops.later) c stops.whole);
+  whole = subst (PulledGives plan start (came ++ c ∷ []) stops.gives) (append_assoc stops.part (stops.last ∷ stops.later) (c ∷ []))
+      (pulled_more plan start came stops.gives (stops.part ++ stops.last ∷ stops.later) c stops.whole);
   few = stops.few;
   give = stops.give;
   about = stops.about;
@@ -112,19 +117,21 @@ abbrev pub piece_at : List ℕ → PullState → PullState → PulledPiece
 piece_at bytes old new = record { bytes = bytes; old = old.held; new = new.held }
 
 -- No line ended.
-stays : (start : Meaning) (came : List PulledPiece) (old new : PullState) (piece : List ℕ) (used : ℕ) (due output : List ℕ)
-    → StaysWithin old piece used new due → GoesOnPulling old.lines start came old.kept output
-    → GoesOnPulling new.lines start (came ++ piece_at (take used piece) old new ∷ []) new.kept output
-stays start came old new piece used due output within on =
+stays : (plan : Option (List ℕ)) (start : Meaning) (came : List PulledPiece) (old new : PullState) (piece : List ℕ) (used : ℕ) (due output : List ℕ)
+    → StaysWithin old piece used new due → GoesOnPulling plan (answered_of old.asked) old.lines start came old.kept output
+    → GoesOnPulling plan (answered_of new.asked) new.lines start (came ++ piece_at (take used piece) old new ∷ []) new.kept output
+stays plan start came old new piece used due output within on =
     let c = piece_at (take used piece) old new in
     let all : take used piece ≡ piece = ap (λ (n : ℕ). take n piece) within.all ∙ take_all (length piece) piece (omega arith) in
     let kept : old.kept ++ take used piece ≡ new.kept = ap (λ (l : List ℕ). old.kept ++ l) all ∙ sym within.goes.kept in
-    subst (λ (lines : AnswerLines). GoesOnPulling lines start (came ++ c ∷ []) new.kept output) (sym within.lines) (record {
+    subst (λ (lines : AnswerLines). GoesOnPulling plan (answered_of new.asked) lines start (came ++ c ∷ []) new.kept output) (sym within.lines) (record {
       gives = on.gives;
       later = on.later ++ c ∷ [];
-      whole = pulled_more start came on.gives on.later c on.whole;
+      whole = pulled_more plan start came on.gives on.later c on.whole;
       few = on.few;
+      number = ap answered_of within.asked ∙ on.number;
       bucket = on.bucket;
+      below = on.below;
       part = subst (HasPartOf start.config old.lines (lines_pulled on.gives) (on.later ++ c ∷ [])) kept
           (part_within start.config old.lines (lines_pulled on.gives) on.later old.kept c within.held on.part);
       asked = on.asked;
@@ -157,20 +164,20 @@ abbrev pub give_came : Configuration → ℕ → State → List PulledPiece → 
 give_came config bucket content before last = record { give = give_with config bucket content; before = before; last = last }
 
 -- One more answer came whole.
-record EndsGive (start : Meaning) (came : List PulledPiece) (gives : List PulledGive) (output : List ℕ) (lines new : AnswerLines)
-    (last : PulledPiece) : Type 0 where
+record EndsGive (plan : Option (List ℕ)) (start : Meaning) (came : List PulledPiece) (gives : List PulledGive) (output : List ℕ)
+    (lines new : AnswerLines) (last : PulledPiece) : Type 0 where
   pub g : PulledGive
   pub is_last : g.last ≡ last
-  pub whole : PulledGives start came (gives ++ g ∷ []) []
-  pub bucket : new.bucket ≡ length gives + 1
+  pub whole : PulledGives plan start came (gives ++ g ∷ []) []
   pub part : HasNoLineOf new (lines_pulled (gives ++ g ∷ [])) [] []
 
-ends_give : (start : Meaning) (came : List PulledPiece) (gives : List PulledGive) (later : List PulledPiece) (c : PulledPiece) (output : List ℕ)
-    (lines new : AnswerLines) (left : LineLeft) → lines.bucket ≡ length gives → PulledGives start came gives later → 0 < length c.bytes
+ends_give : (plan : Option (List ℕ)) (start : Meaning) (came : List PulledPiece) (gives : List PulledGive) (later : List PulledPiece) (c : PulledPiece)
+    (output : List ℕ) (lines new : AnswerLines) (left : LineLeft) → lines.bucket ≡ bucket_at plan (length gives)
+    → PulledGives plan start came gives later → 0 < length c.bytes
     → CameNow start lines (lines_pulled gives) left (bytes_pulled later ++ c.bytes) (later ++ c ∷ []) → EndsAnswer lines new left
     → new.read ≡ lines.read + 1
-    → EndsGive start (came ++ c ∷ []) gives output lines new c
-ends_give start came gives later c output lines new left bucket whole some now moves read =
+    → EndsGive plan start (came ++ c ∷ []) gives output lines new c
+ends_give plan start came gives later c output lines new left bucket whole some now moves read =
     let g = give_came start.config lines.bucket now.content later c in
     let is = answer_whole start.config lines.bucket (lines_pulled gives) left (lines.read + 1) (bytes_pulled later ++ c.bytes) (later ++ c ∷ []) now
     moves.receipts moves.records in
@@ -182,13 +189,11 @@ ends_give start came gives later c output lines new left bucket whole some now m
     } in
     let more = lines_then gives g in
     let number = now.read in
-    let next = moves.bucket in
     record {
       g = g;
       is_last = refl;
-      whole = whole_more start (came ++ c ∷ []) gives g (pulled_more start came gives later c whole)
+      whole = whole_more plan start (came ++ c ∷ []) gives g (pulled_more plan start came gives later c whole)
           (subst (λ (b : ℕ). IsPulledGive start.config b g) bucket one);
-      bucket = omega (arith, next, bucket);
       part = record { none = moves.none; bytes = refl; takes = tt; read = omega (arith, read, number, more) };
     }
 
@@ -197,11 +202,12 @@ some_taken : (used : ℕ) (piece : List ℕ) → 0 < used → used ≤ length pi
 some_taken used piece some within = let size = length-take used piece in omega (arith, some, within, size)
 
 -- A line ended, and its answer goes on.
-line_waits : (start : Meaning) (came : List PulledPiece) (old new : PullState) (piece : List ℕ) (used : ℕ) (text output : List ℕ)
+line_waits : (plan : Option (List ℕ)) (start : Meaning) (came : List PulledPiece) (old new : PullState) (piece : List ℕ) (used : ℕ) (text output : List ℕ)
     → old.held.config ≡ start.config → EndsLine (piece_run line_limit old.kept piece) used text → new.kept ≡ []
-    → TakesAnswerLine old.held old.lines text new.held new.lines false → GoesOnPulling old.lines start came old.kept output
-    → GoesOnPulling new.lines start (came ++ piece_at (take used piece) old new ∷ []) new.kept output
-line_waits start came old new piece used text output own ends kept takes on =
+    → TakesAnswerLine old.held old.lines text new.held new.lines false → new.asked ≡ old.asked
+    → GoesOnPulling plan (answered_of old.asked) old.lines start came old.kept output
+    → GoesOnPulling plan (answered_of new.asked) new.lines start (came ++ piece_at (take used piece) old new ∷ []) new.kept output
+line_waits plan start came old new piece used text output own ends kept takes asked on =
     let c = piece_at (take used piece) old new in
     let left = takes.left in
     let moves = takes.moves in
@@ -211,87 +217,149 @@ line_waits start came old new piece used text output own ends kept takes on =
     record {
       gives = on.gives;
       later = on.later ++ c ∷ [];
-      whole = pulled_more start came on.gives on.later c on.whole;
+      whole = pulled_more plan start came on.gives on.later c on.whole;
       few = on.few;
+      number = ap answered_of asked ∙ on.number;
       bucket = moves.bucket ∙ on.bucket;
+      below = subst (λ (b : ℕ). b < 256) (sym moves.bucket) on.below;
       part = subst (HasPartOf start.config new.lines (lines_pulled on.gives) (on.later ++ c ∷ [])) (sym kept)
           (waits start old.lines new.lines (lines_pulled on.gives) left (on.later ++ c ∷ []) there moves takes.read takes.last);
       asked = on.asked;
     }
 
 -- A line ended, and an answer with it.
-line_ends : (start : Meaning) (came : List PulledPiece) (old new : PullState) (piece : List ℕ) (used : ℕ) (text output : List ℕ)
-    → old.held.config ≡ start.config → EndsLine (piece_run line_limit old.kept piece) used text
-    → TakesAnswerLine old.held old.lines text new.held new.lines true → (on : GoesOnPulling old.lines start came old.kept output)
-    → EndsGive start (came ++ piece_at (take used piece) old new ∷ []) on.gives output old.lines new.lines (piece_at (take used piece) old new)
-line_ends start came old new piece used text output own ends takes on =
+line_ends : (plan : Option (List ℕ)) (start : Meaning) (came : List PulledPiece) (old new : PullState) (lines : AnswerLines) (piece : List ℕ) (used : ℕ)
+    (text output : List ℕ) → old.held.config ≡ start.config → EndsLine (piece_run line_limit old.kept piece) used text
+    → TakesAnswerLine old.held old.lines text new.held lines true
+    → (on : GoesOnPulling plan (answered_of old.asked) old.lines start came old.kept output)
+    → EndsGive plan start (came ++ piece_at (take used piece) old new ∷ []) on.gives output old.lines lines (piece_at (take used piece) old new)
+line_ends plan start came old new lines piece used text output own ends takes on =
     let c = piece_at (take used piece) old new in
     let now = line_came start.config old.held old.lines (lines_pulled on.gives) on.later old.kept (take used piece) text new.held takes.left c own on.part
     takes.steps refl refl ends.parts in
-    ends_give start came on.gives on.later c output old.lines new.lines takes.left on.bucket on.whole (some_taken used piece ends.some ends.within) now
+    ends_give plan start came on.gives on.later c output old.lines lines takes.left on.bucket on.whole (some_taken used piece ends.some ends.within) now
     takes.moves takes.read
 
+-- After an answer the next one of the plan is waited for.
+record NextPlace (plan : Option (List ℕ)) (gives : List PulledGive) (new : PullState) : Type 0 where
+  pub few : length gives + 1 < asked_count plan
+  pub answered : answered_of new.asked ≡ length gives + 1
+  pub bucket : new.lines.bucket ≡ bucket_at plan (length gives + 1)
+
+-- After an answer one more is counted.
+one_more_place : (plan : Option (List ℕ)) (start : Meaning) (came : List PulledPiece) (old new : PullState) (lines : AnswerLines) (output : List ℕ)
+    → plan_of old.asked ≡ plan → (on : GoesOnPulling plan (answered_of old.asked) old.lines start came old.kept output) → PassesOn old lines new
+    → answered_of new.asked ≡ length on.gives + 1
+one_more_place plan start came old new lines output is_plan on passes =
+    let few : answered_of old.asked < asked_count (plan_of old.asked) =
+    subst (λ (p : Option (List ℕ)). answered_of old.asked < asked_count p) (sym is_plan)
+    (subst (λ (n : ℕ). n < asked_count plan) (sym on.number) on.few) in
+    passes.more few ∙ ap (λ (n : ℕ). n + 1) on.number
+
+-- which answer is next, by the plan
+plan_next : (plan : Option (List ℕ)) (old : PullState) (lines : AnswerLines) (new : PullState) (place : ℕ) → plan_of old.asked ≡ plan
+    → answered_of new.asked ≡ place → PassesOn old lines new → IsNextAt plan place new.lines
+plan_next plan old lines new place is_plan at passes =
+    subst (λ (n : ℕ). IsNextAt plan n new.lines) at
+    (subst (λ (p : Option (List ℕ)). IsNextAt p (answered_of new.asked) new.lines) (passes.plan ∙ is_plan) passes.next)
+
+next_place : (plan : Option (List ℕ)) (start : Meaning) (came : List PulledPiece) (old new : PullState) (lines : AnswerLines) (output : List ℕ)
+    → plan_of old.asked ≡ plan → (on : GoesOnPulling plan (answered_of old.asked) old.lines start came old.kept output) → PassesOn old lines new
+    → new.lines.bucket < 256 → NextPlace plan on.gives new
+next_place plan start came old new lines output is_plan on passes below =
+    let at = one_more_place plan start came old new lines output is_plan on passes in
+    elim (plan_next plan old lines new (length on.gives + 1) is_plan at passes) [
+      | inl over ↦ absurd (let none = over.1 in omega (arith, none, below))
+      | inr more ↦ record { few = more.0; answered = at; bucket = more.1.1 }
+    ]
+
+past_last : (plan : Option (List ℕ)) (start : Meaning) (came : List PulledPiece) (old new : PullState) (lines : AnswerLines) (output : List ℕ)
+    → plan_of old.asked ≡ plan → (on : GoesOnPulling plan (answered_of old.asked) old.lines start came old.kept output) → PassesOn old lines new
+    → new.lines.bucket ≡ 256 → asked_count plan ≤ length on.gives + 1
+past_last plan start came old new lines output is_plan on passes none =
+    let at = one_more_place plan start came old new lines output is_plan on passes in
+    elim (plan_next plan old lines new (length on.gives + 1) is_plan at passes) [
+      | inl over ↦ over.0
+      | inr more ↦ absurd (let below = more.1.0 in omega (arith, none, below))
+    ]
+
 -- After an answer the next one is asked for, or all came.
-asks_next : (start : Meaning) (came : List PulledPiece) (old new : PullState) (piece : List ℕ) (used : ℕ) (due output : List ℕ)
-    → (on : GoesOnPulling old.lines start came old.kept output) → new.kept ≡ []
-    → EndsGive start (came ++ piece_at (take used piece) old new ∷ []) on.gives output old.lines new.lines (piece_at (take used piece) old new)
-    → Asks new.held new.lines true due → PullsPieces None new.lines start (came ++ piece_at (take used piece) old new ∷ []) new.kept (output ++ due)
-asks_next start came old new piece used due output on kept one (inl over) =
+asks_next : (plan : Option (List ℕ)) (start : Meaning) (came : List PulledPiece) (old new : PullState) (lines : AnswerLines) (piece : List ℕ) (used : ℕ)
+    (due output : List ℕ) → plan_of old.asked ≡ plan → (on : GoesOnPulling plan (answered_of old.asked) old.lines start came old.kept output)
+    → new.kept ≡ []
+    → EndsGive plan start (came ++ piece_at (take used piece) old new ∷ []) on.gives output old.lines lines (piece_at (take used piece) old new)
+    → PassesOn old lines new → Asks new.held new.lines true due
+    → PullsPieces plan None (answered_of new.asked) new.lines start (came ++ piece_at (take used piece) old new ∷ []) new.kept (output ++ due)
+asks_next plan start came old new lines piece used due output is_plan on kept one passes (inl over) =
     let longer = length-append on.gives (one.g ∷ []) in
-    let bucket = one.bucket in
-    let last = over.0 in
+    let few = on.few in
+    let last = past_last plan start came old new lines output is_plan on passes over.0 in
     inr (record {
       gives = on.gives ++ one.g ∷ [];
       later = [];
       whole = one.whole;
-      all = omega (arith, longer, bucket, last);
-      bucket = last;
+      all = omega (arith, longer, few, last);
+      bucket = over.0;
       none = refl;
       takes = tt;
       asked = ap (λ (l : List ℕ). output ++ l) over.1 ∙ append-nil output ∙ on.asked
-          ∙ ap (flat_map have_text) (sym (haves_whole start on.gives one.g));
+          ∙ ap (flat_map have_text) (sym (haves_whole plan start on.gives one.g));
     })
-asks_next start came old new piece used due output on kept one (inr more) =
+asks_next plan start came old new lines piece used due output is_plan on kept one passes (inr more) =
     let c = piece_at (take used piece) old new in
     let longer = length-append on.gives (one.g ∷ []) in
-    let bucket = one.bucket in
-    let few = more.0 in
+    let next = next_place plan start came old new lines output is_plan on passes more.0 in
+    let few = next.few in
+    let answered = next.answered in
     inl (record {
       gives = on.gives ++ one.g ∷ [];
       later = [];
       whole = one.whole;
-      few = omega (arith, longer, bucket, few);
-      bucket = omega (arith, longer, bucket);
-      part = inl (record { none = one.part.none; bytes = sym kept; takes = tt; read = one.part.read });
+      few = subst (λ (n : ℕ). n < asked_count plan) (sym longer) few;
+      number = omega (arith, longer, answered);
+      bucket = next.bucket ∙ ap (bucket_at plan) (sym longer);
+      below = more.0;
+      part = inl (record {
+        none = passes.counts.begun ∙ one.part.none;
+        bytes = sym kept;
+        takes = tt;
+        read = passes.counts.read ∙ one.part.read;
+      });
       asked = ap (λ (l : List ℕ). output ++ l) more.1
           ∙ ap (λ (d : PulledPiece). output ++ have_text (have_of d.new new.lines.bucket)) (sym one.is_last)
-          ∙ asked_more start on.gives one.g output new.lines.bucket on.asked bucket;
+          ∙ asked_more plan start on.gives one.g output new.lines.bucket on.asked next.bucket;
     })
 
 -- A line ended, and is taken.
-line_pulled : (start : Meaning) (came : List PulledPiece) (old new : PullState) (piece : List ℕ) (used : ℕ) (text due output : List ℕ) (whole : Bool)
-    → old.held.config ≡ start.config → EndsLine (piece_run line_limit old.kept piece) used text → new.kept ≡ []
-    → TakesAnswerLine old.held old.lines text new.held new.lines whole → Asks new.held new.lines whole due
-    → GoesOnPulling old.lines start came old.kept output
-    → PullsPieces None new.lines start (came ++ piece_at (take used piece) old new ∷ []) new.kept (output ++ due)
-line_pulled start came old new piece used text due output false own ends kept takes asks on =
+line_pulled : (plan : Option (List ℕ)) (start : Meaning) (came : List PulledPiece) (old new : PullState) (lines : AnswerLines) (piece : List ℕ)
+    (used : ℕ) (text due output : List ℕ) (whole : Bool) → plan_of old.asked ≡ plan → old.held.config ≡ start.config
+    → EndsLine (piece_run line_limit old.kept piece) used text → new.kept ≡ []
+    → TakesAnswerLine old.held old.lines text new.held lines whole → GoesOnAfter whole old lines new → Asks new.held new.lines whole due
+    → GoesOnPulling plan (answered_of old.asked) old.lines start came old.kept output
+    → PullsPieces plan None (answered_of new.asked) new.lines start (came ++ piece_at (take used piece) old new ∷ []) new.kept (output ++ due)
+line_pulled plan start came old new lines piece used text due output false is_plan own ends kept takes passes asks on =
     let c = piece_at (take used piece) old new in
     let same : output ≡ output ++ due = sym (append-nil output) ∙ ap (λ (l : List ℕ). output ++ l) (sym asks) in
-    inl (subst (GoesOnPulling new.lines start (came ++ c ∷ []) new.kept) same
-    (line_waits start came old new piece used text output own ends kept takes on))
-line_pulled start came old new piece used text due output true own ends kept takes asks on =
-    asks_next start came old new piece used due output on kept (line_ends start came old new piece used text output own ends takes on) asks
+    let there = subst (λ (ls : AnswerLines). TakesAnswerLine old.held old.lines text new.held ls false) (sym passes.0) takes in
+    inl (subst (GoesOnPulling plan (answered_of new.asked) new.lines start (came ++ c ∷ []) new.kept) same
+    (line_waits plan start came old new piece used text output own ends kept there passes.1 on))
+line_pulled plan start came old new lines piece used text due output true is_plan own ends kept takes passes asks on =
+    asks_next plan start came old new lines piece used due output is_plan on kept
+    (line_ends plan start came old new lines piece used text output own ends takes on) passes asks
 
 -- A piece is taken by a session that goes on.
-pub pulled_piece : (start : Meaning) (came : List PulledPiece) (old new : PullState) (piece : List ℕ) (used : ℕ) (due output : List ℕ)
-    → old.held.config ≡ start.config → TakesPulled old piece used new due → GoesOnPulling old.lines start came old.kept output
-    → PullsPieces None new.lines start (came ++ piece_at (take used piece) old new ∷ []) new.kept (output ++ due)
-pulled_piece start came old new piece used due output own (inl within) on =
+pub pulled_piece : (plan : Option (List ℕ)) (start : Meaning) (came : List PulledPiece) (old new : PullState) (piece : List ℕ) (used : ℕ)
+    (due output : List ℕ) → plan_of old.asked ≡ plan → old.held.config ≡ start.config → TakesPulled old piece used new due
+    → GoesOnPulling plan (answered_of old.asked) old.lines start came old.kept output
+    → PullsPieces plan None (answered_of new.asked) new.lines start (came ++ piece_at (take used piece) old new ∷ []) new.kept (output ++ due)
+pulled_piece plan start came old new piece used due output is_plan own (inl within) on =
     let c = piece_at (take used piece) old new in
     let same : output ≡ output ++ due = sym (append-nil output) ∙ ap (λ (l : List ℕ). output ++ l) (sym within.none) in
-    inl (subst (GoesOnPulling new.lines start (came ++ c ∷ []) new.kept) same (stays start came old new piece used due output within on))
-pulled_piece start came old new piece used due output own (inr line) on =
-    line_pulled start came old new piece used line.text due output line.whole own line.ends line.kept line.takes line.asks on
+    inl (subst (GoesOnPulling plan (answered_of new.asked) new.lines start (came ++ c ∷ []) new.kept) same
+    (stays plan start came old new piece used due output within on))
+pulled_piece plan start came old new piece used due output is_plan own (inr line) on =
+    line_pulled plan start came old new line.lines piece used line.text due output line.whole is_plan own line.ends line.kept line.takes line.passes
+    line.asks on
 
 -- ---- a fault
 
@@ -497,11 +565,11 @@ some_stops old config before later piece more after e own due some (inr (inr end
     ]
 
 -- A line is not taken.
-refused_piece : (start : Meaning) (came : List PulledPiece) (old new : PullState) (piece output : List ℕ) (e : SyncError)
+refused_piece : (plan : Option (List ℕ)) (start : Meaning) (came : List PulledPiece) (old new : PullState) (piece output : List ℕ) (e : SyncError)
     → old.held.config ≡ start.config → (old.lines.is_begun ≡ true → 0 < old.lines.due.receipts + old.lines.due.records)
-    → RefusesPulled old piece new e → GoesOnPulling old.lines start came old.kept output
-    → StopsInGive start (came ++ piece_at piece old new ∷ []) output e
-refused_piece start came old new piece output e own due refused on =
+    → RefusesPulled old piece new e → GoesOnPulling plan (answered_of old.asked) old.lines start came old.kept output
+    → StopsInGive plan start (came ++ piece_at piece old new ∷ []) output e
+refused_piece plan start came old new piece output e own due refused on =
     let c = piece_at piece old new in
     elim on.part [
       | inl none ↦ record {
@@ -509,7 +577,7 @@ refused_piece start came old new piece output e own due refused on =
         part = on.later;
         last = c;
         later = [];
-        whole = pulled_more start came on.gives on.later c on.whole;
+        whole = pulled_more plan start came on.gives on.later c on.whole;
         few = on.few;
         content = no_state;
         takes = none.takes;
@@ -524,7 +592,7 @@ refused_piece start came old new piece output e own due refused on =
         part = on.later;
         last = c;
         later = [];
-        whole = pulled_more start came on.gives on.later c on.whole;
+        whole = pulled_more plan start came on.gives on.later c on.whole;
         few = on.few;
         content = some.content;
         takes = some.takes;
@@ -537,10 +605,11 @@ refused_piece start came old new piece output e own due refused on =
     ]
 
 -- An answer is taken whole, and the next have is not made.
-refused_asking : (start : Meaning) (came : List PulledPiece) (old new : PullState) (piece output : List ℕ) (e : SyncError)
-    → old.held.config ≡ start.config → RefusesAsking old piece new e → GoesOnPulling old.lines start came old.kept output
-    → StopsAsking start (came ++ piece_at piece old new ∷ []) output e
-refused_asking start came old new piece output e own refused on =
+refused_asking : (plan : Option (List ℕ)) (start : Meaning) (came : List PulledPiece) (old new : PullState) (piece output : List ℕ) (e : SyncError)
+    → plan_of old.asked ≡ plan → old.held.config ≡ start.config → RefusesAsking old piece new e
+    → GoesOnPulling plan (answered_of old.asked) old.lines start came old.kept output
+    → StopsAsking plan start (came ++ piece_at piece old new ∷ []) output e
+refused_asking plan start came old new piece output e is_plan own refused on =
     let c = piece_at piece old new in
     let used = refused.used in
     let takes = refused.takes in
@@ -550,18 +619,15 @@ refused_asking start came old new piece output e own refused on =
     let is = answer_whole start.config old.lines.bucket (lines_pulled on.gives) left (old.lines.read + 1) (bytes_pulled on.later ++ take used piece)
     (on.later ++ c ∷ []) now takes.moves.receipts takes.moves.records in
     let give = give_with start.config old.lines.bucket now.content in
-    let next = takes.moves.bucket in
-    let few = refused.few in
-    let bucket = on.bucket in
     record {
       gives = on.gives;
       part = on.later;
       last = c;
       later = [];
-      whole = pulled_more start came on.gives on.later c on.whole;
-      few = omega (arith, next, few, bucket);
+      whole = pulled_more plan start came on.gives on.later c on.whole;
+      few = (next_place plan start came old new refused.lines output is_plan on refused.passes refused.few).few;
       give = give;
-      about = subst (λ (b : ℕ). IsGiveAbout start.config b give) bucket is.0;
+      about = subst (λ (b : ℕ). IsGiveAbout start.config b give) on.bucket is.0;
       behind = drop used piece;
       text = ap (λ (l : List ℕ). bytes_pulled on.later ++ l) (sym (take-append-drop used piece))
           ∙ sym (append_assoc (bytes_pulled on.later) (take used piece) (drop used piece))
@@ -573,12 +639,14 @@ refused_asking start came old new piece output e own refused on =
     }
 
 -- A fault ends the session.
-pub pulled_stops : (start : Meaning) (came : List PulledPiece) (old new : PullState) (piece rest output : List ℕ) (e : SyncError)
-    → old.held.config ≡ start.config → (old.lines.is_begun ≡ true → 0 < old.lines.due.receipts + old.lines.due.records)
-    → FailsPulled old piece new e → GoesOnPulling old.lines start came old.kept output
-    → PullsPieces (Some e) new.lines start (came ++ piece_at piece old new ∷ []) rest output
-pulled_stops start came old new piece rest output e own due (inl refused) on = inl (refused_piece start came old new piece output e own due refused on)
-pulled_stops start came old new piece rest output e own due (inr refused) on = inr (refused_asking start came old new piece output e own refused on)
+pub pulled_stops : (plan : Option (List ℕ)) (start : Meaning) (came : List PulledPiece) (old new : PullState) (piece rest output : List ℕ) (e : SyncError)
+    → plan_of old.asked ≡ plan → old.held.config ≡ start.config → (old.lines.is_begun ≡ true → 0 < old.lines.due.receipts + old.lines.due.records)
+    → FailsPulled old piece new e → GoesOnPulling plan (answered_of old.asked) old.lines start came old.kept output
+    → PullsPieces plan (Some e) (answered_of new.asked) new.lines start (came ++ piece_at piece old new ∷ []) rest output
+pulled_stops plan start came old new piece rest output e is_plan own due (inl refused) on =
+    inl (refused_piece plan start came old new piece output e own due refused on)
+pulled_stops plan start came old new piece rest output e is_plan own due (inr refused) on =
+    inr (refused_asking plan start came old new piece output e is_plan own refused on)
 
 -- ---- how many receipts were new
 
@@ -598,11 +666,12 @@ taken_same count came c is quiet =
 -- ---- what was written
 
 -- What was written is no longer due.
-pub wrote_have : (f : Option SyncError) (lines : AnswerLines) (start : Meaning) (came : List PulledPiece) (rest written due later : List ℕ) (count : ℕ)
-    → later ≡ drop count due → PullsPieces f lines start came rest (written ++ due)
-    → PullsPieces f lines start came rest ((written ++ take count due) ++ later)
-wrote_have f lines start came rest written due later count is pulls =
-    subst (PullsPieces f lines start came rest)
+pub wrote_have : (plan : Option (List ℕ)) (f : Option SyncError) (answered : ℕ) (lines : AnswerLines) (start : Meaning) (came : List PulledPiece)
+    (rest written due later : List ℕ) (count : ℕ)
+    → later ≡ drop count due → PullsPieces plan f answered lines start came rest (written ++ due)
+    → PullsPieces plan f answered lines start came rest ((written ++ take count due) ++ later)
+wrote_have plan f answered lines start came rest written due later count is pulls =
+    subst (PullsPieces plan f answered lines start came rest)
     (ap (λ (l : List ℕ). written ++ l) (sym (take-append-drop count due)) ∙ sym (append_assoc written (take count due) (drop count due))
     ∙ ap (λ (l : List ℕ). (written ++ take count due) ++ l) (sym is)) pulls
 
@@ -617,32 +686,33 @@ none_left due later count is none = is ∙ ap (drop count) none ∙ drop_none co
 -- ---- a call
 
 -- A call that takes a piece keeps the promise.
-pub read_took : (f g : Option SyncError) (start : Meaning) (came : List PulledPiece) (old new : PullState) (piece : List ℕ) (used : ℕ)
-    (due later written : List ℕ) → f ≡ None → g ≡ f → due ≡ [] → old.lines.bucket < 256 → old.held.config ≡ start.config
-    → TakesPulled old piece used new later → PullsPieces f old.lines start came old.kept (written ++ due)
-    → PullsPieces g new.lines start (came ++ piece_at (take used piece) old new ∷ []) new.kept (written ++ later)
-read_took None None start came old new piece used due later written sound same idle more own takes (inl on) =
-    pulled_piece start came old new piece used later written own takes
-    (subst (GoesOnPulling old.lines start came old.kept) (ap (λ (l : List ℕ). written ++ l) idle ∙ append-nil written) on)
-read_took None None start came old new piece used due later written sound same idle more own takes (inr all) =
+pub read_took : (plan : Option (List ℕ)) (f g : Option SyncError) (start : Meaning) (came : List PulledPiece) (old new : PullState) (piece : List ℕ) (used : ℕ)
+    (due later written : List ℕ) → plan_of old.asked ≡ plan → f ≡ None → g ≡ f → due ≡ [] → old.lines.bucket < 256
+    → old.held.config ≡ start.config
+    → TakesPulled old piece used new later → PullsPieces plan f (answered_of old.asked) old.lines start came old.kept (written ++ due)
+    → PullsPieces plan g (answered_of new.asked) new.lines start (came ++ piece_at (take used piece) old new ∷ []) new.kept (written ++ later)
+read_took plan None None start came old new piece used due later written is_plan sound same idle more own takes (inl on) =
+    pulled_piece plan start came old new piece used later written is_plan own takes
+    (subst (GoesOnPulling plan (answered_of old.asked) old.lines start came old.kept) (ap (λ (l : List ℕ). written ++ l) idle ∙ append-nil written) on)
+read_took plan None None start came old new piece used due later written is_plan sound same idle more own takes (inr all) =
     absurd (let bucket = all.bucket in omega (arith, bucket, more))
-read_took None (Some e) start came old new piece used due later written sound same idle more own takes pulls = absurd (cc)
-read_took (Some e) g start came old new piece used due later written sound same idle more own takes pulls = absurd (cc)
+read_took plan None (Some e) start came old new piece used due later written is_plan sound same idle more own takes pulls = absurd (cc)
+read_took plan (Some e) g start came old new piece used due later written is_plan sound same idle more own takes pulls = absurd (cc)
 
 -- A call that returns a fault keeps it.
-pub read_stopped : (f : Option SyncError) (e : SyncError) (start : Meaning) (came : List PulledPiece) (old new : PullState)
-    (piece rest due later written : List ℕ) → f ≡ None → due ≡ [] → later ≡ [] → old.lines.bucket < 256 → old.held.config ≡ start.config
-    → (old.lines.is_begun ≡ true → 0 < old.lines.due.receipts + old.lines.due.records) → FailsPulled old piece new e
-    → PullsPieces f old.lines start came old.kept (written ++ due)
-    → PullsPieces (Some e) new.lines start (came ++ piece_at piece old new ∷ []) rest (written ++ later)
-read_stopped None e start came old new piece rest due later written sound idle quiet more own some fails (inl on) =
-    subst (PullsPieces (Some e) new.lines start (came ++ piece_at piece old new ∷ []) rest)
+pub read_stopped : (plan : Option (List ℕ)) (f : Option SyncError) (e : SyncError) (start : Meaning) (came : List PulledPiece) (old new : PullState)
+    (piece rest due later written : List ℕ) → plan_of old.asked ≡ plan → f ≡ None → due ≡ [] → later ≡ [] → old.lines.bucket < 256
+    → old.held.config ≡ start.config → (old.lines.is_begun ≡ true → 0 < old.lines.due.receipts + old.lines.due.records) → FailsPulled old piece new e
+    → PullsPieces plan f (answered_of old.asked) old.lines start came old.kept (written ++ due)
+    → PullsPieces plan (Some e) (answered_of new.asked) new.lines start (came ++ piece_at piece old new ∷ []) rest (written ++ later)
+read_stopped plan None e start came old new piece rest due later written is_plan sound idle quiet more own some fails (inl on) =
+    subst (PullsPieces plan (Some e) (answered_of new.asked) new.lines start (came ++ piece_at piece old new ∷ []) rest)
     (sym (append-nil written) ∙ ap (λ (l : List ℕ). written ++ l) (sym quiet))
-    (pulled_stops start came old new piece rest written e own some fails
-    (subst (GoesOnPulling old.lines start came old.kept) (ap (λ (l : List ℕ). written ++ l) idle ∙ append-nil written) on))
-read_stopped None e start came old new piece rest due later written sound idle quiet more own some fails (inr all) =
+    (pulled_stops plan start came old new piece rest written e is_plan own some fails
+    (subst (GoesOnPulling plan (answered_of old.asked) old.lines start came old.kept) (ap (λ (l : List ℕ). written ++ l) idle ∙ append-nil written) on))
+read_stopped plan None e start came old new piece rest due later written is_plan sound idle quiet more own some fails (inr all) =
     absurd (let bucket = all.bucket in omega (arith, bucket, more))
-read_stopped (Some d) e start came old new piece rest due later written sound idle quiet more own some fails pulls = absurd (cc)
+read_stopped plan (Some d) e start came old new piece rest due later written is_plan sound idle quiet more own some fails pulls = absurd (cc)
 
 -- A session that is not over waits for an answer.
 pub below_last : (over : Bool) (bucket : ℕ) → ((over ≡ true) ↔ (bucket ≡ 256)) → over ≡ false → bucket ≤ 256 → bucket < 256
@@ -669,7 +739,7 @@ no_number m lines text some = memory_refuses lines.is_begun m lines text refl so
 -- ---- which bytes are taken
 
 -- A beginning and then these bytes end in a line feed, so these do.
-feed_last : (old bytes text : List ℕ) → 0 < length bytes → old ++ bytes ≡ text ++ (10 ∷ []) → EndsInFeed bytes
+pub feed_last : (old bytes text : List ℕ) → 0 < length bytes → old ++ bytes ≡ text ++ (10 ∷ []) → EndsInFeed bytes
 feed_last [] bytes text some is = (text, is)
 feed_last (b ∷ old) [] text some is = absurd (omega (arith, some))
 feed_last (b ∷ old) (c ∷ bytes) [] some is = absurd (let none = length-append old (c ∷ bytes) in let all = ap length is in omega (arith, none, all))
@@ -692,3 +762,47 @@ takes_up_to_feed old new piece due used (inr ended) =
       within = within;
       fewer = λ few. feed_last old.kept (take used piece) ended.text (some_taken used piece some within) ended.ends.parts;
     }
+
+-- ---- which bucket is next
+
+-- The answer that is waited for is the next one of the plan.
+pub next_at : (o : Option ℕ) (plan : Option (List ℕ)) (place : ℕ) (lines : AnswerLines)
+    → MatchOption o (asked_count plan ≤ place) (λ b. (place < asked_count plan) × (b ≡ bucket_at plan place))
+    → MatchOption o (lines.bucket ≡ 256) (λ b. (lines.bucket < 256) × (lines.bucket ≡ b)) → IsNextAt plan place lines
+next_at None plan place lines over none = inl (over, none)
+next_at (Some b) plan place lines more at = inr (more.0, (at.0, at.1 ∙ more.1))
+
+-- If no answer came yet, the first of the plan is asked for, or the plan is empty.
+pub begun_pieces : (plan : Option (List ℕ)) (answered : ℕ) (old lines : AnswerLines) (m : Meaning) (rest have : List ℕ) → answered ≡ 0 → rest ≡ []
+    → HasNoLines old → HasSameCountsBut old lines → IsNextAt plan answered lines → Asks m lines true have
+    → PullsPieces plan None answered lines m [] rest have
+begun_pieces plan answered old lines m rest have none kept lines_none counts (inl over) (inl ends) =
+    let few = over.0 in
+    inr (record {
+      gives = [];
+      later = [];
+      whole = record { order = refl; each = tt };
+      all = omega (arith, none, few);
+      bucket = ends.0;
+      none = refl;
+      takes = tt;
+      asked = ends.1;
+    })
+begun_pieces plan answered old lines m rest have none kept lines_none counts (inl over) (inr more) =
+    absurd (let last = over.1 in let below = more.0 in omega (arith, last, below))
+begun_pieces plan answered old lines m rest have none kept lines_none counts (inr next) (inl ends) =
+    absurd (let last = ends.0 in let below = next.1.0 in omega (arith, last, below))
+begun_pieces plan answered old lines m rest have none kept lines_none counts (inr next) (inr more) =
+    let few = next.0 in
+    let at : lines.bucket ≡ bucket_at plan 0 = next.1.1 ∙ ap (bucket_at plan) none in
+    inl (record {
+      gives = [];
+      later = [];
+      whole = record { order = refl; each = tt };
+      few = subst (λ (n : ℕ). n < asked_count plan) none few;
+      number = none;
+      bucket = at;
+      below = more.0;
+      part = inl (record { none = counts.begun ∙ lines_none.none; bytes = sym kept; takes = tt; read = counts.read ∙ lines_none.read });
+      asked = more.1 ∙ ap (λ (b : ℕ). have_text (have_of m b)) at ∙ sym (append-nil (have_text (have_of m (bucket_at plan 0))));
+    })

@@ -1,6 +1,6 @@
 -- Pieces of a session that pulls.
 use Rattle.std.proofs.Common.{◌≡◌, ℕ, ◌+◌, ◌-◌, inl, inr, List, [], ◌∷◌, ◌++◌, length}
-use Rattle.std.proofs.Common.{Some, refl, sym, ap, ◌∙◌, subst, append_assoc, append-nil, length-append, arith}
+use Rattle.std.proofs.Common.{Option, Some, refl, sym, ap, ◌∙◌, subst, append_assoc, append-nil, length-append, arith}
 use Rattle.std.specs.List.{flat_map}
 use Rattle.std.proofs.lemmas.Grind.{flat_map-append}
 use Rattle.std.proofs.lemmas.List.{map-append}
@@ -20,6 +20,7 @@ use Rattle.replica_sync.specs.Pulling.{IsGiveAbout}
 use Rattle.replica_texts.specs.Snapshots.{ended, last_of, text_of_lines}
 use Rattle.replica_texts.proofs.ContentFacts.{HasPlace, text_of_content}
 use Rattle.replica_sync.proofs.TakingFacts.{begun_more, begun_none}
+use Rattle.replica_sync.specs.Plans.{bucket_at}
 use Rattle.replica_sync.specs.PulledPieces.{ArePulledGives, IsPulledGive, PulledGive, PulledGives, PulledPiece, TakesInTurn}
 use Rattle.replica_sync.specs.PulledPieces.{bytes_pulled, haves_asked, haves_pulled, held_at_end, lines_pulled, pieces_of, receipts_pulled}
 use Rattle.replica_sync.specs.PullSessions.{HasLinesOf, HasNoLineOf, HasPartOf}
@@ -58,9 +59,9 @@ receipts_more [] c = omega arith
 receipts_more (d ∷ came) c = let more = receipts_more came c in omega (arith, more)
 
 -- One piece more comes after the whole answers.
-pub pulled_more : (start : Meaning) (came : List PulledPiece) (gives : List PulledGive) (later : List PulledPiece) (c : PulledPiece)
-    → PulledGives start came gives later → PulledGives start (came ++ c ∷ []) gives (later ++ c ∷ [])
-pulled_more start came gives later c whole = record {
+pub pulled_more : (plan : Option (List ℕ)) (start : Meaning) (came : List PulledPiece) (gives : List PulledGive) (later : List PulledPiece)
+    (c : PulledPiece) → PulledGives plan start came gives later → PulledGives plan start (came ++ c ∷ []) gives (later ++ c ∷ [])
+pulled_more plan start came gives later c whole = record {
   order = ap (λ (l : List PulledPiece). l ++ c ∷ []) whole.order ∙ append_assoc (flat_map pieces_of gives) later (c ∷ []);
   each = whole.each;
 }
@@ -68,39 +69,41 @@ pulled_more start came gives later c whole = record {
 -- ---- one answer more
 
 -- One answer more, about the next bucket.
-each_more : (config : Configuration) (start bucket : ℕ) (gives : List PulledGive) (g : PulledGive) → bucket ≡ start + length gives
-    → ArePulledGives config start gives → IsPulledGive config bucket g → ArePulledGives config start (gives ++ g ∷ [])
-each_more config start bucket [] g e h one =
-    let same : bucket ≡ start = omega (arith, e) in (subst (λ (b : ℕ). IsPulledGive config b g) same one, tt)
-each_more config start bucket (first ∷ gives) g e h one = (
+each_more : (plan : Option (List ℕ)) (config : Configuration) (start place : ℕ) (gives : List PulledGive) (g : PulledGive) → place ≡ start + length gives
+    → ArePulledGives plan config start gives → IsPulledGive config (bucket_at plan place) g → ArePulledGives plan config start (gives ++ g ∷ [])
+each_more plan config start place [] g e h one =
+    let same : place ≡ start = omega (arith, e) in (subst (λ (b : ℕ). IsPulledGive config (bucket_at plan b) g) same one, tt)
+each_more plan config start place (first ∷ gives) g e h one = (
   h.0,
-  each_more config (start + 1) bucket gives g
+  each_more plan config (start + 1) place gives g
       (let longer : length (first ∷ gives) ≡ length gives + 1 = omega arith in omega (arith, e, longer)) h.1 one,
 )
 
 -- Pieces that are an answer are one more that came whole.
-pub whole_more : (start : Meaning) (came : List PulledPiece) (gives : List PulledGive) (g : PulledGive)
-    → PulledGives start came gives (pieces_of g) → IsPulledGive start.config (length gives) g → PulledGives start came (gives ++ g ∷ []) []
-whole_more start came gives g whole one = record {
+pub whole_more : (plan : Option (List ℕ)) (start : Meaning) (came : List PulledPiece) (gives : List PulledGive) (g : PulledGive)
+    → PulledGives plan start came gives (pieces_of g) → IsPulledGive start.config (bucket_at plan (length gives)) g
+    → PulledGives plan start came (gives ++ g ∷ []) []
+whole_more plan start came gives g whole one = record {
   order = whole.order
       ∙ ap (λ (l : List PulledPiece). flat_map pieces_of gives ++ l) (sym (append-nil (pieces_of g)))
       ∙ sym (flat_map-append pieces_of gives (g ∷ []))
       ∙ sym (append-nil (flat_map pieces_of (gives ++ g ∷ [])));
-  each = each_more start.config 0 (length gives) gives g (omega arith) whole.each one;
+  each = each_more plan start.config 0 (length gives) gives g (omega arith) whole.each one;
 }
 
 -- The have before the last answer is made of what was held when the one before it ended.
-haves_then : (held : Meaning) (bucket at : ℕ) (gives : List PulledGive) (g : PulledGive) → at ≡ bucket + length gives
-    → haves_pulled held bucket (gives ++ g ∷ []) ≡ haves_pulled held bucket gives ++ have_of (held_at_end held gives) at ∷ []
-haves_then held bucket at [] g e = let same : bucket ≡ at = omega (arith, e) in ap (λ (b : ℕ). have_of held b ∷ []) same
-haves_then held bucket at (first ∷ gives) g e =
-    ap (λ (qs : List HaveMessage). have_of held bucket ∷ qs)
-    (haves_then first.last.new (bucket + 1) at gives g
+haves_then : (plan : Option (List ℕ)) (held : Meaning) (place at : ℕ) (gives : List PulledGive) (g : PulledGive) → at ≡ place + length gives
+    → haves_pulled plan held place (gives ++ g ∷ []) ≡ haves_pulled plan held place gives ++ have_of (held_at_end held gives) (bucket_at plan at) ∷ []
+haves_then plan held place at [] g e = let same : place ≡ at = omega (arith, e) in ap (λ (b : ℕ). have_of held (bucket_at plan b) ∷ []) same
+haves_then plan held place at (first ∷ gives) g e =
+    ap (λ (qs : List HaveMessage). have_of held (bucket_at plan place) ∷ qs)
+    (haves_then plan first.last.new (place + 1) at gives g
     (let longer : length (first ∷ gives) ≡ length gives + 1 = omega arith in omega (arith, e, longer)))
 
 -- What was asked before an answer ended are the haves to the whole answers then.
-pub haves_whole : (start : Meaning) (gives : List PulledGive) (g : PulledGive) → haves_pulled start 0 (gives ++ g ∷ []) ≡ haves_asked start gives
-haves_whole start gives g = haves_then start 0 (length gives) gives g (omega arith)
+pub haves_whole : (plan : Option (List ℕ)) (start : Meaning) (gives : List PulledGive) (g : PulledGive)
+    → haves_pulled plan start 0 (gives ++ g ∷ []) ≡ haves_asked plan start gives
+haves_whole plan start gives g = haves_then plan start 0 (length gives) gives g (omega arith)
 
 -- When the last answer ended this was held.
 pub held_then : (held : Meaning) (gives : List PulledGive) (g : PulledGive) → held_at_end held (gives ++ g ∷ []) ≡ g.last.new
@@ -114,18 +117,17 @@ lines_then [] g = omega arith
 lines_then (first ∷ gives) g = let later = lines_then gives g in omega (arith, later)
 
 -- The next have comes last.
-pub asked_more : (start : Meaning) (gives : List PulledGive) (g : PulledGive) (output : List ℕ) (bucket : ℕ)
-    → output ≡ flat_map have_text (haves_asked start gives) → bucket ≡ length gives + 1
-    → output ++ have_text (have_of g.last.new bucket) ≡ flat_map have_text (haves_asked start (gives ++ g ∷ []))
-asked_more start gives g output bucket is next =
-    let longer = length-append gives (g ∷ []) in
-    let at : bucket ≡ length (gives ++ g ∷ []) = omega (arith, next, longer) in
+pub asked_more : (plan : Option (List ℕ)) (start : Meaning) (gives : List PulledGive) (g : PulledGive) (output : List ℕ) (bucket : ℕ)
+    → output ≡ flat_map have_text (haves_asked plan start gives) → bucket ≡ bucket_at plan (length gives + 1)
+    → output ++ have_text (have_of g.last.new bucket) ≡ flat_map have_text (haves_asked plan start (gives ++ g ∷ []))
+asked_more plan start gives g output bucket is next =
+    let at : bucket ≡ bucket_at plan (length (gives ++ g ∷ [])) = next ∙ ap (bucket_at plan) (sym (length-append gives (g ∷ []))) in
     ap (λ (l : List ℕ). l ++ have_text (have_of g.last.new bucket)) is
-    ∙ ap (λ (l : List ℕ). flat_map have_text (haves_asked start gives) ++ l) (sym (append-nil (have_text (have_of g.last.new bucket))))
-    ∙ sym (flat_map-append have_text (haves_asked start gives) (have_of g.last.new bucket ∷ []))
-    ∙ ap (λ (qs : List HaveMessage). flat_map have_text (qs ++ have_of g.last.new bucket ∷ [])) (sym (haves_whole start gives g))
-    ∙ ap (λ (m : Meaning). flat_map have_text (haves_pulled start 0 (gives ++ g ∷ []) ++ have_of m bucket ∷ [])) (sym (held_then start gives g))
-    ∙ ap (λ (b : ℕ). flat_map have_text (haves_pulled start 0 (gives ++ g ∷ []) ++ have_of (held_at_end start (gives ++ g ∷ [])) b ∷ [])) at
+    ∙ ap (λ (l : List ℕ). flat_map have_text (haves_asked plan start gives) ++ l) (sym (append-nil (have_text (have_of g.last.new bucket))))
+    ∙ sym (flat_map-append have_text (haves_asked plan start gives) (have_of g.last.new bucket ∷ []))
+    ∙ ap (λ (qs : List HaveMessage). flat_map have_text (qs ++ have_of g.last.new bucket ∷ [])) (sym (haves_whole plan start gives g))
+    ∙ ap (λ (m : Meaning). flat_map have_text (haves_pulled plan start 0 (gives ++ g ∷ []) ++ have_of m bucket ∷ [])) (sym (held_then start gives g))
+    ∙ ap (λ (b : ℕ). flat_map have_text (haves_pulled plan start 0 (gives ++ g ∷ []) ++ have_of (held_at_end start (gives ++ g ∷ [])) b ∷ [])) at
 
 -- ---- no line ends
 

@@ -61,7 +61,7 @@ lines_more (first ∷ gives) give = let later = lines_more gives give in omega (
 texts_more : {A : Type 0} (text : A → List ℕ) (items : List A) (item : A) → flat_map text (items ++ item ∷ []) ≡ flat_map text items ++ text item
 texts_more text items item = flat_map-append text items (item ∷ []) ∙ ap (λ (t : List ℕ). flat_map text items ++ t) (append-nil (text item))
 
--- After one answer more the next bucket comes, with all in the words of the definitions.
+-- After one answer more the next bucket comes, all stated as in the definitions.
 more_at : (old : Meaning) (stream before : Option (List ℕ)) (bucket : ℕ) (now : Meaning) (left after : Option (List ℕ))
     (read : ℕ) (new : Meaning) (left_then after_then : Option (List ℕ)) (read_then : ℕ)
     → (so_far : AskedUpTo old stream before bucket now left after read)
@@ -126,7 +126,7 @@ written_then NoMemory a b c first second p q = begins-second a b c first second 
 begins_all : (a b : Option (List ℕ)) (text : List ℕ) → Appends a b text → AppendsBeginning a b text
 begins_all a b text p = (length text, subst (Appends a b) (sym (take_all (length text) text (omega arith))) p)
 
--- What was written whole is written, whatever the fault.
+-- What was written whole is written, whatever the error.
 pub written_all : (e : SyncError) (a b : Option (List ℕ)) (text : List ℕ) → Appends a b text → IsWritten e a b text
 written_all BadHeader a b text p = p
 written_all ConfigDiffers a b text p = p
@@ -144,7 +144,7 @@ pub asked_whole : (r : Result (Unit {0}) SyncError) (a b : Option (List ℕ)) (t
 asked_whole (Ok done) a b text p = tt
 asked_whole (Err e) a b text p = written_all e a b text p
 
--- The fault of an answer ends the session there, with all in the words of the definitions.
+-- The error of an answer ends the session there, all stated as in the definitions.
 stops_at : (old : Meaning) (stream before : Option (List ℕ)) (bucket : ℕ) (now : Meaning) (left after : Option (List ℕ))
     (read : ℕ) (new : Meaning) (after_then : Option (List ℕ)) (e : SyncError) → bucket < 256
     → (so_far : AskedUpTo old stream before bucket now left after read)
@@ -183,7 +183,7 @@ asked_stops old stream before bucket now left after read new after_then e few so
 
 -- ---- what is held grows
 
--- One step of `longer_with_item`, for each way the item stands to the first.
+-- One step of `longer_with_item`, for each way the item compares with the first.
 longer_placed : {A : Type 0} (o : Ordering) (x h : A) (t longer : List A) → length t ≤ length longer → length (h ∷ t) ≤ length (placed o x h t longer)
 longer_placed Less x h t longer more = omega arith
 longer_placed Equal x h t longer more = omega arith
@@ -215,7 +215,7 @@ all_grows : (old : Meaning) (stream before : Option (List ℕ)) (new : Meaning) 
     → PullsAll (session_run stream before after) old new → length old.held ≤ length new.held
 all_grows old stream before new after all = subst (λ (m : Meaning). length old.held ≤ length m.held) (sym all.meaning) (longer_after (state_of old) all.gives)
 
--- No fewer receipts are held after a session that a fault ended.
+-- No fewer receipts are held after a session that an error ended.
 part_grows : (old : Meaning) (stream before : Option (List ℕ)) (new : Meaning) (after : Option (List ℕ)) (e : SyncError)
     → PullsUpTo (session_run stream before after) old new e → length old.held ≤ length new.held
 part_grows old stream before new after e part =

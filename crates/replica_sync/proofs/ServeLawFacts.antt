@@ -1,5 +1,5 @@
--- A session whose haves come in pieces, where what is held does not change: it is one that serves the
--- joined bytes.
+-- A session whose haves come in pieces, while what is held does not change: it is one that serves
+-- the joined bytes.
 use Rattle.std.proofs.Common.{◌≡◌, ℕ, ◌<◌, ◌==◌, Bool, true, false, List, [], ◌∷◌, ◌++◌, length, map}
 use Rattle.std.proofs.Common.{Option, None, Some, Ok, Err, refl, sym, ap, ◌∙◌, subst, append_assoc, append-nil, arith}
 use Rattle.std.specs.List.{AllByRecursion, flat_map, fold}
@@ -23,7 +23,7 @@ use Rattle.replica_sync.specs.ServedPieces.{bytes_came, gives_in_turn, line_of_h
 
 -- ---- the bytes of lines
 
--- One byte more stands in front of the first line, or of the rest.
+-- One byte more comes before the first line, or before the rest.
 byte_before : (b : ℕ) (whole : List (List ℕ)) (rest : List ℕ)
     → text_of_lines (before b whole rest).whole ++ (before b whole rest).rest ≡ b ∷ (text_of_lines whole ++ rest)
 byte_before b [] rest = refl
@@ -186,7 +186,7 @@ joined_behind haves rest last later more tail =
     ∙ ap (λ (l : List ℕ). haves ++ l) (sym (append_assoc rest last (later ++ (more ++ tail))))
     ∙ ap (λ (l : List ℕ). haves ++ ((rest ++ last) ++ l)) (sym (append_assoc later more tail))
 
--- A fault ends it.
+-- An error ends it.
 stops_still : (m : Meaning) (came : List Came) (output more after : List ℕ) (e : SyncError) → AnswersUpTo came output e → IsStill m came
     → ServesUpTo (known_run (bytes_came came ++ (more ++ (10 ∷ after))) output) m e
 stops_still m came output more after e stops still =

@@ -40,7 +40,7 @@ came_more came c = fold-append lines_with (record { lines = []; rest = [] }) cam
 abbrev behind : List HeldLine → Meaning → Lines → CameLines
 behind lines m more = record { lines = lines ++ map (with_held m) more.whole; rest = more.rest }
 
--- What one piece adds where its lines, with what was kept, are known.
+-- What one piece adds, given its lines with what was kept.
 lines_more : (came : List Came) (asked : List HaveAndHeld) (old bytes : List ℕ) (m : Meaning) (more : Lines)
     → lines_came came ≡ record { lines = map line_of_have asked; rest = old } → lines_of (old ++ bytes) ≡ more
     → lines_came (came ++ came_at bytes m ∷ []) ≡ behind (map line_of_have asked) m more
@@ -83,7 +83,7 @@ answers_have came old bytes output m q answers own is =
           ∙ sym (flat_map-append give answers.asked (one ∷ []));
     }
 
--- What a piece takes is answered, where nothing was to be written before.
+-- What a piece takes is answered, if nothing was to be written before.
 pub took_piece : (m : Meaning) (came : List Came) (old piece : List ℕ) (used : ℕ) (new due answer written : List ℕ) → due ≡ []
     → TakesHave m old piece used new answer → AnswersAll came old (written ++ due)
     → AnswersAll (came ++ came_at (take used piece) m ∷ []) new (written ++ answer)
@@ -106,7 +106,7 @@ took_piece m came old piece used new due answer written idle (inr ends) answers 
 
 -- ---- what a call does
 
--- Where no fault is found there is none.
+-- If no error is found, there is none.
 pub no_fault : (f : Option SyncError) → ((why : SyncError) → f ≡ Some why → ⊥) → f ≡ None
 no_fault None none = refl
 no_fault (Some why) none = absurd (none why refl)
@@ -116,7 +116,7 @@ pub empty_text : (text : List ℕ) → (length text == 0) ≡ true → text ≡ 
 empty_text [] is = refl
 empty_text (b ∷ text) is = let none = eqb-true (length (b ∷ text)) 0 is in absurd (omega (arith, none))
 
--- A piece is taken by a machine without a fault.
+-- A piece is taken by a machine without an error.
 pub served_piece : (f g : Option SyncError) (m : Meaning) (came : List Came) (old piece : List ℕ) (used : ℕ) (new due answer written : List ℕ)
     → f ≡ None → g ≡ f → due ≡ [] → TakesHave m old piece used new answer → ServesPieces f came old (written ++ due)
     → ServesPieces g (came ++ came_at (take used piece) m ∷ []) new (written ++ answer)
@@ -125,7 +125,7 @@ served_piece None None m came old piece used new due answer written sound same i
 served_piece None (Some e) m came old piece used new due answer written sound same idle takes serves = absurd (cc)
 served_piece (Some e) g m came old piece used new due answer written sound same idle takes serves = absurd (cc)
 
--- Where something is to be written, nothing is taken.
+-- If something is to be written, nothing is taken.
 pub served_nothing : (f : Option SyncError) (came : List Came) (rest bytes output : List ℕ) (m : Meaning) → f ≡ None → bytes ≡ [] → HasNoFeed rest
     → ServesPieces f came rest output → ServesPieces f (came ++ came_at bytes m ∷ []) rest output
 served_nothing None came rest bytes output m sound none plain serves =
@@ -138,7 +138,7 @@ pub kept_plain : (ended : Bool) (line : List ℕ) → HasNoFeed line → HasNoFe
 kept_plain true line plain = All-from_recursion (λ b. b ≢ 10) [] tt
 kept_plain false line plain = plain
 
--- A fault ends the session: what was answered stays. The search finds this lemma.
+-- An error ends the session: what was answered stays. The search finds this lemma.
 pub served_stops : (f : Option SyncError) (m : Meaning) (came : List Came) (old piece new due later written : List ℕ) (e : SyncError)
     → f ≡ None → due ≡ [] → later ≡ [] → RefusesPiece m old piece e → ServesPieces f came old (written ++ due)
     → ServesPieces (Some e) (came ++ came_at piece m ∷ []) new (written ++ later)
@@ -153,7 +153,7 @@ served_stops None m came old piece new due later written e sound idle quiet refu
 }
 served_stops (Some d) m came old piece new due later written e sound idle quiet refused serves = absurd (cc)
 
--- After a fault nothing more is answered, whatever comes. The search finds this lemma.
+-- After an error nothing more is answered, whatever comes. The search finds this lemma.
 pub served_still : (f : Option SyncError) (why : SyncError) (came : List Came) (c : Came) (rest output : List ℕ) → f ≡ Some why
     → ServesPieces f came rest output → ServesPieces f (came ++ c ∷ []) rest output
 served_still None why came c rest output stopped serves = absurd (cc)
@@ -233,7 +233,7 @@ overlong_line old piece over more after =
           ∙ sym (append_assoc (over.text ++ first.text) (10 ∷ []) first.rest);
     }
 
--- A line that is too long is none of a have, as soon as it ends.
+-- A line that is too long is not a have's, as soon as it ends.
 pub overlong_refused : (m : Meaning) (old piece : List ℕ) → IsOverlong line_limit (old ++ piece) → RefusesPiece m old piece BadHeader
 overlong_refused m old piece over more after =
     let line = overlong_line old piece over more after in
@@ -260,7 +260,7 @@ ended_refused m old piece used text e ends why more after =
     line_refused m.config ((old ++ piece) ++ (more ++ (10 ∷ after))) (drop used piece ++ (more ++ (10 ∷ after))) text e ends.plain ends.short
     (ended_split used old piece (more ++ (10 ∷ after)) text ends.parts) why
 
--- Memory may run out anywhere, and that is then the fault. The search finds this lemma.
+-- Memory may run out anywhere, and that is then the error. The search finds this lemma.
 pub memory_refused : (m : Meaning) (old piece : List ℕ) (e : SyncError) → e ≡ NoMemory → RefusesPiece m old piece e
 memory_refused m old piece e is = subst (RefusesPiece m old piece) (sym is) (λ more after. tt)
 

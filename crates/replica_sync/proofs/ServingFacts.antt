@@ -56,7 +56,7 @@ and-nothing old now new text before nothing = subst (Appends old new) (append-ni
 begins-whole : (old new : Option (List ℕ)) (text : List ℕ) → Appends old new text → AppendsBeginning old new text
 begins-whole old new text all = (length text, subst (Appends old new) (sym (take_all (length text) text (omega arith))) all)
 
--- What was written whole is written, whatever the fault.
+-- What was written whole is written, whatever the error.
 is-written : (e : SyncError) (old new : Option (List ℕ)) (text : List ℕ) → Appends old new text → IsWritten e old new text
 is-written BadHeader old new text all = all
 is-written ConfigDiffers old new text all = all
@@ -69,7 +69,7 @@ is-written (Refused n why) old new text all = all
 is-written Io old new text all = begins-whole old new text all
 is-written NoMemory old new text all = begins-whole old new text all
 
--- Where the device failed, or memory ran out, a beginning of what was due is written.
+-- If the device failed, or memory ran out, a beginning of what was due is written.
 served-fault : (m : Meaning) (stream next old new : Option (List ℕ)) (e : SyncError) (haves : List HaveMessage)
     → BeginsWithHaves m.config stream haves next → AppendsBeginning old new (gives_text m haves)
     → (e ≡ Io) ⊎ (e ≡ NoMemory)

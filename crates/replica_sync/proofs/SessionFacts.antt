@@ -1,4 +1,4 @@
--- A session's stream is read to its end, or has a fault, and never both.
+-- A session's stream is read to its end, or has an error, and never both.
 use Rattle.std.proofs.Common.{◌≡◌, ◌≢◌, ℕ, ◌+◌, ◌<◌, inl, inr, List, [], ◌∷◌, ◌++◌, length, length-append, Option, None, ◌⊎◌}
 use Rattle.std.proofs.Common.{Some, refl, ap, sym, ◌∙◌, subst, arith, append_assoc}
 use Rattle.std.specs.Prelude.{IfSome}
@@ -43,7 +43,7 @@ no-first-line : (new : Option (List ℕ)) (text : List ℕ) → HasLine (Some []
 no-first-line None text is = is.1
 no-first-line (Some rest) text is = no-line text rest is.1
 
--- The end of a stream is no fault.
+-- The end of a stream is not an error.
 no-fault-at-end : (config : Configuration) (e : SyncError) → e ≢ Io → e ≢ NoMemory → RefusesFurther config (Some []) e → ⊥
 no-fault-at-end config BadHeader calm ample h = no-first-line h.0 h.1.text h.1.is
 no-fault-at-end config ConfigDiffers calm ample h = no-first-line h.0 h.1.text h.1.is
@@ -56,7 +56,7 @@ no-fault-at-end config (Refused n why) calm ample h = h
 no-fault-at-end config Io calm ample h = calm refl
 no-fault-at-end config NoMemory calm ample h = ample refl
 
--- Why the next have is not answered is why it is not read alone.
+-- The next have is not answered for the causes for which a single one is not read.
 as-have : (config : Configuration) (left : Option (List ℕ)) (e : SyncError) → RefusesFurther config left e
     → (new : Option (List ℕ)) × RefusesHave (Some config) left new e
 as-have config left BadHeader h = h
@@ -74,7 +74,7 @@ as-have config left NoMemory h = (None, tt)
 abbrev any_have_texts : List HaveMessage → List ℕ
 any_have_texts haves = flat_map have_text haves
 
--- In a stream of haves no fault comes after some of them.
+-- In a stream of haves no error comes after some of them.
 no-fault-of-asked : (config : Configuration) (haves others : List HaveMessage) (left : List ℕ) (e : SyncError)
     → AllByRecursion (IsHaveOf config) haves → AllByRecursion (IsHaveOf config) others
     → any_have_texts haves ≡ any_have_texts others ++ left → e ≢ Io → e ≢ NoMemory → RefusesFurther config (Some left) e → ⊥
@@ -91,7 +91,7 @@ no-fault-of-asked config (q ∷ haves) (o ∷ others) left e is valid w calm amp
     (w ∙ append_assoc (have_text o) (any_have_texts others) left) in
     no-fault-of-asked config haves others left e is.1 valid.1 same.follows calm ample h
 
--- In a stream of haves no fault comes after some of them, in the words of streams.
+-- In a stream of haves no error comes after some of them, as streams state it.
 pub unserved : (config : Configuration) (bytes : List ℕ) (haves others : List HaveMessage) (left : Option (List ℕ))
     (e : SyncError) → AllByRecursion (IsHaveOf config) haves → AllByRecursion (IsHaveOf config) others
     → bytes ≡ any_have_texts haves → Consumes (Some bytes) left (any_have_texts others) → e ≢ Io → e ≢ NoMemory → RefusesFurther config left e → ⊥
@@ -99,7 +99,7 @@ unserved config bytes haves others None e is valid whole begins calm ample h = b
 unserved config bytes haves others (Some left) e is valid whole begins calm ample h =
     no-fault-of-asked config haves others left e is valid (sym whole ∙ begins) calm ample h
 
--- What a stream has is the text, in the words of the bytes that are known of it.
+-- What a stream has is the text, stated by the bytes that are known of it.
 whole-text : (stream : Option (List ℕ)) (bytes text : List ℕ) → stream ≡ Some bytes → IfSome stream (λ b. b ≡ text) → bytes ≡ text
 whole-text stream bytes text same h = let P : Option (List ℕ) → Type 0 = λ s. IfSome s (λ b. b ≡ text) in subst P same h
 
@@ -107,7 +107,7 @@ whole-text stream bytes text same h = let P : Option (List ℕ) → Type 0 = λ 
 known-text : (stream left : Option (List ℕ)) (bytes text : List ℕ) → stream ≡ Some bytes → Consumes stream left text → Consumes (Some bytes) left text
 known-text stream left bytes text same h = subst (λ (s : Option (List ℕ)). Consumes s left text) same h
 
--- The clause `served`: a stream that can be served to its end has no fault.
+-- The clause `served`: a stream that can be served to its end has no error.
 pub served-or-not : (m : Meaning) (one other : SessionRun) (count : ℕ) (e : SyncError) → ReadSame one other
     → e ≢ Io → e ≢ NoMemory → ServesAll one m count → ServesUpTo other m e → ⊥
 served-or-not m one other count e same calm ample all part =
@@ -138,7 +138,7 @@ served-once m one other count number same all again =
 
 -- ---- answers
 
--- the fault is not that what a line says is refused
+-- the error is another one than the refusal of what a line says
 abbrev pub IsSpelling : SyncError → Type 0
 IsSpelling e = (n : ℕ) (why : TakeError) → e ≢ Refused n why
 
@@ -187,7 +187,7 @@ not-refused config state whole content wanted text e (inr holds) is begun good n
     none-refused config holds.configured state whole content holds.rising holds.valid is begun wanted (last_of (content_lines content)) text
     good.later why good.lines ample h
 
--- A good line has no fault of its spelling.
+-- A good line has no error of its spelling.
 no-line-fault : (config : Configuration) (state : State) (first : ℕ) (whole content : State) (wanted : Wanted)
     (text : List ℕ) (e : SyncError) → e ≢ NoMemory
     → ((n : ℕ) (why : TakeError) → e ≡ Refused n why → why ≢ NoTakeMemory
@@ -212,7 +212,7 @@ no-line-fault config state first whole content wanted text NoMemory ample spelt 
 abbrev pub give_texts : List GiveMessage → List ℕ
 give_texts gives = flat_map give_text gives
 
--- The answer with which a stream goes on has no fault of its spelling.
+-- The answer with which a stream goes on has no error of its spelling.
 no-fault-of-give : (config : Configuration) (state : State) (bucket first : ℕ) (content : State) (r : GiveMessage)
     (left rest : List ℕ) (e : SyncError) → IsGiveAbout config bucket r → left ≡ give_text r ++ rest
     → e ≢ Io → e ≢ NoMemory → IsSpelling e ⊎ HoldsGive config state r.content
@@ -230,7 +230,7 @@ no-fault-of-give config state bucket first content r left rest e is begins calm 
 pub joined-texts : (r : GiveMessage) (gives : List GiveMessage) (rest : List ℕ) → give_texts (r ∷ gives) ++ rest ≡ give_text r ++ (give_texts gives ++ rest)
 joined-texts r gives rest = append_assoc (give_text r) (give_texts gives) rest
 
--- In a stream of answers no fault of spelling comes before the last of them.
+-- In a stream of answers no error of spelling comes before the last of them.
 no-fault-of-gives : (config : Configuration) (from state : State) (start bucket first : ℕ) (content : State)
     (gives others : List GiveMessage) (rest left : List ℕ) (e : SyncError)
     → AreGives config start gives → AreGives config start others → length others < length gives → bucket ≡ start + length others
@@ -250,7 +250,7 @@ no-fault-of-gives config from state start bucket first content (r ∷ gives) (o 
     (omega (arith, few)) (omega (arith, at)) same.follows calm ample
     (elim fine [ inl spelt ↦ inl spelt | inr holds ↦ inr (later-holds config from state r o gives others same.give holds) ]) h
 
--- No fault of spelling comes before the last answer, in the words of streams.
+-- No error of spelling comes before the last answer, as streams state it.
 pub unpulled : (config : Configuration) (from state : State) (bytes : List ℕ) (first : ℕ) (content : State)
     (gives others : List GiveMessage) (rest left : Option (List ℕ)) (e : SyncError)
     → AreGives config 0 gives → AreGives config 0 others → length others < length gives
@@ -263,7 +263,7 @@ unpulled config from state bytes first content gives others (Some rest) (Some le
     let at : length others ≡ 0 + length others = omega arith in
     no-fault-of-gives config from state 0 (length others) first content gives others rest left e is valid few at (sym whole ∙ begins) calm ample fine h
 
--- where a stream begins with all answers, a pull has no fault that is excluded here
+-- if a stream begins with all answers, a pull has no error that is excluded here
 all-or-part : (old new now : Meaning) (one other : SessionRun) (e : SyncError) → ReadSame one other → e ≢ Io → e ≢ NoMemory
     → (all : PullsAll one old new) → (part : PullsUpTo other old now e)
     → IsSpelling e ⊎ HoldsGives old.config (state_of old) (after_gives (state_of old) part.gives) all.gives part.gives → ⊥
@@ -275,12 +275,13 @@ all-or-part old new now one other e same calm ample all part fine =
     (known-text one.source all.left same.0 (give_texts all.gives) same.1 all.session.text)
     (known-text other.source part.left same.0 (give_texts part.gives) same.2 part.session.text) calm ample fine part.cause
 
--- The clause `pulled`: a stream of all answers has no fault but that what a line says is refused.
+-- The clause `pulled`: a stream of all answers has no error, except that what a line says may be
+-- refused.
 pub pulled-or-not : (old new now : Meaning) (one other : SessionRun) (e : SyncError) → ReadSame one other → e ≢ Io → e ≢ NoMemory
     → ((n : ℕ) (why : TakeError) → e ≢ Refused n why) → PullsAll one old new → PullsUpTo other old now e → ⊥
 pulled-or-not old new now one other e same calm ample spelt all part = all-or-part old new now one other e same calm ample all part (inl spelt)
 
--- Where what the answers bring can be held, nothing of it is refused.
+-- If what the answers bring can be held, nothing of it is refused.
 pub taken-or-not : (old new now : Meaning) (one other : SessionRun) (e : SyncError) → ReadSame one other → IsConfiguration old.config
     → IsMeaning old → IsMeaning new → e ≢ Io → e ≢ NoMemory → PullsAll one old new → PullsUpTo other old now e → ⊥
 taken-or-not old new now one other e same configured valid held calm ample all part =
@@ -301,7 +302,7 @@ same-gives config start (r ∷ gives) (o ∷ others) rest left is valid many w =
     let later = same-gives config (start + 1) gives others rest left is.1 valid.1 (omega (arith, many)) same.follows in
     (λ i. same.give i ∷ later i)
 
--- Two lists of as many answers with which a stream begins are one, in the words of streams.
+-- Two lists of as many answers with which a stream begins are one, as streams state it.
 pub both-gives : (config : Configuration) (bytes : List ℕ) (gives others : List GiveMessage) (rest left : Option (List ℕ))
     → AreGives config 0 gives → AreGives config 0 others → length gives ≡ length others
     → Consumes (Some bytes) rest (give_texts gives) → Consumes (Some bytes) left (give_texts others) → gives ≡ others

@@ -36,7 +36,7 @@ gained_pushed old content (AReceipt r) =
           with_items distrust_cmp content.records old.records;
     })) (sym (joined_one receipt_cmp content.held old.held r))
 
--- ---- so much of an answer
+-- ---- this much of an answer
 
 -- The line that comes next by the numbers is the one that is wanted.
 pub wants : (wanted : Wanted) (count distrusts : ℕ) (content : State) (receipts records receipts_then records_then : ℕ)

@@ -1,4 +1,4 @@
--- What a pull writes is served without a fault, and what is written to it is read without one.
+-- What a pull writes is served without an error, and what is written to it is read without one.
 use Rattle.std.proofs.Common.{◌≡◌, ◌≢◌, ℕ, ◌+◌, ◌<◌, ◌≤◌, ◌⊎◌, inl, inr, Bool, true, false, cond, nat_le, leb-true, List, [], ◌∷◌, ◌++◌, length, map}
 use Rattle.std.proofs.Common.{Option, Some, refl, ap, sym, ◌∙◌, subst, arith}
 use Rattle.std.proofs.Common.{length-append}
@@ -79,7 +79,7 @@ each-own c d bucket (q ∷ qs) same h = (own-of c d q same h.1.0, each-own c d (
 
 -- ---- what a pull wrote
 
--- the haves that a pull asked which got so many answers
+-- the haves of a pull that got this many answers
 abbrev pub all-asked : Meaning → List GiveMessage → List HaveMessage
 all-asked m gives = haves_of m.config 0 (state_of m) gives
 
@@ -106,7 +106,7 @@ whole-asked m held stream asked valid kept all =
     append-none [] = refl
     append-none (q ∷ qs) = ap (λ (rest : List HaveMessage). q ∷ rest) (append-none qs)
 
--- where neither a device nor memory failed, all that was due is written
+-- if neither a device nor memory failed, all that was due is written
 written-whole : (e : SyncError) (old new : Option (List ℕ)) (text : List ℕ) → e ≢ Io → e ≢ NoMemory → IsWritten e old new text → Appends old new text
 written-whole BadHeader old new text calm ample h = h
 written-whole ConfigDiffers old new text calm ample h = h
@@ -137,7 +137,7 @@ part-asked m held stream asked e valid kept calm ample part =
 
 -- ---- what is served
 
--- the haves of a pull are served without a fault
+-- the haves of a pull are served without an error
 asked-served : (m k : Meaning) (asked : List ℕ) (haves : List HaveMessage) (before after : Option (List ℕ)) (e : SyncError)
     → config_id_of m.config ≡ config_id_of k.config → HasAskedInTurn m asked haves
     → e ≢ Io → e ≢ NoMemory → ServesUpTo (session_run (Some asked) before after) k e → ⊥
@@ -145,7 +145,7 @@ asked-served m k asked haves before after e same asks calm ample part =
     unserved k.config asked haves part.haves part.left e (each-own m.config k.config 0 haves same asks.each)
     part.asks.each asks.text part.asks.text calm ample part.cause
 
--- A session that serves what a pull wrote has no fault.
+-- A session that serves what a pull wrote has no error.
 pub pull-served : (m k held : Meaning) (stream : Option (List ℕ)) (asked : List ℕ) (result : Result ℕ PullFault)
     (before after : Option (List ℕ)) (e : SyncError) → IsMeaning m → IsMeaning held → config_id_of m.config ≡ config_id_of k.config
     → IfErr result (λ fault. (fault.why ≢ Io) × (fault.why ≢ NoMemory)) → Pulls (session_run stream (Some []) (Some asked)) m held result
@@ -207,7 +207,8 @@ answered-or-not m k held asked replied rest count e valid other kept same all pa
     (omega (arith, many, both, each))
     (ap (λ (t : List ℕ). t ++ rest) text) part.session.text calm ample fine part.cause
 
--- A pull that reads what is answered to its haves has no fault, but that what a line says is refused.
+-- A pull that reads what is answered to its haves has no error, except that what a line says may be
+-- refused.
 pub answered-pulled : (m k held : Meaning) (asked replied rest : List ℕ) (count : ℕ) (e : SyncError)
     → IsMeaning m → IsMeaning k → IsMeaning held → config_id_of m.config ≡ config_id_of k.config
     → ServesAll (known_run asked replied) k count → PullsUpTo (known_run (replied ++ rest) asked) m held e
@@ -250,7 +251,7 @@ record-of-either state k (q ∷ qs) x h =
       | inr there ↦ inr there
     ]
 
--- a rising list is no longer than one that has all of it
+-- a sorted list is no longer than one that has all of it
 no-longer-than : {A : Type 0} (P : A → Type 0) (cmp : A → A → Ordering) → IsTotalOrder cmp → IsExactOn P cmp → (xs ys : List A)
     → IsStrictlySortedBy cmp xs → IsStrictlySortedBy cmp ys → AllByRecursion P xs → AllByRecursion P ys
     → ((a : A) → Has xs a → Has ys a) → length xs ≤ length ys
@@ -311,7 +312,7 @@ module _ (m k : Meaning) (valid : IsMeaning m) (other : IsMeaning k) (same : m.c
       let room_here = leb-true (length both.records) 4096 (and_parts (nat_le (length both.held) 65536) (nat_le (length both.records) 4096) room).1 in
       omega (arith, less, room_here)
 
-  -- where both together are within the limits, so is what is held after answers of the other
+  -- if both together are within the limits, so is what is held after answers of the other
   meaning-then : IsMeaning (meaning_of_state m.config then)
   meaning-then = record {
     receipts = each-receipt IsReceipt valid.receipts other.receipts;
@@ -325,7 +326,7 @@ module _ (m k : Meaning) (valid : IsMeaning m) (other : IsMeaning k) (same : m.c
     few_records = few-records;
   }
 
--- Where both together are within the limits, nothing of it is refused either.
+-- If both together are within the limits, nothing of it is refused either.
 pub answered-taken : (m k held : Meaning) (asked replied rest : List ℕ) (count : ℕ) (e : SyncError)
     → IsConfiguration m.config → IsMeaning m → IsMeaning k → IsMeaning held → m.config ≡ k.config
     → is_within_limits (joined (state_of m) (state_of k)) ≡ true

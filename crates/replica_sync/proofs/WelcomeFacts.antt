@@ -1,4 +1,4 @@
--- Where all that an answer brings can be held, no line of it is refused.
+-- If all that an answer brings can be held, no line of it is refused.
 use Rattle.std.proofs.Common.{◌≡◌, ◌≢◌, ℕ, ◌<◌, ◌≤◌, inl, inr, List, [], ◌∷◌, ◌++◌, length, map, refl, ap, sym, ◌∙◌, subst, arith, append_assoc}
 use Rattle.std.specs.List.{AllByRecursion}
 use Rattle.std.specs.List.Sorted.{IsStrictlySortedBy}
@@ -14,13 +14,14 @@ use Rattle.receipt_core.proofs.LineFacts.{one_distrust, one_line, one_receipt, o
 use Rattle.receipt_core.proofs.RisingFacts.{Contains-from_has, Has, IsExactOn, all_from_has, each_has, with_item-length, with_items-all, with_items-keeps}
 use Rattle.receipt_core.proofs.RisingFacts.{with_items-new, with_items-rising}
 use Rattle.closure_core.specs.declared.error.TakeError.{TakeError}
-use Rattle.closure_core.specs.declared.error.TakeError.TheVariants.{UnknownDomain, WrongEndpoint, Full, ConfigDiffers as OtherConfig, NoMemory as NoTakeMemory}
+use Rattle.closure_core.specs.declared.error.TakeError.TheVariants.{UnknownDomain, WrongEndpoint, BelowFloor, Full, ConfigDiffers as OtherConfig}
+use Rattle.closure_core.specs.declared.error.TakeError.TheVariants.{NoMemory as NoTakeMemory}
 use Rattle.replica_core.specs.State.{State, joined, meaning_of_state}
 use Rattle.replica_core.specs.Session.{GiveMessage, state_of}
 use Rattle.replica_core.specs.Absorbing.{RefusesEntry}
 use Rattle.replica_core.specs.declared.entry.Entry.{Entry}
 use Rattle.replica_core.specs.declared.entry.Entry.TheVariants.{Record, Receipt as AReceipt}
-use Rattle.replica_core.proofs.FitFacts.{fits_right}
+use Rattle.closure_core.proofs.FitFacts.{fits_right, fits_above}
 use Rattle.replica_texts.specs.Entries.{IsRefused, IsWanted, entry_line}
 use Rattle.replica_texts.specs.declared.entry_line.Wanted.{Wanted}
 use Rattle.replica_texts.specs.declared.entry_line.Wanted.TheVariants.{Records, Receipts, Either}
@@ -31,7 +32,7 @@ use Rattle.replica_sync.proofs.PullingFacts.{longer_with_items}
 
 -- ---- what is held only grows
 
--- both sets are kept as rising lists
+-- both sets are kept as sorted lists
 pub record IsRisingState (state : State) : Type 0 where
   pub receipts : IsStrictlySortedBy receipt_cmp state.held
   pub records : IsStrictlySortedBy distrust_cmp state.records
@@ -76,7 +77,7 @@ within-both a b c p q = record {
   few_records = let first = p.few_records in let second = q.few_records in omega (arith, first, second);
 }
 
--- Replies keep the sets rising.
+-- Replies keep the sets sorted.
 pub rising-after : (state : State) (gives : List GiveMessage) → IsRisingState state → IsRisingState (after_gives state gives)
 rising-after state [] rising = rising
 rising-after state (r ∷ gives) rising = rising-after (joined state r.content) gives (rising-joined state r.content rising)
@@ -137,7 +138,7 @@ no-record (r ∷ rs) (y ∷ ys) x later ps is e =
     let tail : map line rs ≡ map line ys ++ distrust_line x ∷ later = cc in
     no-record rs ys x later ps.1 is tail
 
--- what stands after the lines of a beginning: that of a receipt
+-- what comes after the lines of a beginning: that of a receipt
 receipt-after : (xs ys : List Distrust) (rs front : List Receipt) (r : Receipt) (later : List (List ℕ))
     → AllByRecursion IsDistrust xs → AllByRecursion IsDistrust ys → AllByRecursion IsReceipt rs → AllByRecursion IsReceipt front → IsReceipt r
     → map distrust_line xs ++ map line rs ≡ map distrust_line ys ++ (map line front ++ line r ∷ later) → IsSplit rs front r
@@ -173,7 +174,7 @@ has-middle : {A : Type 0} (front : List A) (item : A) (later : List A) → Has (
 has-middle [] item later = inl refl
 has-middle (y ∷ front) item later = inr (has-middle front item later)
 
--- with a new one more, and others besides, the set is longer
+-- with a new one and others, the set is longer
 longer-set : {A : Type 0} (P : A → Type 0) (cmp : A → A → Ordering) → IsExactOn P cmp → (whole front set : List A) (item : A)
     → IsSplit whole front item → P item → AllByRecursion P (with_items cmp front set) → (Has (with_items cmp front set) item → ⊥)
     → length (with_items cmp front set) < length (with_items cmp whole set)
@@ -218,6 +219,7 @@ module _ (c : Configuration) (configured : IsConfiguration c) (state whole conte
       let fits = receipt-fits r split in
       h fits.relationship fits.has fits.domain
   no-receipt-refused r WrongEndpoint form split ample h = fits_right c r configured (receipt-fits r split) h
+  no-receipt-refused r BelowFloor form split ample h = fits_above c r (receipt-fits r split) h
   no-receipt-refused r Full form split ample h =
       let longer = longer-set IsReceipt receipt_cmp exact-receipts whole.held content.held state.held r split form taken-receipts
       (λ k. h.unheld (Contains-from_has (joined state content).held r k)) in
@@ -234,6 +236,7 @@ module _ (c : Configuration) (configured : IsConfiguration c) (state whole conte
       → RefusesEntry (meaning_of_state c (joined state content)) (Record x) why → ⊥
   no-record-refused x UnknownDomain form split ample h = h (record-known x split)
   no-record-refused x WrongEndpoint form split ample h = h
+  no-record-refused x BelowFloor form split ample h = h
   no-record-refused x Full form split ample h =
       let longer = longer-set IsDistrust distrust_cmp exact-records whole.records content.records state.records x split form taken-records
       (λ k. h.unheld (Contains-from_has (joined state content).records x k)) in

@@ -1,4 +1,5 @@
--- What a pull holds is what its replica holds in a world where the same was asked, answered and taken.
+-- What a pull holds is what its replica holds in a world in which the same was asked, answered and
+-- taken.
 use Rattle.std.proofs.Common.{◌≡◌, ◌≢◌, ◌∙◌, ℕ, ◌+◌, ◌-◌, ◌*◌, ◌<◌, ◌≤◌, Bool, true, List, [], ◌∷◌, ◌++◌, length, map, take, inl}
 use Rattle.std.proofs.Common.{inr, refl, sym, ap, subst}
 use Rattle.std.proofs.Common.{arith, le-leb, append-nil, append_assoc, length-append, Option, None, Some}
@@ -97,13 +98,13 @@ module _ (rules : Rules) (i j : ℕ) (l : i < rules.replicas) (n : j < rules.rep
 
 -- ---- a session
 
--- Replica i holds this state, j holds what k means, and so many messages were sent.
+-- Replica i holds this state, j holds what k means, and this many messages were sent.
 pub record IsAt (i j : ℕ) (k : Meaning) (w : World) (state : State) (sent : ℕ) : Type 0 where
   pub here : w.now i ≡ state
   pub there : w.now j ≡ state_of k
   pub many : length w.sent ≡ sent
 
--- each is what k answers to what is asked where those before it are held
+-- each is what k answers to what is asked when those before it are held
 abbrev pub GivesOf : Configuration → Meaning → ℕ → State → List GiveMessage → Type 0
 GivesOf c k bucket state [] = Unit {0}
 GivesOf c k bucket state (r ∷ rs) = (r ≡ give_of k (have_in c state bucket)) × GivesOf c k (bucket + 1) (joined state r.content) rs
@@ -148,7 +149,7 @@ module _ (rules : Rules) (i j : ℕ) (l : i < rules.replicas) (n : j < rules.rep
         many = sent_then ∙ omega (arith, two, many);
       }
 
-  -- so many whole exchanges
+  -- this many whole exchanges
   run-all : (gives : List GiveMessage) (w : World) (state : State) (sent bucket : ℕ) → IsAt i j k w state sent → GivesOf c k bucket state gives
       → bucket + length gives ≤ 256 → IsSmall (after_gives state gives)
       → IsAt i j k (run_from rules w (whole_exchanges (link_of i j) (length gives) bucket sent)) (after_gives state gives) (sent + 2 * length gives)
@@ -228,7 +229,7 @@ first-gives c start (r ∷ gives) (o ∷ others) rest left is valid few e =
     let front = first-gives c (start + 1) gives others rest left is.1 valid.1 (omega (arith, few)) same.follows in
     record { later = front.later; whole = (λ t. same.give t ∷ front.whole t); follows = front.follows }
 
--- after so many answers one is left
+-- after this many answers one is left
 last-one : (k : Meaning) (qs : List HaveMessage) (q : HaveMessage) (others later : List GiveMessage) → length others ≡ length qs
     → all-gives k (qs ++ q ∷ []) ≡ others ++ later → later ≡ give_of k q ∷ []
 last-one k [] q [] later n e = sym e
@@ -270,7 +271,7 @@ front-content (x ∷ xs) (y ∷ ys) rs ss us vs p q h k e few none less =
     let later = front-content xs ys rs ss us vs p.1 q.1 h k tail (omega (arith, few)) (λ m. none (omega (arith, m))) less in
     record { records = (λ t. one_record x y p.0 q.0 head t ∷ later.records t); receipts = later.receipts }
 
--- so many lines of the whole
+-- this many lines of the whole
 first-lines : (whole content : State) → length content.records ≤ length whole.records
     → (length content.records < length whole.records → content.held ≡ [])
     → AreFirst content.records whole.records content.held whole.held
@@ -302,7 +303,7 @@ no-lines whole =
     let none : 0 - length whole.records ≡ 0 = omega arith in
     (λ t. record { held = ap (λ (n : ℕ). take n whole.held) none t; records = [] })
 
--- The content is the first so many lines of the whole.
+-- The content is the first this many lines of the whole.
 record IsCut (whole content : State) : Type 0 where
   pub lines : ℕ
   pub is : first_of lines whole ≡ content

@@ -11,24 +11,24 @@ pub record Link : Type 0 where
   pub server : ℕ
 
 -- The puller asks the server about the bucket, the server answers, and the puller takes the answer;
--- so many messages were sent before.
+-- this many messages were sent before.
 abbrev pub whole_exchange : Link → ℕ → ℕ → List Event
 whole_exchange link bucket sent =
     Ask link.puller bucket ∷ Answer link.server sent ∷ Absorb link.puller (sent + 1) ∷ []
 
--- The same, but the puller takes so many lines of the answer only.
+-- The same, but the puller takes this many lines of the answer only.
 abbrev pub cut_exchange : Link → ℕ → ℕ → ℕ → List Event
 cut_exchange link bucket sent count =
     Ask link.puller bucket ∷ Answer link.server sent ∷ Part link.puller (sent + 1) count ∷ []
 
--- this about so many buckets, from this one on
+-- this about this many buckets, from this one on
 unfoldable pub whole_exchanges : Link → ℕ → ℕ → ℕ → List Event
 whole_exchanges link zero bucket sent = []
 whole_exchanges link (suc more) bucket sent = whole_exchange link bucket sent
     ++ whole_exchanges link more (bucket + 1) (sent + 2)
 
 -- The puller holds this after whole exchanges about the first buckets, and one about the next
--- bucket of whose answer it took so many lines.
+-- bucket of whose answer it took this many lines.
 pub record EndsCut (rules : Rules) (w : World) (link : Link) (state : State) : Type 0 where
   pub buckets : ℕ
   pub few : buckets < 256

@@ -1,9 +1,10 @@
--- What a caller cites stands in the first eight; `Inside` has the steps of sessions.
+-- What a caller cites is in the first nine; `Inside` has the steps of sessions.
 pub mod SessionRun
 pub mod Serving
 pub mod Pulling
 pub mod Events
 pub mod Pieces
+pub mod Plans
 pub mod ServedPieces
 pub mod PulledPieces
 pub mod PullSessions

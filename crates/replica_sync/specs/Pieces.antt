@@ -40,7 +40,7 @@ pub record GoesOn (run : PieceRun) (new : List ℕ) : Type 0 where
   pub plain : HasNoFeed new
   pub short : length new ≤ run.most
 
--- What was kept and so many bytes of the piece are this line and its line feed.
+-- What was kept and this many bytes of the piece are this line and its line feed.
 pub record EndsLine (run : PieceRun) (used : ℕ) (text : List ℕ) : Type 0 where
   pub within : used ≤ length run.piece
   pub some : 0 < used

@@ -1,5 +1,5 @@
--- A session in which a replica asks about each bucket, and the answers come in pieces; what is held
--- may change between two of them.
+-- A session in which a replica asks about the buckets of a plan, and the answers come in pieces;
+-- what is held may change between two of them.
 use Rattle.std.specs.Prelude.{◌≡◌, ◌≢◌, ℕ, ◌+◌, ◌<◌, ◌⊎◌, List, [], ◌∷◌, ◌++◌, length, flat_map}
 use Rattle.std.specs.Prelude.{◌≤◌, take, drop, Option, None, Some, true, false}
 use Rattle.fed_config.specs.Configuration.{Configuration}
@@ -17,6 +17,7 @@ use Rattle.replica_sync.specs.Pulling.{FailsFirst, IsGiveAbout}
 use Rattle.replica_texts.specs.Snapshots.{last_of}
 use Rattle.replica_texts.specs.declared.entry_line.Wanted.{Wanted}
 use Rattle.replica_sync.specs.Pieces.{kept_part}
+use Rattle.replica_sync.specs.Plans.{answered_of, bucket_at, asked_count, plan_of}
 use Rattle.replica_sync.specs.PulledPieces.{AreAlone, PulledPiece, PulledGive, PulledGives}
 use Rattle.replica_sync.specs.PulledPieces.{TakesInTurn}
 use Rattle.replica_sync.specs.PulledPieces.{bytes_pulled, haves_asked, haves_pulled}
@@ -56,27 +57,29 @@ HasPartOf config lines before later rest = HasNoLineOf lines before later rest
 -- ---- where the session is
 
 -- These answers came whole, and a part of the next one.
-pub record GoesOnPulling (lines : AnswerLines) (start : Meaning) (came : List PulledPiece)
-    (rest output : List ℕ) : Type 0 where
+pub record GoesOnPulling (plan : Option (List ℕ)) (answered : ℕ) (lines : AnswerLines)
+    (start : Meaning) (came : List PulledPiece) (rest output : List ℕ) : Type 0 where
   pub gives : List PulledGive
   pub later : List PulledPiece
-  pub whole : PulledGives start came gives later
-  pub few : length gives < 256
-  pub bucket : lines.bucket ≡ length gives
+  pub whole : PulledGives plan start came gives later
+  pub few : length gives < asked_count plan
+  pub number : answered ≡ length gives
+  pub bucket : lines.bucket ≡ bucket_at plan (length gives)
+  pub below : lines.bucket < 256
   pub part : HasPartOf start.config lines (lines_pulled gives) later rest
-  pub asked : output ≡ flat_map have_text (haves_asked start gives)
+  pub asked : output ≡ flat_map have_text (haves_asked plan start gives)
 
 -- All came, and nothing after them is taken.
-pub record HasPulledAll (lines : AnswerLines) (start : Meaning) (came : List PulledPiece)
-    (output : List ℕ) : Type 0 where
+pub record HasPulledAll (plan : Option (List ℕ)) (lines : AnswerLines) (start : Meaning)
+    (came : List PulledPiece) (output : List ℕ) : Type 0 where
   pub gives : List PulledGive
   pub later : List PulledPiece
-  pub whole : PulledGives start came gives later
-  pub all : length gives ≡ 256
+  pub whole : PulledGives plan start came gives later
+  pub all : length gives ≡ asked_count plan
   pub bucket : lines.bucket ≡ 256
   pub none : bytes_pulled later ≡ []
   pub takes : TakesInTurn later []
-  pub asked : output ≡ flat_map have_text (haves_pulled start 0 gives)
+  pub asked : output ≡ flat_map have_text (haves_pulled plan start 0 gives)
 
 -- ---- why it stops
 
@@ -105,38 +108,39 @@ StopsAnswer m bucket first content stream e = FailsFirst m.config bucket content
 
 -- These answers came whole, and then a part of the next one; after it is this fault, as soon as a
 -- line feed comes. Nothing is taken from the piece on that has it.
-pub record StopsInGive (start : Meaning) (came : List PulledPiece) (output : List ℕ)
-    (e : SyncError) : Type 0 where
+pub record StopsInGive (plan : Option (List ℕ)) (start : Meaning) (came : List PulledPiece)
+    (output : List ℕ) (e : SyncError) : Type 0 where
   pub gives : List PulledGive
   pub part : List PulledPiece
   pub last : PulledPiece
   pub later : List PulledPiece
-  pub whole : PulledGives start came gives (part ++ last ∷ later)
-  pub few : length gives < 256
+  pub whole : PulledGives plan start came gives (part ++ last ∷ later)
+  pub few : length gives < asked_count plan
   pub content : State
   pub takes : TakesInTurn part (entries_of content)
   pub quiet : TakesInTurn (last ∷ later) []
-  pub cause : (more after : List ℕ) → StopsAnswer last.old (length gives) (lines_pulled gives + 1)
-      content (Some ((bytes_pulled part ++ last.bytes) ++ (more ++ (10 ∷ after)))) e
-  pub asked : output ≡ flat_map have_text (haves_asked start gives)
+  pub cause : (more after : List ℕ) → StopsAnswer last.old (bucket_at plan (length gives))
+      (lines_pulled gives + 1) content
+      (Some ((bytes_pulled part ++ last.bytes) ++ (more ++ (10 ∷ after)))) e
+  pub asked : output ≡ flat_map have_text (haves_asked plan start gives)
 
 -- One more answer came whole, and then memory ran out for the next have.
-pub record StopsAsking (start : Meaning) (came : List PulledPiece) (output : List ℕ)
-    (e : SyncError) : Type 0 where
+pub record StopsAsking (plan : Option (List ℕ)) (start : Meaning) (came : List PulledPiece)
+    (output : List ℕ) (e : SyncError) : Type 0 where
   pub gives : List PulledGive
   pub part : List PulledPiece
   pub last : PulledPiece
   pub later : List PulledPiece
-  pub whole : PulledGives start came gives (part ++ last ∷ later)
-  pub few : length gives < 255
+  pub whole : PulledGives plan start came gives (part ++ last ∷ later)
+  pub few : length gives + 1 < asked_count plan
   pub give : GiveMessage
-  pub about : IsGiveAbout start.config (length gives) give
+  pub about : IsGiveAbout start.config (bucket_at plan (length gives)) give
   pub behind : List ℕ
   pub text : bytes_pulled part ++ last.bytes ≡ give_text give ++ behind
   pub takes : TakesInTurn (part ++ last ∷ []) (entries_of give.content)
   pub quiet : TakesInTurn later []
   pub cause : e ≡ NoMemory
-  pub asked : output ≡ flat_map have_text (haves_asked start gives)
+  pub asked : output ≡ flat_map have_text (haves_asked plan start gives)
 
 -- ---- the machine
 
@@ -180,21 +184,26 @@ pub record TakesBytes (piece : List ℕ) (new : Pulling) (used : ℕ) : Type 0 w
   pub within : used ≤ length piece
   pub fewer : used < length piece → TakesNoMore (take used piece) new
 
-abbrev pub PullsPieces : Option SyncError → AnswerLines → Meaning → List PulledPiece → List ℕ
-    → List ℕ → Type 0
-PullsPieces None lines start came rest output = GoesOnPulling lines start came rest output
-    ⊎ HasPulledAll lines start came output
-PullsPieces (Some e) lines start came rest output = StopsInGive start came output e
-    ⊎ StopsAsking start came output e
+abbrev pub PullsPieces : Option (List ℕ) → Option SyncError → ℕ → AnswerLines → Meaning
+    → List PulledPiece → List ℕ → List ℕ → Type 0
+PullsPieces plan None answered lines start came rest output = GoesOnPulling plan answered lines
+    start came rest output ⊎ HasPulledAll plan lines start came output
+PullsPieces plan (Some e) answered lines start came rest output = StopsInGive plan start came output
+    e ⊎ StopsAsking plan start came output e
 
--- The session began where `start` was held, these came, and this was written: with what is to be
--- written next it is all that was asked.
-pub record HasPulledPieces (pulling : Pulling) (start : Meaning) (came : List PulledPiece)
-    (written : List ℕ) : Type 0 where
-  pub pulls : PullsPieces (fault_of_pulling pulling) pulling.lines start came
-      (kept_answer pulling) (written ++ due_have pulling)
+-- The session asks about the buckets of the plan. `start` was held when it began, these came, and
+-- this was written: with what is to be written next it is all that was asked.
+pub record HasPulledAbout (plan : Option (List ℕ)) (pulling : Pulling) (start : Meaning)
+    (came : List PulledPiece) (written : List ℕ) : Type 0 where
+  pub plan_is : plan_of pulling.plan ≡ plan
+  pub pulls : PullsPieces plan (fault_of_pulling pulling) (answered_of pulling.plan) pulling.lines
+      start came (kept_answer pulling) (written ++ due_have pulling)
   pub taken : count_of_pulling pulling ≡ receipts_pulled came
   pub idle : fault_of_pulling pulling ≢ None → due_have pulling ≡ []
+
+-- the same for a session that asks about each bucket
+abbrev pub HasPulledPieces : Pulling → Meaning → List PulledPiece → List ℕ → Type 0
+HasPulledPieces pulling start came written = HasPulledAbout None pulling start came written
 
 -- The lines of the bytes are taken one after another, as by as many calls, between which nothing
 -- changes.
@@ -202,6 +211,7 @@ pub record PullsLines (before : Pulling) (piece : PulledPiece) (after : Pulling)
   pub pieces : List PulledPiece
   pub whole : bytes_pulled pieces ≡ piece.bytes
   pub alone : AreAlone piece.old pieces piece.new
-  pub pulls : (start : Meaning) (came : List PulledPiece) (written : List ℕ)
-      → piece.old.config ≡ start.config → HasPulledPieces before start came written
-      → HasPulledPieces after start (came ++ pieces) written
+  pub pulls : (plan : Option (List ℕ)) (start : Meaning) (came : List PulledPiece)
+      (written : List ℕ) → piece.old.config ≡ start.config
+      → HasPulledAbout plan before start came written
+      → HasPulledAbout plan after start (came ++ pieces) written

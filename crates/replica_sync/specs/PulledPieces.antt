@@ -1,15 +1,17 @@
 -- What comes to a replica that pulls, in pieces: the answers of which they are parts, what is taken
 -- of each piece, and what is asked.
 use Rattle.std.specs.Prelude.{◌≡◌, ◌≢◌, ℕ, ◌+◌, ◌-◌, ◌<◌, ◌⊎◌, List, [], ◌∷◌, ◌++◌, length, map}
-use Rattle.std.specs.Prelude.{flat_map, take, Result, Ok, Err}
+use Rattle.std.specs.Prelude.{flat_map, take, Option, Result, Ok, Err}
 use Rattle.fed_config.specs.Configuration.{Configuration}
 use Rattle.receipt_core.specs.Acceptance.{Meaning}
 use Rattle.replica_core.specs.Absorbing.{entries_of, with_entries, with_entry}
 use Rattle.replica_core.specs.Session.{GiveMessage, HaveMessage, have_of}
+use Rattle.replica_core.specs.State.{State, joined}
 use Rattle.replica_core.specs.declared.entry.Entry.{Entry}
 use Rattle.replica_core.specs.declared.error.SyncError.{SyncError}
 use Rattle.replica_texts.specs.Messages.{give_text}
-use Rattle.replica_sync.specs.Pulling.{IsGiveAbout, line_count}
+use Rattle.replica_sync.specs.Plans.{bucket_at}
+use Rattle.replica_sync.specs.Pulling.{IsGiveAbout, have_in, line_count}
 use Rattle.replica_texts.specs.SoleLines.{IsWellFormed}
 use Rattle.replica_journal.specs.Journal.{AreWellFormed, entry_text}
 
@@ -104,17 +106,17 @@ pub record IsPulledGive (config : Configuration) (bucket : ℕ) (g : PulledGive)
   pub ends : 0 < length g.last.bytes
   pub takes : TakesInTurn (pieces_of g) (entries_of g.give.content)
 
--- the answers about this bucket and those after it, one each
-abbrev pub ArePulledGives : Configuration → ℕ → List PulledGive → Type 0
-ArePulledGives config bucket [] = Unit {0}
-ArePulledGives config bucket (g ∷ gives) = IsPulledGive config bucket g
-    × ArePulledGives config (bucket + 1) gives
+-- the answers about the bucket in this place of the plan and those after it, one each
+abbrev pub ArePulledGives : Option (List ℕ) → Configuration → ℕ → List PulledGive → Type 0
+ArePulledGives plan config place [] = Unit {0}
+ArePulledGives plan config place (g ∷ gives) = IsPulledGive config (bucket_at plan place) g
+    × ArePulledGives plan config (place + 1) gives
 
 -- These answers came whole, and then these pieces.
-pub record PulledGives (start : Meaning) (came : List PulledPiece) (gives : List PulledGive)
-    (later : List PulledPiece) : Type 0 where
+pub record PulledGives (plan : Option (List ℕ)) (start : Meaning) (came : List PulledPiece)
+    (gives : List PulledGive) (later : List PulledPiece) : Type 0 where
   pub order : came ≡ flat_map pieces_of gives ++ later
-  pub each : ArePulledGives start.config 0 gives
+  pub each : ArePulledGives plan start.config 0 gives
 
 -- ---- what is asked
 
@@ -125,15 +127,23 @@ held_at_end held (g ∷ gives) = held_at_end g.last.new gives
 
 -- The haves to which these are the answers: each is made of what is held when the answer before it
 -- ends.
-abbrev pub haves_pulled : Meaning → ℕ → List PulledGive → List HaveMessage
-haves_pulled held bucket [] = []
-haves_pulled held bucket (g ∷ gives) = have_of held bucket
-    ∷ haves_pulled g.last.new (bucket + 1) gives
+abbrev pub haves_pulled : Option (List ℕ) → Meaning → ℕ → List PulledGive → List HaveMessage
+haves_pulled plan held place [] = []
+haves_pulled plan held place (g ∷ gives) = have_of held (bucket_at plan place)
+    ∷ haves_pulled plan g.last.new (place + 1) gives
 
 -- these, and the next one
-abbrev pub haves_asked : Meaning → List PulledGive → List HaveMessage
-haves_asked start gives = haves_pulled start 0 gives
-    ++ have_of (held_at_end start gives) (length gives) ∷ []
+abbrev pub haves_asked : Option (List ℕ) → Meaning → List PulledGive → List HaveMessage
+haves_asked plan start gives = haves_pulled plan start 0 gives
+    ++ have_of (held_at_end start gives) (bucket_at plan (length gives)) ∷ []
+
+-- The haves about the buckets of the plan to which these are the answers: each has the ids that
+-- were held when it was asked.
+abbrev pub haves_planned : Option (List ℕ) → Configuration → ℕ → State → List GiveMessage
+    → List HaveMessage
+haves_planned plan config place state [] = []
+haves_planned plan config place state (give ∷ gives) = have_in config state (bucket_at plan place)
+    ∷ haves_planned plan config (place + 1) (joined state give.content) gives
 
 -- how many lines the answers have
 abbrev pub lines_pulled : List PulledGive → ℕ

@@ -55,7 +55,7 @@ line_count [] = 0
 line_count (give ∷ gives) = 1 + length give.content.records + length give.content.held
     + line_count gives
 
--- what is wrong with a line, where the replica held this before the answer and has taken so much of
+-- what is wrong with a line, if the replica held this before the answer and has taken this much of
 -- it
 abbrev pub refused_line : Configuration → State → ℕ → State → Wanted → List ℕ → List ℕ → SyncError
     → Type 0
@@ -63,7 +63,7 @@ refused_line config state first content wanted last text e = RefusesEntryLine
     (meaning_of_state config (joined state content))
     (placed_line wanted last (next_entry_number first content) text) e
 
--- A good beginning of the answer, and after it this fault.
+-- A good beginning of the answer, and after it this error.
 pub record FailsWithin (config : Configuration) (state : State) (bucket first : ℕ) (content : State)
     (left : Option (List ℕ)) (e : SyncError) : Type 0 where
   pub count : ℕ
@@ -75,15 +75,15 @@ pub record FailsWithin (config : Configuration) (state : State) (bucket first : 
   pub cause : RefusesNextEntry (refused_line config state first content) count distrusts content
       further after e
 
--- Its first line has a fault.
+-- Its first line has an error.
 pub record FailsFirst (config : Configuration) (bucket : ℕ) (content : State)
     (left : Option (List ℕ)) (e : SyncError) : Type 0 where
   pub after : Option (List ℕ)
   pub cause : RefusesHead (Some (record { config = config; bucket = bucket })) left after e
   pub none : content ≡ no_state
 
--- why the answer about the bucket is not read to its end, where its first line has the number and
--- so much of it was taken
+-- why the answer about the bucket is not read to its end, if its first line has the number and this
+-- much of it was taken
 abbrev pub RefusesGiveAbout : Configuration → State → ℕ → ℕ → State → Option (List ℕ) → SyncError
     → Type 0
 RefusesGiveAbout config state bucket first content left e = FailsFirst config bucket content left e
@@ -99,7 +99,7 @@ pub record PullsAll (run : SessionRun) (old new : Meaning) : Type 0 where
   pub asked : Appends run.before run.after
       (flat_map have_text (haves_of old.config 0 (state_of old) gives))
 
--- What the lines before the fault have is held now.
+-- What the lines before the error have is held now.
 pub record PullsUpTo (run : SessionRun) (old new : Meaning) (e : SyncError) : Type 0 where
   pub gives : List GiveMessage
   pub left : Option (List ℕ)
@@ -120,7 +120,7 @@ abbrev pub HasDistinctIds : State → Type 0
 HasDistinctIds state = (r s : Receipt) → Contains state.held r → Contains state.held s
     → receipt_id_of r ≡ receipt_id_of s → r ≡ s
 
--- so many receipts are held that were not
+-- this many receipts are held that were not
 abbrev pub HasGained : Meaning → Meaning → ℕ → Type 0
 HasGained old new count = length new.held ≡ length old.held + count
 
@@ -129,7 +129,7 @@ abbrev pub Pulls : SessionRun → Meaning → Meaning → Result ℕ PullFault �
 Pulls run old new (Ok count) = PullsAll run old new × HasGained old new count
 Pulls run old new (Err fault) = PullsUpTo run old new fault.why × HasGained old new fault.taken
 
--- a device was at fault
+-- a device failed
 abbrev pub is_pull_io : Result ℕ PullFault → Bool
 is_pull_io (Ok count) = false
 is_pull_io (Err fault) = is_io {T = ℕ} (Err fault.why)

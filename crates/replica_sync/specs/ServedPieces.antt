@@ -75,7 +75,7 @@ pub record AnswersAll (came : List Came) (rest output : List ℕ) : Type 0 where
   pub lines : lines_came came ≡ record { lines = map line_of_have asked; rest = rest }
   pub written : output ≡ gives_in_turn asked
 
--- The haves before the first fault are answered, and nothing else. It is the fault that ends a
+-- The haves before the first error are answered, and nothing else. It is the error that ends a
 -- session which serves this stream, as soon as a line feed comes.
 pub record AnswersUpTo (came : List Came) (output : List ℕ) (e : SyncError) : Type 0 where
   pub before : List Came
@@ -109,7 +109,7 @@ abbrev pub HasServedPieces : Serving → List Came → List ℕ → Type 0
 HasServedPieces serving came written = ServesPieces (fault_of_serving serving) came
     (kept_have serving) (written ++ due_give serving)
 
--- what came by a call: the bytes that it took; or all, where there is a fault among them
+-- what came by a call: the bytes that it took; or all, if there is an error among them
 abbrev pub came_taken : List ℕ → Meaning → Result ℕ SyncError → Came
 came_taken piece held (Ok used) = record { bytes = take used piece; held = held }
 came_taken piece held (Err e) = record { bytes = piece; held = held }

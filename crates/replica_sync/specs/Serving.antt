@@ -29,7 +29,7 @@ pub record ServesAll (run : SessionRun) (m : Meaning) (count : ℕ) : Type 0 whe
   pub number : count ≡ length haves
   pub written : Appends run.before run.after (gives_text m haves)
 
--- The haves before the fault are answered, and nothing else is written.
+-- The haves before the error are answered, and nothing else is written.
 pub record ServesUpTo (run : SessionRun) (m : Meaning) (e : SyncError) : Type 0 where
   pub haves : List HaveMessage
   pub left : Option (List ℕ)

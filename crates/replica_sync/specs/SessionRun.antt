@@ -1,4 +1,4 @@
--- What a session does to its devices, in the words that sessions of both sides share.
+-- What a session does to its devices, in the terms that sessions of both sides share.
 use Rattle.std.specs.Prelude.{◌≡◌, ℕ, List, [], Option, Some}
 use Rattle.std.specs.Io.KnownBytes.{Appends}
 use Rattle.byte_lines.specs.Device.{AppendsBeginning}
@@ -6,7 +6,7 @@ use Rattle.replica_core.specs.declared.error.SyncError.{SyncError}
 use Rattle.replica_core.specs.declared.error.SyncError.TheVariants.{Io, NoMemory}
 
 -- The bytes that the source has when the session begins, and those that the sink holds before and
--- after it, where the devices tell them.
+-- after it, if the devices tell them.
 pub record SessionRun : Type 0 where
   pub source : Option (List ℕ)
   pub before : Option (List ℕ)
@@ -23,7 +23,7 @@ known_run read written = session_run (Some read) (Some []) (Some written)
 abbrev pub ReadSame : SessionRun → SessionRun → Type 0
 ReadSame one other = (bytes : List ℕ) × (one.source ≡ Some bytes) × (other.source ≡ Some bytes)
 
--- all that was due is written; where the device failed or memory ran out, a beginning of it
+-- all that was due is written; if the device failed or memory ran out, a beginning of it
 abbrev pub IsWritten : SyncError → Option (List ℕ) → Option (List ℕ) → List ℕ → Type 0
 IsWritten Io old new text = AppendsBeginning old new text
 IsWritten NoMemory old new text = AppendsBeginning old new text

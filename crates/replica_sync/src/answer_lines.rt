@@ -52,6 +52,7 @@ struct LineStep {
 
 impl AnswerLines {
     ghost use Rattle.replica_sync.specs.Inside.AnswerSteps.{HasNoLines, HasSameCounts};
+    ghost use Rattle.replica_sync.specs.Inside.AnswerSteps.{HasSameCountsBut};
     ghost use Rattle.replica_sync.specs.Inside.AnswerSteps.{IsLongFault, MovesOn};
     ghost use Rattle.replica_sync.specs.Inside.AnswerSteps.{RefusesAnswerLine, RefusesLater};
     ghost use Rattle.replica_sync.specs.Inside.AnswerSteps.{StepsEntry, StepsLine};
@@ -86,6 +87,18 @@ impl AnswerLines {
         } else {
             None
         }
+    }
+
+    /// Waits for the answer about this bucket next, or for no other one.
+    pub(crate) fn wait_for(&mut self, bucket: Option<u8>)
+        ensures at { MatchOption bucket (self.new.bucket ≡ 256)
+            (λ b. (self.new.bucket < 256) × (self.new.bucket ≡ b)) }
+        ensures counts { HasSameCountsBut self.old self.new }
+    {
+        self.bucket = match bucket {
+            Some(bucket) => u16::from(bucket),
+            None => 256,
+        };
     }
 
     /// How many receipts were new.

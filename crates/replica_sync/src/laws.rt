@@ -49,13 +49,13 @@ pub fn cuts()
         → lines_of (run.old ++ run.piece) ≡ record { whole = []; rest = new } }
 {}
 
-/// Where what is held does not change, a session whose haves come in pieces does what `serve_one`
-/// does over the joined bytes, wherever they are cut.
+/// If what is held does not change, a session whose haves come in pieces does what `serve_one` does
+/// over the joined bytes, wherever they are cut.
 ///
-/// - `all`: where the stream ends after whole haves.
-/// - `cut`: where it ends within a have.
-/// - `stopped`: at a fault. It is the one that ends such a session of `serve_one` as soon as a line
-///   feed comes.
+/// - `all`: if the stream ends after whole haves.
+/// - `cut`: if it ends within a have.
+/// - `stopped`: at an error. It is the one that ends such a session of `serve_one` as soon as a
+///   line feed comes.
 pub fn served_pieces()
     ensures all { (s : Serving) (m : Meaning) (came : List Came) (written : List ℕ)
         → HasServedPieces s came written → IsStill m came → fault_of_serving s ≡ None
@@ -72,12 +72,12 @@ pub fn served_pieces()
         → Serves (known_run (bytes_came came ++ (more ++ (10 ∷ after))) written) m (Err e) }
 {}
 
-/// Where nothing else changes what is held, a session whose answers come in pieces does what `pull`
+/// If nothing else changes what is held, a session whose answers come in pieces does what `pull`
 /// does over the joined bytes, wherever they are cut.
 ///
 /// - `all`: after the last answer.
-/// - `cut`: where the stream ends before it.
-/// - `stopped`: at a fault. It is the one that ends such a `pull` as soon as a line feed comes.
+/// - `cut`: if the stream ends before it.
+/// - `stopped`: at an error. It is the one that ends such a `pull` as soon as a line feed comes.
 pub fn pulled_pieces()
     ensures all { (p : Pulling) (m held : Meaning) (came : List PulledPiece) (written : List ℕ)
         → HasPulledPieces p m came written → AreAlone m came held → fault_of_pulling p ≡ None
@@ -95,17 +95,16 @@ pub fn pulled_pieces()
         (Err (record { why = e; taken = count_of_pulling p })) }
 {}
 
-/// No session is both carried out and ended by a fault of its stream, and what it does is
+/// No session is both carried out and ended by an error of its stream, and what it does is
 /// determined by the bytes that are read. Only a device that fails, lack of memory, or a line whose
 /// receipt or record the replica cannot hold, ends it otherwise.
 ///
-/// - `served`: a stream that is wholly haves of the configuration has no fault, after
-///   whichever of them.
+/// - `served`: a stream that has only haves of the configuration has no error after any of them.
 /// - `served_once`: it is this many haves, and no other number of them.
-/// - `pulled`: a stream that begins with answers about all buckets has no fault in them, but that
-///   what a line says is refused.
-/// - `taken`: nor is anything refused where a replica can hold all that they bring.
-/// - `pulled_once`: what is held after them is one.
+/// - `pulled`: a stream that begins with answers about all buckets has no error in them, except
+///   that what a line says may be refused.
+/// - `taken`: nor is anything refused if a replica can hold all that they bring.
+/// - `pulled_once`: they determine what is held after them.
 pub fn sessions()
     ensures served { (m : Meaning) (one other : SessionRun) (count : ℕ) (e : SyncError)
         → ReadSame one other → e ≢ Io → e ≢ NoMemory
@@ -129,15 +128,15 @@ pub fn sessions()
 ///
 /// - `asks`: what a replica asks about a bucket, a line can ask.
 /// - `answers`: what a replica answers to a have that a line can ask is an answer.
-/// - `served`: a session that serves what a pull wrote has no fault.
-/// - `pulled`: nor has a pull that reads what is written to its haves, but that what a line
-///   says is refused.
-/// - `taken`: nor is anything refused where the configuration is the same, and both together hold
+/// - `served`: a session that serves what a pull wrote has no error.
+/// - `pulled`: nor has a pull that reads what is written to its haves, except that what a line says
+///   may be refused.
+/// - `taken`: nor is anything refused if the configuration is the same, and both together hold
 ///   65,536 receipts and 4,096 records at most. So nothing but a device or memory ends it early.
-/// - `brings`: a pull that was carried out brings all that the other side held: of each bucket each
-///   receipt, or one with its id is held, and each record.
-/// - `joins`: where no two receipts of both have one id, what is held then is what both held
-///   together, and nothing else.
+/// - `brings`: a pull that was carried out brings all that the other side held: each receipt of
+///   each bucket, or one with its id, and each record.
+/// - `joins`: if no two receipts of both have one id, what is held then is what both held together,
+///   and nothing else.
 pub fn understanding()
     ensures asks { (m : Meaning) (bucket : ℕ) → IsMeaning m → bucket < 256
         → IsAskable (have_of m bucket) }
@@ -176,8 +175,8 @@ pub fn understanding()
         → state_of held ≡ joined (state_of m) (state_of k) }
 {}
 
-/// Of replicas that each took, in quiet, the whole answers of all others about all buckets, the
-/// snapshots are the same, byte by byte.
+/// Replicas that each took, in quiet, the whole answers of all others about all buckets have the
+/// same snapshots, byte by byte.
 pub fn convergence()
     ensures same_snapshots { (past : WorldRun) (since : List Event) (i j : ℕ)
         → AreEvents past.events → i < past.replicas → j < past.replicas
@@ -193,11 +192,11 @@ pub fn convergence()
 /// pulls, and replica j serves it. `asked` are the bytes that the pull wrote, and `replied`
 /// those that were written to them.
 ///
-/// - `whole`: after a pull that was carried out i holds what it holds in the world where it asked j
-///   about each bucket and absorbed each answer.
-/// - `cut`: where the connection brought less, or what a line says was refused, i holds what it
-///   holds in the world where it absorbed the answers about the first buckets, and the first lines
-///   of the next one.
+/// - `whole`: after a pull that was carried out i holds what it holds in the world in which it
+///   asked j about each bucket and absorbed each answer.
+/// - `cut`: if the connection brought less, or what a line says was refused, i holds what it holds
+///   in the world in which it absorbed the answers about the first buckets, and the first lines of
+///   the next one.
 pub fn world_of_sessions()
     ensures whole { (m k held : Meaning) (n i j : ℕ) (w : World) (asked replied rest : List ℕ)
         (count : ℕ) → i < n → j < n → i ≢ j → w.now i ≡ state_of m → w.now j ≡ state_of k

@@ -2,15 +2,16 @@
 //!
 //! A session is a machine without a socket, a file or a clock: bytes go in, as the pieces in which
 //! they come, and bytes go out. `line_part` makes whole lines out of pieces. `piece_serving`
-//! answers the haves that come so, and `text_sink` keeps an answer. `piece_pulling` asks, and takes
-//! the answers that come so: `answer_lines` takes their lines, and `news` what they say:
-//! `new_entry` at once, or records of distrust together.
+//! answers the haves that come so, and `text_sink` keeps an answer. `piece_pulling` asks about the
+//! buckets of a `bucket_plan`, and takes the answers that come so: `answer_lines` takes their
+//! lines, and `news` what they say: `new_entry` at once, or records of distrust together.
 //!
 //! `serving` and `pulling` are whole sessions over a source and a sink. `pulling` gives the lines
 //! of its source to the same `answer_lines`.
 #![tactic(auto)]
 
 mod answer_lines;
+mod bucket_plan;
 pub mod laws;
 mod line_part;
 mod new_entry;

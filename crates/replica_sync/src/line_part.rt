@@ -85,8 +85,8 @@ impl LinePart {
         }
     }
 
-    /// The line that ended in the last piece, without its line feed. Where none did, the beginning
-    /// of a line that is kept.
+    /// The line that ended in the last piece, without its line feed. If none did, the beginning of
+    /// a line that is kept.
     pub fn line(&self) -> &[u8]
         ensures { result.now ≡ ended_line self.now }
     {
@@ -101,7 +101,7 @@ impl LinePart {
     }
 }
 
-// Where the first line feed stands.
+// The place of the first line feed.
 fn line_feed(bytes: &[u8]) -> Option<usize>
     ensures { AtFeed bytes.now result }
 {

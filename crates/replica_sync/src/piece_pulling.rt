@@ -1,6 +1,7 @@
 //! A pull whose answers come in pieces.
 ghost use Rattle.std.specs.Prelude.{◌≡◌, ◌+◌, ◌-◌, ◌≤◌, ◌<◌, ◌++◌, ◌⊎◌, ◌↔◌, [], ◌∷◌, List, ℕ};
-ghost use Rattle.std.specs.Prelude.{IfOk, IfErr, IsTrue, OnOk, OnErr, None, Some, MatchResult};
+ghost use Rattle.std.specs.Prelude.{IfOk, IfErr, IsTrue, OnOk, OnErr, Option, None, Some};
+ghost use Rattle.std.specs.Prelude.{MatchResult};
 ghost use Rattle.std.specs.Prelude.{length, take, drop, true, vec_len};
 ghost use Rattle.receipt_core.specs.Acceptance.{Meaning};
 ghost use Rattle.replica_core.specs.Session.{have_of};
@@ -10,9 +11,11 @@ ghost use Rattle.byte_lines.specs.Limits.{line_limit};
 ghost use Rattle.replica_sync.specs.Pieces.{longest};
 ghost use Rattle.replica_sync.specs.PulledPieces.{Journals, JournalsAll, PulledPiece};
 ghost use Rattle.replica_sync.specs.PulledPieces.{bytes_read, piece_pulled};
+ghost use Rattle.replica_sync.specs.Inside.AnswerSteps.{Asks};
 ghost use Rattle.replica_sync.specs.Inside.Waiting.{Waits, held_with};
 
 use crate::answer_lines::AnswerLines;
+use crate::bucket_plan::BucketPlan;
 use crate::line_part::{LinePart, PieceEnd};
 use crate::news::News;
 use crate::text_sink::TextSink;
@@ -28,10 +31,11 @@ const LONGEST_LINE: usize = 8_388_608;
 /// A session in which a replica pulls, without the connection: it is given the bytes of the answers
 /// in pieces of any size, and says what is to be written.
 ///
-/// It asks about each bucket in order, from 0 to 255, as [`pull`](crate::pull) does. Each
-/// have has the ids that are held when the answer before it ends. Each record and each receipt is
-/// taken when its line ends, so a session that breaks off loses nothing. The closure is borrowed by
-/// each call. It is always to be one of the same configuration, and may change between two calls.
+/// It asks about each bucket in order, from 0 to 255, as [`pull`](crate::pull) does; or about those
+/// that it is given. Each have has the ids that are held when the answer before it ends. Each
+/// record and each receipt is taken when its line ends, so a session that breaks off loses nothing.
+/// The closure is borrowed by each call. It is always to be one of the same configuration, and may
+/// change between two calls.
 ///
 /// Beside what is held, memory is taken for one have and for a few lines, and never for a number
 /// that the other side says.
@@ -39,6 +43,7 @@ const LONGEST_LINE: usize = 8_388_608;
 pub struct Pulling {
     part: LinePart,
     lines: AnswerLines,
+    plan: BucketPlan,
     // The have that is being written, and how much of it was.
     have: Vec<u8>,
     written: usize,
@@ -48,11 +53,14 @@ pub struct Pulling {
 }
 
 impl Pulling {
-    ghost use Rattle.replica_sync.specs.PullSessions.{HasPulledPieces, IsOverPulling};
+    ghost use Rattle.replica_sync.specs.Plans.{answered_of, asked_count, plan_of};
+    ghost use Rattle.replica_sync.specs.PullSessions.{HasPulledAbout, HasPulledPieces};
+    ghost use Rattle.replica_sync.specs.PullSessions.{IsOverPulling};
     ghost use Rattle.replica_sync.specs.PullSessions.{PullsLines};
     ghost use Rattle.replica_sync.specs.PullSessions.{count_of_pulling, due_have, kept_answer};
     ghost use Rattle.replica_sync.specs.PullSessions.{fault_of_pulling, TakesBytes, TakesLines};
-    ghost use Rattle.replica_sync.specs.Inside.AnswerSteps.{Asks, FailsPulled, TakesPulled};
+    ghost use Rattle.replica_sync.specs.Inside.AnswerSteps.{FailsPulled, TakesPulled};
+    ghost use Rattle.replica_sync.specs.Inside.AnswerSteps.{HasSameCountsBut, IsNextAt};
 
     /// The beginning of a session: the have about the first bucket is to be written.
     ///
@@ -63,10 +71,41 @@ impl Pulling {
             (λ p. HasPulledPieces p (C.state closure.now).meaning [] []) }
         ensures refused { IfErr result (λ e. e ≡ NoMemory) }
     {
+        Pulling::begin(alloc, closure, BucketPlan::all())
+    }
+
+    /// The beginning of a session that asks about these buckets, in this order: the have about the
+    /// first of them is to be written. Without buckets the session is over.
+    ///
+    /// # Errors
+    /// [`SyncError::NoMemory`]: memory ran out.
+    pub fn about<C: Closure>(
+        alloc: Global,
+        closure: &C,
+        buckets: Vec<u8>,
+    ) -> Result<Pulling, SyncError>
+        ensures ok { IfOk result (λ p.
+            HasPulledAbout (Some buckets.items) p (C.state closure.now).meaning [] []) }
+        ensures refused { IfErr result (λ e. e ≡ NoMemory) }
+    {
+        Pulling::begin(alloc, closure, BucketPlan::listed(buckets))
+    }
+
+    // The beginning of a session that asks about the buckets of the plan.
+    fn begin<C: Closure>(alloc: Global, closure: &C, plan: BucketPlan) -> Result<Pulling, SyncError>
+        requires { answered_of plan ≡ 0 }
+        ensures ok { IfOk result
+            (λ p. HasPulledAbout (plan_of plan) p (C.state closure.now).meaning [] []) }
+        ensures refused { IfErr result (λ e. e ≡ NoMemory) }
+    {
+        let mut lines = AnswerLines::new(alloc);
+        lines.wait_for(plan.next());
+        let have = next_have(alloc, closure, &lines)?;
         Ok(Pulling {
             part: LinePart::new(alloc, LONGEST_LINE),
-            lines: AnswerLines::new(alloc),
-            have: have_about(alloc, closure, 0)?,
+            lines,
+            plan,
+            have,
             written: 0,
             fault: None,
         })
@@ -103,9 +142,10 @@ impl Pulling {
         piece: &[u8],
         journal: &mut Vec<u8>,
     ) -> Result<usize, SyncError>
-        ensures pulls { (start : Meaning) (came : List PulledPiece) (written : List ℕ)
-            → (C.state closure.old).meaning.config ≡ start.config
-            → HasPulledPieces self.old start came written → HasPulledPieces self.new start
+        ensures pulls { (plan : Option (List ℕ)) (start : Meaning) (came : List PulledPiece)
+            (written : List ℕ) → (C.state closure.old).meaning.config ≡ start.config
+            → HasPulledAbout plan self.old start came written
+            → HasPulledAbout plan self.new start
             (came ++ piece_pulled piece.now (C.state closure.old).meaning
             (C.state closure.new).meaning result ∷ []) written }
         ensures journals { Journals (C.state closure.old).meaning (C.state closure.new).meaning
@@ -205,9 +245,10 @@ impl Pulling {
         news: &mut News,
     ) -> Result<usize, SyncError>
         requires waits { Waits (C.state closure.old).meaning news.old }
-        ensures pulls { (start : Meaning) (came : List PulledPiece) (written : List ℕ)
-            → (C.state closure.old).meaning.config ≡ start.config
-            → HasPulledPieces self.old start came written → HasPulledPieces self.new start
+        ensures pulls { (plan : Option (List ℕ)) (start : Meaning) (came : List PulledPiece)
+            (written : List ℕ) → (C.state closure.old).meaning.config ≡ start.config
+            → HasPulledAbout plan self.old start came written
+            → HasPulledAbout plan self.new start
             (came ++ piece_pulled piece.now (held_with news.old (C.state closure.old).meaning)
             (held_with news.new (C.state closure.new).meaning) result ∷ []) written }
         ensures journals { Journals (held_with news.old (C.state closure.old).meaning)
@@ -251,23 +292,28 @@ impl Pulling {
         ensures ok { IfOk result (λ used. TakesPulled (record {
           held = held_with news.old (C.state closure.old).meaning;
           lines = self.old.lines;
+          asked = self.old.plan;
           kept = kept_answer self.old;
         }) piece.now used (record {
           held = held_with news.new (C.state closure.new).meaning;
           lines = self.new.lines;
+          asked = self.new.plan;
           kept = kept_answer self.new;
         }) (due_have self.new)) }
         ensures refused { IfErr result (FailsPulled (record {
           held = held_with news.old (C.state closure.old).meaning;
           lines = self.old.lines;
+          asked = self.old.plan;
           kept = kept_answer self.old;
         }) piece.now (record {
           held = held_with news.new (C.state closure.new).meaning;
           lines = self.new.lines;
+          asked = self.new.plan;
           kept = kept_answer self.new;
         })) }
         ensures quiet { OnErr result (due_have self.new ≡ []) }
         ensures fault { self.new.fault ≡ self.old.fault }
+        ensures plan { plan_of self.new.plan ≡ plan_of self.old.plan }
         ensures taken { self.new.lines.taken ≡ self.old.lines.taken
             + (length (C.state closure.new).meaning.held
             - length (C.state closure.old).meaning.held) }
@@ -288,22 +334,44 @@ impl Pulling {
         }
     }
 
-    // Makes the have about the next bucket, if there is one.
+    // Makes the have about the next bucket of the plan, if there is one.
     fn ask<C: Closure>(&mut self, alloc: Global, closure: &C) -> Result<(), AllocError>
         requires idle { due_have self.old ≡ [] }
         ensures ok { OnOk result
             (Asks (C.state closure.now).meaning self.new.lines true (due_have self.new)) }
         ensures refused { OnErr result
             ((self.new.lines.bucket < 256) × (due_have self.new ≡ [])) }
+        ensures plan { plan_of self.new.plan ≡ plan_of self.old.plan }
+        ensures more { answered_of self.old.plan < asked_count (plan_of self.old.plan)
+            → answered_of self.new.plan ≡ answered_of self.old.plan + 1 }
+        ensures counts { HasSameCountsBut self.old.lines self.new.lines }
+        ensures next { IsNextAt (plan_of self.new.plan) (answered_of self.new.plan)
+            self.new.lines }
         ensures part { self.new.part ≡ self.old.part }
-        ensures lines { self.new.lines ≡ self.old.lines }
         ensures fault { self.new.fault ≡ self.old.fault }
     {
+        self.move_on();
         if let Some(bucket) = self.lines.bucket() {
             self.have = have_about(alloc, closure, bucket)?;
             self.written = 0;
         }
         Ok(())
+    }
+
+    // Waits for the answer about the next bucket of the plan.
+    fn move_on(&mut self)
+        ensures plan { plan_of self.new.plan ≡ plan_of self.old.plan }
+        ensures more { answered_of self.old.plan < asked_count (plan_of self.old.plan)
+            → answered_of self.new.plan ≡ answered_of self.old.plan + 1 }
+        ensures counts { HasSameCountsBut self.old.lines self.new.lines }
+        ensures next { IsNextAt (plan_of self.new.plan) (answered_of self.new.plan)
+            self.new.lines }
+        ensures due { due_have self.new ≡ due_have self.old }
+        ensures part { self.new.part ≡ self.old.part }
+        ensures fault { self.new.fault ≡ self.old.fault }
+    {
+        self.plan.pass();
+        self.lines.wait_for(self.plan.next());
     }
 
     /// What is to be written next.
@@ -316,9 +384,9 @@ impl Pulling {
     /// Says that the first `count` bytes of the output were written.
     pub fn wrote(&mut self, count: usize)
         requires { count ≤ length (due_have self.old) }
-        ensures pulls { (start : Meaning) (came : List PulledPiece) (written : List ℕ)
-            → HasPulledPieces self.old start came written
-            → HasPulledPieces self.new start came (written ++ take count (due_have self.old)) }
+        ensures pulls { (plan : Option (List ℕ)) (start : Meaning) (came : List PulledPiece)
+            (written : List ℕ) → HasPulledAbout plan self.old start came written
+            → HasPulledAbout plan self.new start came (written ++ take count (due_have self.old)) }
         ensures due { due_have self.new ≡ drop count (due_have self.old) }
         ensures fault { fault_of_pulling self.new ≡ fault_of_pulling self.old }
     {
@@ -365,6 +433,20 @@ impl Pulling {
                 }
             }
         }
+    }
+}
+
+// The have about the bucket whose answer is next. Nothing after the last one.
+fn next_have<C: Closure>(
+    alloc: Global,
+    closure: &C,
+    lines: &AnswerLines,
+) -> Result<Vec<u8>, AllocError>
+    ensures { IfOk result (λ text. Asks (C.state closure.now).meaning lines.now true text.items) }
+{
+    match lines.bucket() {
+        Some(bucket) => have_about(alloc, closure, bucket),
+        None => Ok(Vec::new(alloc)),
     }
 }
 

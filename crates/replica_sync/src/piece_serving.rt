@@ -6,6 +6,7 @@ ghost use Rattle.replica_core.specs.declared.error.SyncError.TheVariants.{Trunca
 ghost use Rattle.replica_texts.specs.FirstLines.{RefusesHaveLine};
 ghost use Rattle.replica_texts.specs.Messages.{give_text};
 ghost use Rattle.byte_lines.specs.Limits.{line_limit};
+ghost use Rattle.byte_lines.specs.Lines.{HasNoFeed};
 ghost use Rattle.replica_sync.specs.Pieces.{longest};
 ghost use Rattle.replica_sync.specs.Inside.ServingSteps.{AnswersLine};
 
@@ -42,7 +43,9 @@ impl Serving {
 
     /// The beginning of a session.
     pub fn new(alloc: Global) -> Serving
-        ensures { HasServedPieces result [] [] }
+        ensures begins { HasServedPieces result [] [] }
+        ensures sound { fault_of_serving result ≡ None }
+        ensures idle { due_give result ≡ [] }
     {
         Serving {
             part: LinePart::new(alloc, LONGEST_HAVE),
@@ -57,11 +60,11 @@ impl Serving {
     /// are to be given again once that is written.
     ///
     /// # Errors
-    /// The answers to the haves before the fault may still be written, and nothing else ever is.
-    /// Each later call returns the same fault. Of these the first that holds:
-    /// - [`SyncError::BadHeader`]: a line is no have's, of whatever format and number of buckets,
-    ///   or its bucket is not below that number, or its ids do not rise strictly, or it has more
-    ///   than 8,388,608 bytes,
+    /// The answers to the haves before the error may still be written, and nothing else ever is.
+    /// Each later call returns the same error. The first of these that holds:
+    /// - [`SyncError::BadHeader`]: a line is not a have's, of whatever format and number of
+    ///   buckets, or its bucket is not below that number, or its ids do not rise strictly, or it
+    ///   has more than 8,388,608 bytes,
     /// - [`SyncError::ConfigDiffers`]: a have is of another configuration,
     /// - [`SyncError::VersionDiffers`]: it has another format than 2, or another number of buckets
     ///   than 256,
@@ -77,6 +80,9 @@ impl Serving {
             (came ++ came_taken piece.now (C.state closure.now).meaning result ∷ []) written }
         ensures taken { IfOk result (λ used. (used ≤ length piece.now)
             × ((used ≡ length piece.now) ⊎ (0 < length (due_give self.new)))) }
+        ensures whole { due_give self.old ≡ [] → HasNoFeed piece.now
+            → IfOk result (λ used. used ≡ length piece.now) }
+        ensures quiet { due_give self.old ≡ [] → HasNoFeed piece.now → due_give self.new ≡ [] }
         ensures waits { 0 < length (due_give self.old) → self.new ≡ self.old }
         ensures fault { MatchResult result (λ _. fault_of_serving self.new ≡ None)
             (λ e. fault_of_serving self.new ≡ Some e) }
@@ -137,6 +143,7 @@ impl Serving {
             → HasServedPieces self.old came written
             → HasServedPieces self.new came (written ++ take count (due_give self.old)) }
         ensures due { due_give self.new ≡ drop count (due_give self.old) }
+        ensures fault { fault_of_serving self.new ≡ fault_of_serving self.old }
     {
         self.written += count;
         if self.written == self.answer.len() {
@@ -146,10 +153,10 @@ impl Serving {
         }
     }
 
-    /// Whether the stream may end here: no fault was found, and no beginning of a have is kept.
+    /// Whether the stream may end here: no error was found, and no beginning of a have is kept.
     ///
     /// # Errors
-    /// The fault that was found; or [`SyncError::Truncated`]: the stream ends within a have.
+    /// The error that was found; or [`SyncError::Truncated`]: the stream ends within a have.
     pub fn end(&self) -> Result<(), SyncError>
         ensures whole { OnOk result
             ((fault_of_serving self.now ≡ None) × (kept_have self.now ≡ [])) }

@@ -26,7 +26,7 @@ use thiserror::Error;
 #[derive(Clone, Copy, Debug, PartialEq, Eq, Error)]
 #[error("{why} taken {taken}")]
 pub struct PullFault {
-    /// The fault. Lines are counted from 1 over all answers of the session.
+    /// The error. Lines are counted from 1 over all answers of the session.
     pub why: SyncError,
     /// How many receipts were taken before it that were not held.
     pub taken: u64,
@@ -35,23 +35,23 @@ pub struct PullFault {
 /// Asks about each bucket in order, from 0 to 255, and takes each answer line by line. Returns how
 /// many receipts are held now that were not.
 ///
-/// Each have has the ids that are held when it is asked. It is written whole before its answer
-/// is read, and what follows the last answer is not taken. The records of distrust of an answer are
-/// taken together, by one merge, where the answer ends. Besides what is held, memory is taken for
-/// one have, for a few lines and for the records of one answer, and never for a number that the
+/// Each have has the ids that are held when it is asked. It is written whole before its answer is
+/// read, and what follows the last answer is not taken. The records of distrust of an answer are
+/// taken together, by one merge, at the end of the answer. Apart from what is held, memory is taken
+/// for one have, for a few lines and for the records of one answer, and never for a number that the
 /// other side says.
 ///
 /// # Errors
-/// What the lines before the fault say stays held, and [`PullFault::taken`] says how many receipts
-/// of it were new. Of several faults the one that comes first in the answers' bytes:
+/// What the lines before the error say stays held, and [`PullFault::taken`] says how many receipts
+/// of it were new. The first error in the order of the answers' bytes:
 /// - [`SyncError::Truncated`]: the source ends before the last answer does,
-/// - [`SyncError::BadHeader`]: a line is no answer's first, of whatever format and number of
+/// - [`SyncError::BadHeader`]: a line is not an answer's first, of whatever format and number of
 ///   buckets, or is about another bucket than was asked about, or has more than 8,388,608 bytes,
 /// - [`SyncError::ConfigDiffers`]: it is of another configuration,
 /// - [`SyncError::VersionDiffers`]: it has another format than 2, or another number of buckets than
 ///   256,
-/// - [`SyncError::NotCanonical`]: a line is not a record's where a record should stand, or not a
-///   receipt's where a receipt should, or has more than 8,388,608 bytes,
+/// - [`SyncError::NotCanonical`]: a line is not a record's where a record should be, or not a
+///   receipt's where a receipt should be, or has more than 8,388,608 bytes,
 /// - [`SyncError::NotRising`]: a line is not greater than the one before it in its answer,
 /// - [`SyncError::Refused`]: a receipt or a record is not of the configuration, or is one too many,
 /// - [`SyncError::Io`]: the source or the sink failed,

@@ -13,18 +13,18 @@ use replica_core::{SyncError, answer};
 use replica_texts::{next_own, write_answer};
 use std::alloc::Global;
 
-/// Answers the haves of the source, one after another, until it ends where a have would
-/// begin. Returns how many there were.
+/// Answers the haves of the source, one after another, until it ends where a have would begin.
+/// Returns how many there were.
 ///
 /// Only haves of the closure's configuration are answered, each with what the closure holds.
 /// Memory is taken for one have and for one line of an answer.
 ///
 /// # Errors
-/// The haves before the fault are answered, and nothing else is written; where the sink failed
-/// or memory ran out, a beginning of that. Of these the first that holds:
+/// The haves before the error are answered, and nothing else is written; if the sink failed or
+/// memory ran out, a beginning of that. The first of these that holds:
 /// - [`SyncError::Truncated`]: the source ends within a have,
-/// - [`SyncError::BadHeader`]: a line is no have's, of whatever format and number of buckets,
-///   or its bucket is not below that number, or its ids do not rise strictly, or it has more than
+/// - [`SyncError::BadHeader`]: a line is not a have's, of whatever format and number of buckets, or
+///   its bucket is not below that number, or its ids do not rise strictly, or it has more than
 ///   8,388,608 bytes,
 /// - [`SyncError::ConfigDiffers`]: a have is of another configuration,
 /// - [`SyncError::VersionDiffers`]: it has another format than 2, or another number of buckets than

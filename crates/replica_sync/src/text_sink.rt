@@ -3,7 +3,7 @@ use byte_lines::{Fault, Sink};
 use std::alloc::Global;
 
 /// Takes all bytes that it is given, as long as there is memory for them. A growth that is refused
-/// is a fault.
+/// is an error.
 #[derive(Drop)]
 pub(crate) struct TextSink {
     text: Vec<u8>,

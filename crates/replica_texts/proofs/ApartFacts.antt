@@ -64,14 +64,14 @@ no_byte : (feed : Bool) (b : ℕ) (lines : Lines) → (with_byte feed b lines).w
 no_byte true b lines p q = cc
 no_byte false b lines p q = no_before b lines.whole lines.rest p q
 
--- Where there is neither a line nor a rest, there is no byte.
+-- If there is neither a line nor a rest, there is no byte.
 no_bytes : (bytes : List ℕ) → (lines_of bytes).whole ≡ [] → (lines_of bytes).rest ≡ [] → bytes ≡ []
 no_bytes [] p q = refl
 no_bytes (b ∷ bytes) p q = absurd (no_byte (b == 10) b (lines_of bytes) p q)
 
 -- ---- the first line
 
--- The first line of this configuration has no fault.
+-- The first line of this configuration has no error.
 right_first : (format : Format) (config : Configuration) (text : List ℕ) (e : SyncError)
     → text ≡ header_line format config → ((e ≡ BadHeader) × (8388608 < length text)) ⊎ RefusesHeader config text e → ⊥
 right_first format config text e is (inl long) =
@@ -95,7 +95,7 @@ right_first format config text (Refused n why) is (inr h) = h
 right_first format config text Io is (inr h) = h
 right_first format config text NoMemory is (inr h) = h
 
--- A stream that begins with the first line of this configuration has no fault of it.
+-- A stream that begins with the first line of this configuration has no error of it.
 bad_first : (format : Format) (config : Configuration) (bytes tail : List ℕ) (e : SyncError)
     → bytes ≡ ended (header_line format config) ++ tail → HasBadFirst config (Some bytes) e → ⊥
 bad_first format config bytes tail e whole h = by_rest h.after h.is
@@ -153,7 +153,7 @@ same_count format m k valid other e =
     let sets = held_back m.records k.records m.held k.held valid.distrusts other.distrusts valid.receipts other.receipts e in
     (λ i. count_of format (length (sets.receipts i)) (length (sets.records i)))
 
--- The line that follows has no fault at its place.
+-- The line that follows has no error at its place.
 good_place : (format : Format) (m k : Meaning) (rest text after : List ℕ) (e : SyncError) → e ≢ NoMemory
     → IsTail format m k rest → HasNoFeed text → rest ≡ ended text ++ after → RefusesPlace format k text e → ⊥
 good_place format m k rest text after e ample tail plain is cause = elim (next_line format m k rest text after tail plain is) [
@@ -161,7 +161,7 @@ good_place format m k rest text after e ample tail plain is cause = elim (next_l
   | inr at ↦ no_fault_of_held format m k text at.later e tail.configured tail.valid tail.other tail.fits tail.same at.parts ample cause
 ]
 
--- The end of a snapshot has no line with a fault.
+-- The end of a snapshot has no line with an error.
 bad_line : (format : Format) (m k : Meaning) (rest : List ℕ) (e : SyncError) → e ≢ NoMemory → IsTail format m k rest → HasBadLine format k (Some rest) e → ⊥
 bad_line format m k rest e ample tail h = by_rest h.after h.is
   where
@@ -169,7 +169,7 @@ bad_line format m k rest e ample tail h = by_rest h.after h.is
     by_rest None is = is.1
     by_rest (Some left) is = good_place format m k rest h.text left e ample tail is.0 is.1 h.cause
 
--- The last line is none of what is held.
+-- The last line is not one of what is held.
 pub count_apart : (format : Format) (m : Meaning) (text : List ℕ) (ys later : List (List ℕ)) (k : Meaning) → IsMeaning k
     → text ≡ count_line format k → held_lines m ≡ ys ++ text ∷ later → ⊥
 count_apart format m text ys later k valid is e =
@@ -220,11 +220,11 @@ refused_next format m k rest NoMemory calm ample tail h = ample refl
 
 -- ---- the whole
 
--- what stands after the first line
+-- what comes after the first line
 abbrev follows : Format → Meaning → List ℕ
 follows format m = text_of_lines (held_lines m) ++ ended (count_line format m)
 
--- A snapshot is its first line and what stands after it, where the configuration is this one.
+-- A snapshot is its first line and what comes after it, if the configuration is this one.
 front_of : (format : Format) (config : Configuration) (m : Meaning) → m.config ≡ config
     → snapshot_text format m ≡ ended (header_line format config) ++ follows format m
 front_of format config m same = front_text format m ∙ ap (λ c. ended (header_line format c) ++ follows format m) same
@@ -244,7 +244,7 @@ one_format config First Second rest other e = absurd (formats_apart (digits_of c
 one_format config Second First rest other e = absurd (formats_apart (digits_of config) other rest (sym e))
 one_format config Second Second rest other e = refl
 
--- What stands after the first line is the lines of what is held, and the last line.
+-- What comes after the first line is the lines of what is held, and the last line.
 after_lines : (format : Format) (m : Meaning) → IsMeaning m
     → lines_of (follows format m) ≡ record { whole = held_lines m ++ count_line format m ∷ []; rest = [] }
 after_lines format m valid =

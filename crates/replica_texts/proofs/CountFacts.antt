@@ -1,4 +1,4 @@
--- The last line of a snapshot has no fault, and no line of a receipt or of a record begins as it
+-- The last line of a snapshot has no error, and no line of a receipt or of a record begins as it
 -- does.
 use Rattle.std.proofs.Common.{◌≡◌, ◌≢◌, ℕ, ◌+◌, ◌≤◌, List, [], ◌∷◌, ◌++◌, length, length-append, map, decimal, codes, get_or, refl, ap, sym, ◌∙◌, subst, arith}
 use Rattle.std.proofs.lemmas.Fmt.{length-decimal-le}
@@ -70,7 +70,7 @@ is_count format m valid = record {
       omega (arith, whole, part, number);
 }
 
--- The last line has no fault at its place.
+-- The last line has no error at its place.
 pub no_fault_of_count : (format : Format) (m : Meaning) (text : List ℕ) (e : SyncError) → IsMeaning m
     → text ≡ count_line format m → e ≢ NoMemory → RefusesPlace format m text e → ⊥
 no_fault_of_count format m text BadHeader valid is ample h = h

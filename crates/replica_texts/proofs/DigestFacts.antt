@@ -35,7 +35,7 @@ digit_at (suc n) d h lt =
           rw e parts.0
     ]
 
--- The hexadecimal text of bytes has hexadecimal digits alone.
+-- The hexadecimal text of bytes has only hexadecimal digits.
 each_digit : (a : List ℕ) → AllByRecursion (λ b. b < 256) a → AllByRecursion (λ b. is_lower_hex_digit b ≡ true) (encode_lower a)
 unfolding encode_with
 each_digit [] h = tt
@@ -61,7 +61,7 @@ length-config_id : (c : Configuration) → length (config_id_of c) ≡ 32
 unfolding config_id_of sha256
 length-config_id c = length-digest _ 8
 
--- The digits of a configuration's digest are hexadecimal digits alone.
+-- The digits of a configuration's digest are all hexadecimal.
 each_of_config : (c : Configuration) → AllByRecursion (λ b. is_lower_hex_digit b ≡ true) (digits_of c)
 unfolding config_id_of sha256
 each_of_config c = each_digit (config_id_of c) (digest-bytes _ 8)

@@ -76,12 +76,12 @@ pub feedless_decimal : (m : ℕ) → m < 2 ^ 64 → Feedless (decimal m)
 feedless_decimal = decimal_by_steps (λ m ds. Feedless ds) (λ m h. ((λ e. omega arith), tt))
     (λ m ds h before. feedless_both ds ((48 + m % 10) ∷ []) before ((λ e. omega arith), tt))
 
--- The comma before a member is no line feed.
+-- The comma before a member is not a line feed.
 feedless_comma : (later : Bool) → Feedless (comma_if later)
 feedless_comma true = ((λ e. omega arith), tt)
 feedless_comma false = tt
 
--- A member has none where its value and the later members have none.
+-- A member has none if its value and the later members have none.
 feedless_member : (later : Bool) (name value others : List ℕ) → Feedless value → Feedless others
     → Feedless (comma_if later ++ (quoted name ++ 58 ∷ (value ++ others)))
 feedless_member later name value others h k =
@@ -114,7 +114,7 @@ mutual
 
 -- ---- lines
 
--- The closing brace is no line feed.
+-- The closing brace is not a line feed.
 ends : Feedless (125 ∷ [])
 ends = ((λ e. omega arith), tt)
 

@@ -18,7 +18,7 @@ use Rattle.replica_texts.proofs.IdListFacts.{later_text}
 
 -- ---- texts without a line feed
 
--- Bytes above the quotation mark are no line feeds.
+-- Bytes above the quotation mark are not a line feeds.
 above-feed : (text : List ℕ) → AllByRecursion (λ b. 34 < b) text → Feedless text
 above-feed [] h = tt
 above-feed (b ∷ text) h = ((λ e. let above = h.0 in omega (arith, above, e)), above-feed text h.1)
@@ -79,15 +79,15 @@ feedless-give-header t is =
     (labelled (codes ",\"format\":") _ refl (feedless_both (decimal t.format) _ (feedless_decimal t.format is.format)
     (labelled (codes ",\"of\":") _ refl (feedless_both (decimal t.buckets) _ (feedless_decimal t.buckets is.buckets) (feedless_by (codes "}") refl)))))))))))
 
--- A text without a line feed, in the words of streams.
+-- A text without a line feed, as streams state it.
 pub plain : (text : List ℕ) → Feedless text → HasNoFeed text
 plain text h = All-from_recursion (λ b. b ≢ 10) text h
 
--- The line of a have has no line feed, in the words of streams.
+-- The line of a have has no line feed, as streams state it.
 pub plain-asked : (a : AnyHave) → IsAnyHave a → HasNoFeed (any_have_text a)
 plain-asked a is = plain (any_have_text a) (feedless-asked a is)
 
--- The first line of an answer has no line feed, in the words of streams.
+-- The first line of an answer has no line feed, as streams state it.
 pub plain-give-header : (t : GiveHeader) → IsGiveHeader t → HasNoFeed (give_header_text t)
 plain-give-header t is = plain (give_header_text t) (feedless-give-header t is)
 

@@ -18,7 +18,7 @@ use Rattle.replica_texts.proofs.GiveHeaderFacts.{few-records, format_label, no-r
 
 -- ---- numbers
 
--- Of one text, the digits up to the first other byte are one.
+-- For one text, the digits up to the first other byte are one.
 one-seam : (xs ys : List ℕ) (stop end : ℕ) (more rest : List ℕ) → AreDecimal xs → AreDecimal ys → is_ascii_digit stop ≡ false → is_ascii_digit end ≡ false
     → xs ++ (stop ∷ more) ≡ ys ++ (end ∷ rest) → (xs ≡ ys) × (stop ∷ more ≡ end ∷ rest)
 one-seam [] [] stop end more rest p q h k e = (refl, e)

@@ -57,7 +57,7 @@ pub record Grows (count distrusts : ℕ) (old : State) (text : List ℕ) (new : 
   pub begun : IsBegun count distrusts new
   pub lines : content_lines new ≡ content_lines old ++ text ∷ []
 
--- A line above the last one keeps the lines rising.
+-- A line above the last one keeps the lines sorted.
 rises : (old new : State) (text : List ℕ) → IsStrictlySortedBy text_cmp (content_lines old)
     → IsAbove (last_of (content_lines old)) text → content_lines new ≡ content_lines old ++ text ∷ []
     → IsStrictlySortedBy text_cmp (content_lines new)
@@ -171,7 +171,7 @@ content-text content =
     (ap text_of_lines (sym (append-nil (map line content.held))) ∙ lines-of line content.held []
     ∙ append-nil (flat_map receipt_text content.held))
 
--- Where as many lines came as the first one says, that is the first line of the answer.
+-- If as many lines came as the first line says, it is the first line of the answer.
 header-whole : (h : Head) (content : State) → IsWhole h.count h.distrusts content
     → header_by_head h ≡ give_header_of (record { bucket = h.bucket; config = h.config.0; content = content })
 header-whole h content whole = λ i. record {
@@ -207,7 +207,7 @@ whole-answer old middle new h content head all = record {
 pub read-heads : (expected : Option Expected) (text : List ℕ) (h : Head) → IsHeadLine expected text h → Heads expected text h.count h.distrusts
 read-heads expected text h t = record { header = header_by_head h; wanted = t.wanted; own = t.own; supported = (refl, refl); receipts = refl; records = refl }
 
--- A fault after the first line is why the answer is not read.
+-- An error after the first line is why the answer is not read.
 pub fails-after : (old middle new : Option (List ℕ)) (h : Head) (e : SyncError) → HasHead None old middle h
     → StopsGathering h.count h.distrusts middle new e → RefusesGive old new e
 fails-after old middle new h e head fails = inr (record {

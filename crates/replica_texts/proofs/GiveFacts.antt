@@ -1,4 +1,4 @@
--- A stream begins with one answer at most, and one that begins with a whole answer has no fault
+-- A stream begins with one answer at most, and one that begins with a whole answer has no error
 -- before its end.
 use Rattle.std.proofs.Common.{◌≡◌, ◌≢◌, ℕ, ◌+◌, ◌<◌, ◌≤◌, ◌^◌, inl, inr, List, [], ◌∷◌, ◌++◌, codes, decimal, length, length-append, map, Option}
 use Rattle.std.proofs.Common.{None, Some, refl, ap, sym, ◌∙◌, subst, arith, append_assoc, append-nil}
@@ -79,7 +79,7 @@ short-give-header t is =
     let buckets = short-number t.buckets is.buckets in
     omega (arith, whole, bucket, config, count, part, format, buckets)
 
--- The first line of an answer says that it is one with so many receipts and records.
+-- The first line of an answer says that it is one with this many receipts and records.
 heads-give : (expected : Option Expected) (r : GiveMessage) → IsGive r → IsAbout expected r.bucket → HasDigestOf (config_of expected) r.config
     → Heads expected (give_header_text (give_header_of r)) (length r.content.held) (length r.content.records)
 heads-give expected r is about own = record {
@@ -91,7 +91,7 @@ heads-give expected r is about own = record {
   records = refl;
 }
 
--- A first line that is read has no fault.
+-- A first line that is read has no error.
 pub no-bad-head : (expected : Option Expected) (text : List ℕ) (count distrusts : ℕ) (e : SyncError) → Heads expected text count distrusts
     → e ≢ NoMemory → RefusesFirstLine (RefusesGiveLine expected) text e → ⊥
 no-bad-head expected text count distrusts e is ample (inl long) =
@@ -204,7 +204,7 @@ one-give bytes a b (Some left) (Some rest) is valid e f =
 
 -- ---- the line after a beginning
 
--- after the fewer lines stands one more of the others
+-- after the fewer lines comes one more of the others
 pub record HasFurther (xs us ys : List (List ℕ)) : Type 0 where
   pub text : List ℕ
   pub later : List (List ℕ)
@@ -212,7 +212,7 @@ pub record HasFurther (xs us ys : List (List ℕ)) : Type 0 where
   pub whole : ys ≡ xs ++ text ∷ later
   pub rest : us ≡ text ∷ follows
 
--- Where fewer lines and more begin one list, one more line stands after the fewer.
+-- If fewer lines and more begin one list, one more line comes after the fewer.
 pub further : (xs us ys vs : List (List ℕ)) → xs ++ us ≡ ys ++ vs → length xs < length ys → HasFurther xs us ys
 further [] us [] vs e less = absurd (omega (arith, less))
 further [] us (y ∷ ys) vs e less = record { text = y; later = ys; follows = ys ++ vs; whole = refl; rest = e }
@@ -238,7 +238,7 @@ stands-at P f (x ∷ xs) us (y ∷ ys) vs text h e less =
     let tail : map f xs ++ us ≡ ys ++ text ∷ vs = cc in
     stands-at P f xs us ys vs text h.1 tail (omega (arith, less))
 
--- Of two beginnings of an answer, the one with fewer lines has fewer records where a record is wanted after it.
+-- If a record is wanted after the shorter of two beginnings of an answer, it has fewer records.
 more-records : (count distrusts : ℕ) (whole content : State) → IsBegun count distrusts whole → length content.records < distrusts
     → length (content_lines content) < length (content_lines whole) → length content.records < length whole.records
 more-records count distrusts whole content larger wants less =
@@ -251,7 +251,7 @@ more-records count distrusts whole content larger wants less =
           absurd (omega (arith, same, none, few, many, less))
     ]
 
--- Where a receipt is wanted after it, the other one has as many records as it, and more receipts.
+-- If a receipt is wanted after it, the other one has as many records as it, and more receipts.
 more-receipts : (count distrusts : ℕ) (whole content : State) → IsBegun count distrusts whole → length content.records ≡ distrusts
     → length (content_lines content) < length (content_lines whole)
     → (length whole.records ≡ length content.records) × (length content.held < length whole.held)
@@ -265,7 +265,7 @@ more-receipts count distrusts whole content larger wants less =
           (same, omega (arith, same, few, many, less))
     ]
 
--- A line at a place where records, or receipts, are wanted is one of these.
+-- A line at a place of records, or of receipts, is one of these.
 entry-at : (wanted : Wanted) (count distrusts : ℕ) (whole content : State) (text : List ℕ) (later : List (List ℕ))
     → IsBegun count distrusts whole → IsBegun count distrusts content → length (content_lines content) < length (content_lines whole)
     → Wants count distrusts content wanted → content_lines whole ≡ content_lines content ++ text ∷ later → (entry : Entry) × IsEntry wanted text entry
@@ -325,7 +325,8 @@ fewer count distrusts whole content Receipts begun receipts records wants =
     omega (arith, few, many, all, more, receipts, records)
 fewer count distrusts whole content Either begun receipts records wants = absurd wants
 
--- Two beginnings of an answer, each with what follows it in one stream; where a line is wanted after the content, the whole has more lines.
+-- Two beginnings of an answer, each with what follows it in one stream; if a line is wanted after
+-- the content, the whole has more lines.
 pub record IsShorter (whole content : State) (count distrusts : ℕ) (rest after : List ℕ) : Type 0 where
   pub begun : IsBegun count distrusts content
   pub larger : IsBegun count distrusts whole
@@ -352,7 +353,7 @@ shorter-part whole content count distrusts rest after valid rising part =
     }
 
 module _ (whole content : State) (count distrusts : ℕ) (rest after : List ℕ) (part : IsShorter whole content count distrusts rest after) where
-  -- Another line of the whole stands after the beginning.
+  -- Another line of the whole comes after the beginning.
   next-line : (wanted : Wanted) → Wants count distrusts content wanted → HasFurther (content_lines content) (lines_of rest).whole (content_lines whole)
   next-line wanted wants =
       further (content_lines content) (lines_of rest).whole (content_lines whole) (lines_of after).whole part.lines (part.more wanted wants)
@@ -385,7 +386,7 @@ module _ (whole content : State) (count distrusts : ℕ) (rest after : List ℕ)
       let same : text ≡ more.text = cc in
       good-line wanted text more.later wants (more.whole ∙ ap (λ t. content_lines content ++ t ∷ more.later) (sym same))
 
-  -- The stream does not end where a line is wanted.
+  -- The stream does not end if a line is still wanted.
   no-cut : (wanted : Wanted) → Wants count distrusts content wanted → HasNoLine (Some rest) → ⊥
   no-cut wanted wants none =
       let more = next-line wanted wants in
@@ -394,7 +395,7 @@ module _ (whole content : State) (count distrusts : ℕ) (rest after : List ℕ)
 
   module _ (refuses : Wanted → List ℕ → List ℕ → SyncError → Type 0) (e : SyncError)
       (welcome : (wanted : Wanted) (text : List ℕ) → IsGood whole content wanted text → refuses wanted (last_of (content_lines content)) text e → ⊥) where
-    -- The next line has no fault where a good line has none.
+    -- The next line has no error if a good line has none.
     no-bad-next : (new : Option (List ℕ)) → HasBadNext refuses count distrusts content (Some rest) new e → ⊥
     no-bad-next new h = welcome h.wanted h.text (good-next h.wanted h.text new h.wants h.is) h.cause
 
@@ -413,12 +414,12 @@ module _ (whole content : State) (count distrusts : ℕ) (rest after : List ℕ)
   no-next-fault refuses new Io welcome calm ample h = calm refl
   no-next-fault refuses new NoMemory welcome calm ample h = ample refl
 
--- ---- no fault
+-- ---- no error
 
 module _ (expected : Option Expected) (bytes : List ℕ) (r : GiveMessage) (after : List ℕ) (is : IsGive r)
     (about : IsAbout expected r.bucket) (own : HasDigestOf (config_of expected) r.config)
     (begins : bytes ≡ give_text r ++ after) where
-  -- The stream has no fault of its first line.
+  -- The stream has no error of its first line.
   bad-first : (new : Option (List ℕ)) (e : SyncError) → e ≢ NoMemory → HasBadFirstLine (RefusesGiveLine expected) (Some bytes) new e → ⊥
   bad-first new e ample h =
       no-bad-head expected (give_header_text (give_header_of r)) (length r.content.held) (length r.content.records) e
@@ -469,7 +470,7 @@ module _ (expected : Option Expected) (bytes : List ℕ) (r : GiveMessage) (afte
       no-next-fault r.content content count distrusts rest after
       (shorter-part r.content content count distrusts rest after is.valid is.rising (is-part count distrusts content rest b)) refuses new e welcome calm ample h
 
--- the text of a good line has no fault of its own
+-- the text of a good line has no error of its own
 pub no-text-fault : (whole content : State) (wanted : Wanted) (text : List ℕ) (e : SyncError) → e ≢ NoMemory
     → IsGood whole content wanted text → refused_text content wanted (last_of (content_lines content)) text e → ⊥
 no-text-fault whole content wanted text BadHeader ample good h = h
@@ -494,7 +495,7 @@ whole-read bytes r after new e is calm ample begins (inr fault) =
     no-fault-after None bytes r after is tt tt begins (refused_text fault.content) fault.count fault.distrusts fault.content fault.left new e
     (λ wanted text. no-text-fault r.content fault.content wanted text e ample) calm ample fault.begins fault.cause
 
--- The clause `read` of the law on answers: a stream that begins with an answer has no fault before
+-- The clause `read` of the law on answers: a stream that begins with an answer has no error before
 -- its end.
 pub give-read : (bytes : List ℕ) (r : GiveMessage) (left new : Option (List ℕ)) (e : SyncError) → IsGive r → e ≢ Io
     → e ≢ NoMemory → Consumes (Some bytes) left (give_text r) → RefusesGive (Some bytes) new e → ⊥

@@ -6,11 +6,11 @@ use Rattle.std.specs.Char.{is_ascii_digit}
 use Rattle.replica_texts.specs.Messages.{distrusts_part}
 use Rattle.replica_texts.specs.FirstLines.{IsRecordCount}
 
--- what stands before the number of records
+-- what comes before the number of records
 abbrev pub records_label : List ℕ
 records_label = codes ",\"distrusts\":"
 
--- what stands before the number of the format
+-- what comes before the number of the format
 abbrev pub format_label : List ℕ
 format_label = codes ",\"format\":"
 
@@ -30,8 +30,7 @@ few-records format (Some n) h = h
 pub no-records : (text rest more : List ℕ) → text ≡ records_label ++ rest → text ≡ format_label ++ more → ⊥
 no-records text rest more e f = let no : 100 ≡ 102 = sym (ap (λ (t : List ℕ). get_or t 2 0) e) ∙ ap (λ (t : List ℕ). get_or t 2 0) f in omega (arith, no)
 
--- Where the label of records comes next, the number that was read after it is the number of
--- records.
+-- If the label of records comes next, the number that was read after it is the number of records.
 pub some-records : (text rest follows : List ℕ) (number : ℕ) → text ≡ records_label ++ rest
     → ((n stop : ℕ) (more : List ℕ) → n < 2 ^ 64 → is_ascii_digit stop ≡ false
     → text ≡ records_label ++ (decimal n ++ (stop ∷ more)) → (number ≡ n) × (follows ≡ stop ∷ more))
@@ -43,7 +42,7 @@ some-records text rest follows number begins right (Some n) more few e =
     let parts = right n 44 (drop 1 (format_label ++ more)) few refl (e ∙ append_assoc records_label (decimal n) (format_label ++ more)) in
     (ap Some parts.0, parts.1)
 
--- Where that label does not come next, there is no number of records.
+-- If that label does not come next, there is no number of records.
 pub none-records : (text : List ℕ) → ((rest : List ℕ) → text ≡ records_label ++ rest → ⊥)
     → (distrusts : Option ℕ) (more : List ℕ) → IfSome distrusts (λ n. n < 2 ^ 64)
     → text ≡ distrusts_part distrusts ++ (format_label ++ more) → (None ≡ distrusts) × (text ≡ format_label ++ more)

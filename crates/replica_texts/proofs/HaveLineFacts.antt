@@ -5,19 +5,19 @@ use Rattle.hex.specs.Hex.{encode_lower}
 use Rattle.replica_texts.specs.Messages.{AnyHave, any_have_text, quoted}
 use Rattle.replica_texts.specs.FirstLines.{IsAnyHave}
 
--- what stands after the list of ids
+-- what comes after the list of ids
 abbrev pub after_ids : AnyHave → List ℕ
 after_ids a = codes ",\"of\":" ++ (decimal a.buckets ++ (125 ∷ []))
 
--- what stands after the format
+-- what comes after the format
 abbrev pub after_format : AnyHave → List ℕ
 after_format a = codes "\"have\":[" ++ (join_by quoted (codes ",") a.have.ids ++ (93 ∷ after_ids a))
 
--- what stands after the digest
+-- what comes after the digest
 abbrev pub after_config : AnyHave → List ℕ
 after_config a = codes "\",\"format\":" ++ (decimal a.format ++ (44 ∷ after_format a))
 
--- what stands after the bucket
+-- what comes after the bucket
 abbrev pub after_bucket : AnyHave → List ℕ
 after_bucket a = codes "\"config\":\"" ++ (encode_lower a.have.config ++ after_config a)
 

@@ -1,4 +1,4 @@
--- Why a have is not read, from the fault of its line.
+-- Why a have is not read, from the error of its line.
 use Rattle.std.proofs.Common.{ℕ, ◌≤◌, inl, inr, List, length, Option, sym, subst}
 use Rattle.fed_config.specs.Configuration.{Configuration}
 use Rattle.byte_lines.specs.Lines.{HasLine}

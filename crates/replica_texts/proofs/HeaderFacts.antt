@@ -8,15 +8,15 @@ use Rattle.replica_texts.specs.Inside.Reading.{IsSplit}
 use Rattle.replica_texts.specs.Snapshots.{IsHeader, header_of, count_beginning}
 use Rattle.replica_texts.specs.declared.format.Format.{Format}
 
--- what stands before the digits of the digest
+-- what comes before the digits of the digest
 abbrev first_label : List ℕ
 first_label = codes "{\"config\":\""
 
--- what stands before the number of the format
+-- what comes before the number of the format
 abbrev second_label : List ℕ
 second_label = codes "\",\"format\":"
 
--- what stands after the digits of the digest
+-- what comes after the digits of the digest
 abbrev after_digits : List ℕ → List ℕ
 after_digits number = second_label ++ (number ++ codes "}")
 
@@ -35,7 +35,7 @@ count_pushed format t0 t1 t2 t3 t4 receipts records e0 e1 e2 e3 e4 = rw (e4, e3,
 
 -- ---- what a split text has after each part
 
--- After the first label stand the digits and what follows them.
+-- After the first label come the digits and what follows them.
 pub after_first : (text rest digits number : List ℕ) → text ≡ first_label ++ rest → IsSplit text digits number → rest ≡ digits ++ after_digits number
 unfolding header_of
 after_first text rest digits number e s = append_cancel_left first_label rest (digits ++ after_digits number) (sym e ∙ s.whole)
@@ -45,7 +45,7 @@ pub has_first : (text digits number : List ℕ) → IsSplit text digits number �
 unfolding header_of
 has_first text digits number s = s.whole
 
--- After the first label at least 64 bytes stand.
+-- After the first label come at least 64 bytes.
 pub long_rest : (text rest digits number : List ℕ) → text ≡ first_label ++ rest → length rest < 64 → IsSplit text digits number → ⊥
 long_rest text rest digits number e l s =
     let whole : length rest ≡ length (digits ++ after_digits number) = ap length (after_first text rest digits number e s) in
@@ -59,14 +59,14 @@ split_digits_are text rest digits number e s =
     ∙ ap (λ n. take n (digits ++ after_digits number)) (sym s.size)
     ∙ take-append_seam digits (after_digits number)
 
--- After the digits stands the second label.
+-- After the digits comes the second label.
 pub after_second : (text rest digits number : List ℕ) → text ≡ first_label ++ rest → IsSplit text digits number → drop 64 rest ≡ after_digits number
 after_second text rest digits number e s =
     ap (drop 64) (after_first text rest digits number e s)
     ∙ ap (λ n. drop n (digits ++ after_digits number)) (sym s.size)
     ∙ drop-append_seam digits (after_digits number)
 
--- After the second label stand the number and the closing brace.
+-- After the second label come the number and the closing brace.
 pub after_third : (text rest last digits number : List ℕ) → text ≡ first_label ++ rest
     → drop 64 rest ≡ second_label ++ last → IsSplit text digits number → last ≡ number ++ codes "}"
 after_third text rest last digits number e f s = append_cancel_left second_label last (number ++ codes "}") (sym f ∙ after_second text rest digits number e s)

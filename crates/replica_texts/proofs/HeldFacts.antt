@@ -103,7 +103,7 @@ module _ (total : IsTotalOrder receipt_cmp) (records_total : IsTotalOrder distru
       (map_rising IsReceipt receipt_cmp line same_line m.held valid.receipts valid.rising)
       (records_below m.records m.held valid.distrusts valid.receipts)
 
-  -- Where a record's line is above all lines of receipts, there is none.
+  -- If a record's line is above all lines of receipts, there is no receipt.
   no_receipt_below : (x : Distrust) (receipts : List Receipt) → IsDistrust x → AllByRecursion IsReceipt receipts
       → AllBelow (distrust_line x) (map line receipts) → receipts ≡ []
   no_receipt_below x [] p qs h = refl

@@ -57,7 +57,7 @@ no_bracket text front rest e all =
     let within : length front < length (front ++ 93 ∷ rest) = omega (arith, length-append front (93 ∷ rest)) in
     bracket-fails (get_or (front ++ 93 ∷ rest) (length front) 0) (get_or-append_seam front 93 rest 0) (subst (AllPass is_inside) e all (length front) 0 within)
 
--- a text of two parts is parted where the first ends
+-- a text of two parts is split at the end of the first
 parted : (text front back : List ℕ) (place : ℕ) → text ≡ front ++ back → place ≡ length front → (take place text ≡ front) × (drop place text ≡ back)
 parted text front back place e p = (
   ap (take place) e ∙ ap (λ n. take n (front ++ back)) p ∙ take-append_seam front back,
@@ -122,7 +122,7 @@ inside_join : (ids : List (List ℕ)) → AllByRecursion IsDigest ids → Inside
 inside_join [] h = tt
 inside_join (id ∷ ids) h = inside_both (quoted id) (later_text ids) (inside_quoted id h.0) (inside_later ids h.1)
 
--- A list of ids has no bracket, in the words of the search.
+-- A list of ids has no bracket, as the search states it.
 pub inside_ids : (ids : List (List ℕ)) → AllByRecursion IsDigest ids → AllPass is_inside (join_by quoted (codes ",") ids)
 inside_ids ids h = All-from_recursion (λ b. is_inside b ≡ true) (join_by quoted (codes ",") ids) (inside_join ids h)
 
@@ -135,7 +135,7 @@ length-quoted id is =
     let follows = length-append (encode_lower id) (34 ∷ []) in
     omega (arith, size, follows)
 
--- where there is an id, it is long enough and begins with a quotation mark
+-- if there is an id, it is long enough and begins with a quotation mark
 pub none-short : (text : List ℕ) (ids : List (List ℕ)) → AllByRecursion IsDigest ids
     → text ≡ join_by quoted (codes ",") ids → length text < 66 → TakesId ids None
 none-short text [] h e short = refl
@@ -144,7 +144,7 @@ none-short text (id ∷ ids) h e short =
     let whole = ap length e ∙ length-append (quoted id) (later_text ids) in
     absurd (omega (arith, size, whole, short))
 
--- Where no quotation mark comes first there is no id.
+-- If no quotation mark comes first, there is no id.
 pub none-other : (text : List ℕ) (ids : List (List ℕ)) → AllByRecursion IsDigest ids
     → text ≡ join_by quoted (codes ",") ids → get_or text 0 0 ≢ 34 → TakesId ids None
 none-other text [] h e other = refl
@@ -155,7 +155,7 @@ without-comma : (ids : List (List ℕ)) → drop 1 (later_text ids) ≡ join_by 
 without-comma [] = refl
 without-comma (id ∷ ids) = refl
 
--- Where the text is long enough the first id was taken, and the others stand after it.
+-- If the text is long enough the first id was taken, and the others come after it.
 pub some-first : (text first rest digest : List ℕ) (ids : List (List ℕ)) (found : ReceiptId) (back : Bor (List ℕ))
     → AllByRecursion IsDigest ids → text ≡ join_by quoted (codes ",") ids → 66 ≤ length text
     → first ≡ take 66 text → rest ≡ drop 66 text
@@ -169,7 +169,7 @@ some-first text first rest digest (id ∷ ids) found back h e long f r exact sam
 
 -- ---- the ids so far
 
--- Of the ids that are wanted these are taken, and the others are listed in the rest.
+-- These of the wanted ids are taken, and the others are listed in the rest.
 pub record IsRest (wanted taken : List (List ℕ)) (rest : List ℕ) : Type 0 where
   pub others : List (List ℕ)
   pub digests : AllByRecursion IsDigest others
@@ -180,7 +180,7 @@ pub record IsRest (wanted taken : List (List ℕ)) (rest : List ℕ) : Type 0 wh
 abbrev pub Lists : List ℕ → List (List ℕ) → List ℕ → Type 0
 Lists text taken rest = (wanted : List (List ℕ)) → AllByRecursion IsDigest wanted → text ≡ join_by quoted (codes ",") wanted → IsRest wanted taken rest
 
--- Of the ids that are left the first was taken.
+-- The first of the ids that are left was taken.
 more-of : (wanted taken others : List (List ℕ)) (rest : List ℕ) (found : ReceiptId) (back : Bor (List ℕ))
     → AllByRecursion IsDigest others → wanted ≡ taken ++ others → TakesId others (Some (found, back))
     → IsRest wanted (taken ++ found.0 ∷ []) back.now

@@ -1,4 +1,5 @@
--- A stream has one fault at most, but for a source that fails and for lack of memory: haves and answers.
+-- A stream has one error at most, but for a source that fails and for lack of memory: haves and
+-- answers.
 use Rattle.std.proofs.Common.{◌≡◌, ◌≢◌, ℕ, ◌<◌, ◌⊎◌, inl, inr, List, ◌++◌, length, Option}
 use Rattle.std.proofs.Common.{None, Some, refl, ap, sym, ◌∙◌, subst, arith, append_assoc}
 use Rattle.std.proofs.lemmas.Bool.{cases_lt}
@@ -40,7 +41,7 @@ pub line-or-none : (bytes text : List ℕ) (new : Option (List ℕ)) → HasLine
 line-or-none bytes text None is none = is.1
 line-or-none bytes text (Some after) is none = no-first bytes text after is.0 is.1 none
 
--- One line has one fault, where one that is not too long has one.
+-- One line has one error, if a line that is not too long has one.
 one-line-fault : (refuses : List ℕ → SyncError → Type 0) (text : List ℕ) (d e : SyncError) → (refuses text d → refuses text e → d ≡ e)
     → RefusesFirstLine refuses text d → RefusesFirstLine refuses text e → d ≡ e
 one-line-fault refuses text d e one (inl long) (inl other) = long.0 ∙ sym other.0
@@ -48,11 +49,11 @@ one-line-fault refuses text d e one (inl long) (inr short) = absurd (omega (arit
 one-line-fault refuses text d e one (inr short) (inl long) = absurd (omega (arith, long.1, short.0))
 one-line-fault refuses text d e one (inr p) (inr q) = one p.1 q.1
 
--- The stream's first line has the fault, or there is no line.
+-- The stream's first line has the error, or there is no line.
 abbrev FailsAtFirst : (List ℕ → SyncError → Type 0) → List ℕ → Option (List ℕ) → SyncError → Type 0
 FailsAtFirst refuses bytes new e = HasBadFirstLine refuses (Some bytes) new e ⊎ ((e ≡ Truncated) × HasNoLine (Some bytes))
 
--- Where a first line has one fault at most, so has the stream there.
+-- If a first line has one error at most, so has the stream there.
 one-first-fault : (refuses : List ℕ → SyncError → Type 0) (bytes : List ℕ) (new since : Option (List ℕ)) (d e : SyncError)
     → ((text : List ℕ) → refuses text d → refuses text e → d ≡ e) → FailsAtFirst refuses bytes new d → FailsAtFirst refuses bytes since e → d ≡ e
 one-first-fault refuses bytes new since d e one (inl h) (inl k) =
@@ -64,7 +65,7 @@ one-first-fault refuses bytes new since d e one (inr h) (inr k) = h.0 ∙ sym k.
 
 -- ---- haves
 
--- A line of a have has one fault at most.
+-- A line of a have has one error at most.
 one-asked-fault : (config : Option Configuration) (text : List ℕ) (d e : SyncError) → d ≢ NoMemory → e ≢ NoMemory
     → RefusesHaveLine config text d → RefusesHaveLine config text e → d ≡ e
 one-asked-fault config text BadHeader BadHeader m n p q = refl
@@ -108,7 +109,7 @@ one-have-cause config bytes new since d e c m k n p q =
 
 -- ---- the first line of an answer
 
--- The first line of an answer has one fault at most.
+-- The first line of an answer has one error at most.
 one-give-header-fault : (text : List ℕ) (d e : SyncError) → d ≢ NoMemory → e ≢ NoMemory → RefusesGiveLine None text d → RefusesGiveLine None text e → d ≡ e
 one-give-header-fault text BadHeader BadHeader m n p q = refl
 one-give-header-fault text BadHeader ConfigDiffers m n p q = absurd (p q.header q.wanted)
@@ -144,7 +145,7 @@ begun-line bytes count distrusts content left b =
       b.text ∙ append_assoc (ended b.first) (text_of_lines (content_lines content)) left,
     )
 
--- After a first line that is read no fault of the first line stands.
+-- After a first line that is read there is no error of the first line.
 no-head-cause : (bytes : List ℕ) (new : Option (List ℕ)) (e : SyncError) (count distrusts : ℕ) (content : State) (left : List ℕ)
     → e ≢ NoMemory → GiveBegins None (Some bytes) count distrusts content (Some left) → FailsAtFirst (RefusesGiveLine None) bytes new e → ⊥
 no-head-cause bytes new e count distrusts content left ample b (inl h) =
@@ -165,12 +166,12 @@ one-wanted count distrusts content Receipts Receipts p q = refl
 one-wanted count distrusts content Either w p q = absurd p
 one-wanted count distrusts content v Either p q = absurd q
 
--- What says something is a line that may stand there.
+-- What says something is a line that may be there.
 pub no-entry-here : (wanted : Wanted) (text : List ℕ) → IsNoLineOf wanted text → (entry : Entry) → IsEntry wanted text entry → ⊥
 no-entry-here wanted text (inl long) entry is = let short = short-entry wanted text entry is in omega (arith, long, short)
 no-entry-here wanted text (inr none) entry is = none entry is
 
--- A text has one fault at most where a line of this kind is wanted.
+-- A text has one error at most if a line of this kind is wanted.
 one-text-fault : (wanted : Wanted) (last : List ℕ) (number : ℕ) (text : List ℕ) (d e : SyncError) → d ≢ NoMemory → e ≢ NoMemory
     → RefusesEntryText (placed_line wanted last number text) d → RefusesEntryText (placed_line wanted last number text) e → d ≡ e
 one-text-fault wanted last number text (NotCanonical n) (NotCanonical k) l m p q = ap NotCanonical (p.0 ∙ sym q.0)
@@ -183,7 +184,7 @@ one-text-fault wanted last number text (NotCanonical n) e l m p q = absurd q
 one-text-fault wanted last number text (NotRising n) e l m p q = absurd q
 one-text-fault wanted last number text d e l m p q = absurd p
 
--- The next line has the fault, or one is wanted and there is none.
+-- The next line has the error, or one is wanted and there is none.
 abbrev FailsAtNext : ℕ → ℕ → State → List ℕ → Option (List ℕ) → SyncError → Type 0
 FailsAtNext count distrusts content left new e = HasBadNext (refused_text content) count distrusts content (Some left) new e
     ⊎ ((e ≡ Truncated) × HasNoNext count distrusts content (Some left))
@@ -199,7 +200,7 @@ at-next count distrusts content left new Io calm ample h = absurd (calm refl)
 at-next count distrusts content left new NoMemory calm ample h = absurd (ample refl)
 at-next count distrusts content left new e calm ample h = absurd h
 
--- After one beginning of an answer stands one fault at most.
+-- After one beginning of an answer there is one error at most.
 one-next-fault : (count distrusts : ℕ) (content : State) (left : List ℕ) (new since : Option (List ℕ)) (d e : SyncError) → d ≢ NoMemory → e ≢ NoMemory
     → FailsAtNext count distrusts content left new d → FailsAtNext count distrusts content left since e → d ≡ e
 one-next-fault count distrusts content left new since d e m n (inl h) (inl k) =
@@ -214,7 +215,8 @@ one-next-fault count distrusts content left new since d e m n (inr h) (inr k) = 
 
 -- ---- two beginnings of one answer
 
--- Both are beginnings of one answer with so many receipts and records, and the same lines follow the first line.
+-- Both are beginnings of one answer with this many receipts and records, and the same lines follow
+-- the first line.
 record AreOfOne (count distrusts : ℕ) (content other : State) (left rest : List ℕ) : Type 0 where
   pub begun : IsBegun count distrusts content
   pub second : IsBegun count distrusts other
@@ -227,7 +229,7 @@ turned-round : (count distrusts : ℕ) (content other : State) (left rest : List
 turned-round count distrusts content other left rest one =
     record { begun = one.second; second = one.begun; follows = sym one.follows; lines = sym one.lines }
 
--- After the shorter of the two stands no fault.
+-- After the shorter of the two there is no error.
 shorter-fine : (count distrusts : ℕ) (content other : State) (left rest : List ℕ) (new : Option (List ℕ)) (e : SyncError)
     → AreOfOne count distrusts content other left rest → length (content_lines content) < length (content_lines other)
     → e ≢ Io → e ≢ NoMemory → RefusesNextEntry (refused_text content) count distrusts content (Some left) new e → ⊥
@@ -254,7 +256,7 @@ alike count distrusts content other left rest one size =
           (ap (λ (ls : List (List ℕ)). text_of_lines ls ++ left) (sym lines.0) ∙ one.follows);
     }
 
--- After two beginnings of one answer stands one fault at most.
+-- After two beginnings of one answer there is one error at most.
 one-after : (count distrusts : ℕ) (content other : State) (left rest : List ℕ) (new since : Option (List ℕ)) (d e : SyncError)
     → AreOfOne count distrusts content other left rest → d ≢ Io → d ≢ NoMemory → e ≢ Io → e ≢ NoMemory
     → RefusesNextEntry (refused_text content) count distrusts content (Some left) new d
@@ -308,7 +310,7 @@ of-one bytes count distrusts count_too distrusts_too content other left rest b k
 
 -- ---- an answer
 
--- The first line has the fault, or a line after it.
+-- The first line has the error, or a line after it.
 two-after : (bytes : List ℕ) (new since : Option (List ℕ)) (d e : SyncError) → d ≢ Io → d ≢ NoMemory → e ≢ Io → e ≢ NoMemory
     → (h : GiveFailsAfter (Some bytes) new d) (k : GiveFailsAfter (Some bytes) since e) → d ≡ e
 two-after bytes new since d e c m n o h k = by-rests h.left k.left h.begins k.begins h.cause k.cause
@@ -326,7 +328,7 @@ two-after bytes new since d e c m n o h k = by-rests h.left k.left h.begins k.be
         (subst (λ (x : ℕ). RefusesNextEntry (refused_text h.content) h.count x h.content (Some left) new d) both.records p))
         q
 
--- No stream has a fault of its first line and one after it.
+-- No stream has an error of its first line and one after it.
 first-or-after : (bytes : List ℕ) (new since : Option (List ℕ)) (d e : SyncError) → d ≢ Io → d ≢ NoMemory
     → RefusesHead None (Some bytes) new d → GiveFailsAfter (Some bytes) since e → ⊥
 first-or-after bytes new since d e calm ample head h = by-rest h.left h.begins

@@ -1,4 +1,4 @@
--- What may stand at a line's place in a snapshot, and that such a line has no fault.
+-- What may be at a line's place in a snapshot, and that such a line has no error.
 use Rattle.std.proofs.Common.{◌≡◌, ◌≢◌, ℕ, ◌+◌, ◌≤◌, ◌⊎◌, inl, inr, List, [], ◌∷◌, ◌++◌, length, length-append, map, fold, refl, ap, sym, ◌∙◌, subst, arith}
 use Rattle.std.proofs.lemmas.Bool.{cases_lt}
 use Rattle.std.specs.List.{AllByRecursion}
@@ -12,7 +12,8 @@ use Rattle.receipt_core.specs.Acceptance.{IsFitting, Meaning, IsMeaning}
 use Rattle.receipt_core.proofs.LineFacts.{one_line, one_record, record_first, distrust_order}
 use Rattle.receipt_core.proofs.ReadFacts.{length-line, no_long_record}
 use Rattle.closure_core.specs.declared.error.TakeError.{TakeError}
-use Rattle.closure_core.specs.declared.error.TakeError.TheVariants.{UnknownDomain, WrongEndpoint, Full, NoMemory as NoTakeMemory, ConfigDiffers as OtherConfig}
+use Rattle.closure_core.specs.declared.error.TakeError.TheVariants.{UnknownDomain, WrongEndpoint, BelowFloor, Full, NoMemory as NoTakeMemory}
+use Rattle.closure_core.specs.declared.error.TakeError.TheVariants.{ConfigDiffers as OtherConfig}
 use Rattle.replica_texts.specs.Entries.{IsAbove, IsEntry, IsWanted, entry_line}
 use Rattle.replica_core.specs.Absorbing.{RefusesEntry}
 use Rattle.replica_texts.specs.Snapshots.{FitsFormat, RefusesPlace, held_lines, last_line, wanted_of}
@@ -28,7 +29,7 @@ use Rattle.replica_core.proofs.RisingListFacts.{all_back, rising_head, rising_ta
 use Rattle.replica_texts.proofs.HeldFacts.{lines_rise, text_cmp}
 use Rattle.replica_texts.proofs.OneFacts.{apart}
 use Rattle.replica_texts.proofs.CountFacts.{IsThird, no_count, third_line, third_record}
-use Rattle.replica_core.proofs.FitFacts.{fits_right}
+use Rattle.closure_core.proofs.FitFacts.{fits_right, fits_above}
 
 -- ---- one more line of what is held
 
@@ -103,7 +104,7 @@ same_entry (AReceipt r) (AReceipt s) p q e = ap AReceipt (one_line r s p q e)
 pub one_entry : (format : Format) (text : List ℕ) (a b : Entry) → IsEntry (wanted_of format) text a → IsEntry (wanted_of format) text b → a ≡ b
 one_entry format text a b p q = same_entry a b (wider format a p.is) (wider format b q.is) (sym p.spelt ∙ q.spelt)
 
--- A good line has no fault at its place.
+-- A good line has no error at its place.
 no_fault_of_good : (format : Format) (m : Meaning) (text : List ℕ) (e : SyncError) → IsGood format m text → e ≢ NoMemory → RefusesPlace format m text e → ⊥
 no_fault_of_good format m text BadHeader good ample h = h
 no_fault_of_good format m text ConfigDiffers good ample h = h
@@ -124,7 +125,7 @@ no_fault_of_good format m text NoMemory good ample h = ample refl
 
 -- ---- a line of what is held is good
 
--- Each line is above the empty text, which stands for no line before.
+-- Each line is above the empty text, which means that no line came before.
 pub above_nothing : (entry : Entry) → IsAbove [] (entry_line entry)
 unfolding line distrust_line
 above_nothing (Record x) = refl
@@ -146,7 +147,7 @@ rises m k text later valid e above =
     (subst (IsStrictlySortedBy text_cmp) e
     (lines_rise receipt_total distrust_total distrust_order record_first m valid))
 
--- The next record of a meaning is not refused where those before it are held.
+-- The next record of a meaning is not refused if those before it are held.
 welcome_record : (m k : Meaning) (x : Distrust) (later : List Distrust) (why : TakeError) → IsMeaning m
     → k.config ≡ m.config → m.records ≡ k.records ++ x ∷ later → RefusesEntry k (Record x) why → ⊥
 welcome_record m k x later UnknownDomain valid same more h =
@@ -154,6 +155,7 @@ welcome_record m k x later UnknownDomain valid same more h =
     (all_back (λ (y : Distrust). HasDomain m.config y.domain) k.records (x ∷ later)
     (subst (AllByRecursion (λ (y : Distrust). HasDomain m.config y.domain)) more valid.domains)).0)
 welcome_record m k x later WrongEndpoint valid same more h = h
+welcome_record m k x later BelowFloor valid same more h = h
 welcome_record m k x later Full valid same more h =
     let longer : length m.records ≡ length k.records + length (x ∷ later) = ap length more ∙ length-append k.records (x ∷ later) in
     let full = h.full in
@@ -167,13 +169,14 @@ fits_next : (m k : Meaning) (r : Receipt) (later : List Receipt) → IsMeaning m
 fits_next m k r later valid same more =
     subst (λ c. IsFitting c r) (sym same) (all_back (IsFitting m.config) k.held (r ∷ later) (subst (AllByRecursion (IsFitting m.config)) more valid.fitting)).0
 
--- The next receipt of a meaning is refused for lack of memory alone.
+-- The next receipt of a meaning is refused only for lack of memory.
 welcome_receipt : (m k : Meaning) (r : Receipt) (later : List Receipt) (why : TakeError) → IsConfiguration k.config
     → IsMeaning m → k.config ≡ m.config → m.held ≡ k.held ++ r ∷ later → why ≢ NoTakeMemory
     → RefusesEntry k (AReceipt r) why → ⊥
 welcome_receipt m k r later UnknownDomain is valid same more ample h = let fits = fits_next m k r later valid same more
     in h fits.relationship fits.has fits.domain
 welcome_receipt m k r later WrongEndpoint is valid same more ample h = fits_right k.config r is (fits_next m k r later valid same more) h
+welcome_receipt m k r later BelowFloor is valid same more ample h = fits_above k.config r (fits_next m k r later valid same more) h
 welcome_receipt m k r later Full is valid same more ample h =
     let longer : length m.held ≡ length k.held + length (r ∷ later) = ap length more ∙ length-append k.held (r ∷ later) in
     let full = h.full in
@@ -182,14 +185,14 @@ welcome_receipt m k r later Full is valid same more ample h =
 welcome_receipt m k r later NoTakeMemory is valid same more ample h = ample refl
 welcome_receipt m k r later OtherConfig is valid same more ample h = h
 
--- A record's line may stand in a format that has records.
+-- A record's line may be in a format that has records.
 wanted_record : (format : Format) (m : Meaning) (ys later : List Distrust) (x : Distrust) → FitsFormat format m
     → m.records ≡ ys ++ x ∷ later → IsDistrust x → IsWanted (wanted_of format) (Record x)
 wanted_record First m [] later x fits more is = absurd (cc)
 wanted_record First m (y ∷ ys) later x fits more is = absurd (cc)
 wanted_record Second m ys later x fits more is = is
 
--- A receipt's line may stand in each format.
+-- A receipt's line may be in each format.
 wanted_receipt : (format : Format) (r : Receipt) → IsReceipt r → IsWanted (wanted_of format) (AReceipt r)
 wanted_receipt First r is = is
 wanted_receipt Second r is = is
@@ -227,7 +230,7 @@ good_receipt format m k text later configured valid same e next =
       welcome = λ why ample. welcome_receipt m k next.it next.later why configured valid same next.more ample;
     }
 
--- A line that is held after all those of another meaning has no fault there.
+-- A line that is held after all those of another meaning has no error there.
 pub no_fault_of_held : (format : Format) (m k : Meaning) (text : List ℕ) (later : List (List ℕ)) (e : SyncError)
     → IsConfiguration k.config → IsMeaning m → IsMeaning k → FitsFormat format m → k.config ≡ m.config
     → held_lines m ≡ held_lines k ++ text ∷ later → e ≢ NoMemory → RefusesPlace format k text e → ⊥

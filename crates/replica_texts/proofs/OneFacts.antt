@@ -93,7 +93,7 @@ snapshot_lines format m =
 
 -- ---- the last line and the first
 
--- Where no item's text has a line feed, no line of the list has.
+-- If no item's text has a line feed, no line of the list has.
 pub feedless_all : {A : Type 0} (P : A → Type 0) (text : A → List ℕ) → ((a : A) → P a → Feedless (text a)) → (xs : List A)
     → AllByRecursion P xs → AllByRecursion Feedless (map text xs)
 feedless_all P text each [] h = tt

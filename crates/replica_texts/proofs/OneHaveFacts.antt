@@ -1,5 +1,4 @@
--- A stream begins with one have at most, and one that begins with a have has no fault
--- there.
+-- A stream begins with one have at most, and one that begins with a have has no error there.
 use Rattle.std.proofs.Common.{◌≡◌, ◌≢◌, ℕ, inl, inr, List, ◌++◌, Option, None, Some, refl, ap, ◌∙◌, subst, arith}
 use Rattle.std.specs.Io.KnownBytes.{Consumes}
 use Rattle.fed_config.specs.Configuration.{Configuration}
@@ -47,9 +46,9 @@ one-have bytes p q (Some left) (Some rest) is valid e f =
     let same = same-have bytes p q left rest is valid e f in
     (same.have, ap Some same.follows)
 
--- ---- no fault
+-- ---- no error
 
--- A fault of the first line is one of the line with which the stream begins.
+-- An error of the first line is one of the line with which the stream begins.
 pub first-cause : (refuses : List ℕ → SyncError → Type 0) (bytes text after : List ℕ) (new : Option (List ℕ))
     (e : SyncError) → HasNoFeed text → bytes ≡ ended text ++ after → HasBadFirstLine refuses (Some bytes) new e → RefusesFirstLine refuses text e
 first-cause refuses bytes text after new e plain is h =
@@ -60,7 +59,7 @@ pub no-other : (config : Option Configuration) (digest other : List ℕ) → Has
 no-other None digest other own e h = h
 no-other (Some config) digest other own e h = h (e ∙ own)
 
--- The line of a have of this configuration has no fault.
+-- The line of a have of this configuration has no error.
 no-bad-have : (config : Option Configuration) (q : HaveMessage) (e : SyncError) → IsAskable q → HasDigestOf config q.config → e ≢ NoMemory
     → RefusesFirstLine (RefusesHaveLine config) (any_have_text (as_any_have q)) e → ⊥
 no-bad-have config q e is own ample (inl long) = let more = long.1 in let short = is.short in omega (arith, more, short)
@@ -81,7 +80,7 @@ no-bad-have config q NoMemory is own ample (inr h) = ample refl
 
 module _ (config : Option Configuration) (bytes : List ℕ) (q : HaveMessage) (left : List ℕ) (is : IsAskable q)
     (own : HasDigestOf config q.config) (begins : bytes ≡ have_text q ++ left) where
-  -- A stream that begins with such a have has no fault of its first line.
+  -- A stream that begins with such a have has no error of its first line.
   bad-first : (new : Option (List ℕ)) (e : SyncError) → e ≢ NoMemory → HasBadFirstLine (RefusesHaveLine config) (Some bytes) new e → ⊥
   bad-first new e ample h =
       no-bad-have config q e is own ample
@@ -101,8 +100,7 @@ module _ (config : Option Configuration) (bytes : List ℕ) (q : HaveMessage) (l
   no-have-fault new Io calm ample h = calm refl
   no-have-fault new NoMemory calm ample h = ample refl
 
--- The clause `read` of the law on haves: a stream that begins with a have has no fault
--- there.
+-- The clause `read` of the law on haves: a stream that begins with a have has no error there.
 pub have-read : (config : Option Configuration) (bytes : List ℕ) (q : HaveMessage) (left new : Option (List ℕ))
     (e : SyncError) → IsAskable q → HasDigestOf config q.config → e ≢ Io → e ≢ NoMemory
     → Consumes (Some bytes) left (have_text q) → RefusesHave config (Some bytes) new e → ⊥

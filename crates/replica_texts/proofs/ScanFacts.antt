@@ -27,13 +27,13 @@ are_decimal_both (x ∷ xs) ys h k = (h.0, are_decimal_both xs ys h.1 k)
 digit-below : (d : ℕ) → d < 10 → is_ascii_digit (48 + d) ≡ true
 digit-below d h = grind (arith, nat_tests)
 
--- A decimal number has decimal digits alone.
+-- A decimal number has only decimal digits.
 pub each-decimal : (n : ℕ) → n < 2 ^ 64 → AreDecimal (decimal n)
 each-decimal =
     decimal_by_steps (λ n ds. AreDecimal ds) (λ n h. (digit-below n h, tt))
     (λ n ds h before. are_decimal_both ds ((48 + n % 10) ∷ []) before (digit-below (n % 10) (omega arith), tt))
 
--- A decimal number has decimal digits alone, in the words of the search.
+-- A decimal number has only decimal digits, as the search states it.
 pub digits-decimal : (n : ℕ) → n < 2 ^ 64 → AllPass is_ascii_digit (decimal n)
 digits-decimal n h = All-from_recursion (λ b. is_ascii_digit b ≡ true) (decimal n) (each-decimal n h)
 
@@ -41,15 +41,15 @@ digits-decimal n h = All-from_recursion (λ b. is_ascii_digit b ≡ true) (decim
 pub both-truths : (b : Bool) → b ≡ true → b ≡ false → ⊥
 both-truths b t f = let no : true ≡ false = sym t ∙ f in cc
 
--- Where all digits pass, the later ones do.
+-- If all digits pass, the later ones do.
 later-pass : (x : ℕ) (xs : List ℕ) → AllPass is_ascii_digit (x ∷ xs) → AllPass is_ascii_digit xs
 later-pass x xs pass k d below = pass (suc k) d (omega arith)
 
--- Where all digits pass, the first does.
+-- If all digits pass, the first does.
 first-pass : (x : ℕ) (xs : List ℕ) → AllPass is_ascii_digit (x ∷ xs) → is_ascii_digit x ≡ true
 first-pass x xs pass = pass 0 0 (omega arith)
 
--- the first byte that is no digit stands where the digits end
+-- the first byte that is not a digit is at the end of the digits
 pub stop-place : (digits : List ℕ) (stop : ℕ) (more : List ℕ) (place : ℕ) → AllPass is_ascii_digit digits
     → is_ascii_digit stop ≡ false → FirstFails is_ascii_digit (digits ++ (stop ∷ more)) place → place ≡ length digits
 stop-place [] stop more zero pass none first = refl
@@ -62,12 +62,12 @@ stop-place (x ∷ digits) stop more (suc place) pass none first =
       fails = first.fails;
     }))
 
--- Where something else than a digit follows, not all bytes are digits.
+-- If something else than a digit follows, not all bytes are digits.
 pub no-stop : (digits : List ℕ) (stop : ℕ) (more : List ℕ) → AllPass is_ascii_digit (digits ++ (stop ∷ more)) → is_ascii_digit stop ≡ false → ⊥
 no-stop [] stop more pass none = both-truths (is_ascii_digit stop) (first-pass stop more pass) none
 no-stop (x ∷ digits) stop more pass none = no-stop digits stop more (later-pass x (digits ++ (stop ∷ more)) pass) none
 
--- A text is cut where its digits end.
+-- A text is cut at the end of its digits.
 pub split-at-stop : (text digits : List ℕ) (stop : ℕ) (more : List ℕ) (place : ℕ) → AllPass is_ascii_digit digits
     → is_ascii_digit stop ≡ false → text ≡ digits ++ (stop ∷ more)
     → FirstFails is_ascii_digit text place → (take place text ≡ digits) × (drop place text ≡ stop ∷ more)

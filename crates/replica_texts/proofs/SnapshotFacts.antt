@@ -14,12 +14,12 @@ use Rattle.replica_core.specs.declared.error.SyncError.TheVariants.{Refused, Io,
 
 -- ---- what is consumed
 
--- Where nothing was read ahead, the stream is the source's.
+-- If nothing was read ahead, the stream is the source's.
 pub fresh : (known : Option (List ℕ)) (kept : List ℕ) → kept ≡ [] → prepend_known kept known ≡ known
 fresh None kept e = refl
 fresh (Some xs) kept e = ap (λ k. Some (k ++ xs)) e
 
--- Where both together are empty, the second is.
+-- If both together are empty, the second is.
 none_kept : (kept xs : List ℕ) → kept ++ xs ≡ [] → xs ≡ []
 none_kept [] xs e = e
 none_kept (b ∷ kept) xs e = absurd (cc)
@@ -36,7 +36,7 @@ consumes_both (Some xs) None c x y p q = absurd p
 consumes_both (Some xs) (Some ys) None x y p q = absurd q
 consumes_both (Some xs) (Some ys) (Some zs) x y p q = p ∙ ap (λ t. x ++ t) q ∙ sym (append_assoc x y zs)
 
--- where both were consumed, the one was first
+-- if both were consumed, the one was first
 pub record Split (a c : Option (List ℕ)) (x y : List ℕ) : Type 0 where
   pub middle : Option (List ℕ)
   pub first : Consumes a middle x
@@ -58,7 +58,7 @@ begun config format m a b c same first lines =
     consumes_both a b c (ended (header_line format m.config)) (text_of_lines (held_lines m))
     (subst (λ k. Consumes a b (ended (header_line format k))) (sym same) first) lines
 
--- A fault after lines of what is held is one after a good beginning.
+-- An error after lines of what is held is one after a good beginning.
 pub fault_after : (config : Configuration) (format : Format) (a b : Option (List ℕ)) (e : SyncError)
     → Consumes a b (ended (header_line format config)) → FailsAfter config b format e → HasFaultAfter config a e
 fault_after config format a b e first fails = record {
@@ -74,7 +74,7 @@ fault_after config format a b e first fails = record {
   cause = fails.cause;
 }
 
--- A fault after the last line is one after a good beginning.
+-- An error after the last line is one after a good beginning.
 after_all : (config : Configuration) (format : Format) (m : Meaning) (a b c : Option (List ℕ)) (number : ℕ)
     (e : SyncError) → Consumes a b (ended (header_line format config)) → HoldsAll config b format m c number
     → ((left : Option (List ℕ)) → Consumes left c (ended (count_line format m)) → RefusesNext format m left e) → HasFaultAfter config a e
@@ -93,7 +93,7 @@ after_all config format m a b c number e first all cause =
       cause = cause parts.middle parts.second;
     }
 
--- More after the last line is a fault after a good beginning.
+-- More after the last line is an error after a good beginning.
 pub fault_at_end : (config : Configuration) (format : Format) (m : Meaning) (a b c : Option (List ℕ)) (number : ℕ)
     (e : SyncError) → Consumes a b (ended (header_line format config)) → HoldsAll config b format m c number
     → RefusesEnd number c e → HasFaultAfter config a e

@@ -1,4 +1,5 @@
--- A stream that is no snapshot has one fault at most, but for a source that fails and for lack of memory.
+-- A stream that is not a snapshot has one error at most, but for a source that fails and for lack
+-- of memory.
 use Rattle.std.proofs.Common.{◌≡◌, ◌≢◌, ℕ, ◌+◌, ◌<◌, ◌⊎◌, inl, inr, List, [], ◌∷◌, ◌++◌, length}
 use Rattle.std.proofs.Common.{Option, None, Some, refl, ap, sym, ◌∙◌, subst, arith}
 use Rattle.std.proofs.lemmas.Bool.{cases_lt}
@@ -8,14 +9,15 @@ use Rattle.byte_lines.specs.Lines.{Lines, lines_of, HasLine, HasNoLine}
 use Rattle.byte_lines.proofs.StreamFacts.{lines_of-line, lines_of-rest}
 use Rattle.receipt_core.specs.Acceptance.{Meaning, IsMeaning}
 use Rattle.closure_core.specs.declared.error.TakeError.{TakeError}
-use Rattle.closure_core.specs.declared.error.TakeError.TheVariants.{UnknownDomain, WrongEndpoint, Full, NoMemory as NoTakeMemory, ConfigDiffers as OtherConfig}
+use Rattle.closure_core.specs.declared.error.TakeError.TheVariants.{UnknownDomain, WrongEndpoint, BelowFloor, Full, NoMemory as NoTakeMemory}
+use Rattle.closure_core.specs.declared.error.TakeError.TheVariants.{ConfigDiffers as OtherConfig}
 use Rattle.replica_core.specs.Absorbing.{RefusesEntry}
 use Rattle.replica_core.specs.declared.entry.Entry.{Entry}
 use Rattle.replica_core.specs.declared.entry.Entry.TheVariants.{Record, Receipt as AReceipt}
 use Rattle.replica_core.specs.declared.error.SyncError.{SyncError}
 use Rattle.replica_core.specs.declared.error.SyncError.TheVariants.{BadHeader, ConfigDiffers, VersionDiffers, NotCanonical, NotRising, BadCount, Truncated}
 use Rattle.replica_core.specs.declared.error.SyncError.TheVariants.{Refused, Io, NoMemory}
-use Rattle.replica_core.proofs.FitFacts.{fits_right}
+use Rattle.closure_core.proofs.FitFacts.{fits_right, fits_above, low_right}
 use Rattle.replica_texts.specs.Entries.{RefusesEntryLine, placed_line}
 use Rattle.replica_texts.specs.Snapshots.{Begins, HasBadFirst, HasBadLine, HasFaultAfter, HasMoreAfter, FitsFormat, RefusesFirst, RefusesHeader, RefusesNext}
 use Rattle.replica_texts.specs.Snapshots.{RefusesPlace, RefusesSnapshot, count_line, digits_of, ended, header_line, held_lines, last_line, next_number}
@@ -32,7 +34,7 @@ use Rattle.replica_texts.proofs.OneFacts.{feedless_held, held_back, lines_back}
 
 -- ---- the first line
 
--- A first line has one fault at most.
+-- A first line has one error at most.
 one-header-fault : (config : Configuration) (text : List ℕ) (d e : SyncError) → RefusesHeader config text d → RefusesHeader config text e → d ≡ e
 one-header-fault config text BadHeader BadHeader p q = refl
 one-header-fault config text BadHeader ConfigDiffers p q = absurd (p q.digits q.version q.is)
@@ -50,14 +52,14 @@ one-header-fault config text ConfigDiffers e p q = absurd q
 one-header-fault config text VersionDiffers e p q = absurd q
 one-header-fault config text d e p q = absurd p
 
--- A line that is too long has no other fault of a first line.
+-- A line that is too long has no other error of a first line.
 long-header : (config : Configuration) (text : List ℕ) (e : SyncError) → 8388608 < length text → RefusesHeader config text e → BadHeader ≡ e
 long-header config text BadHeader long h = refl
 long-header config text ConfigDiffers long h = let short = short_header text h.digits h.version h.is in absurd (omega (arith, long, short))
 long-header config text VersionDiffers long h = let short = short_header text (digits_of config) h.version h.is in absurd (omega (arith, long, short))
 long-header config text e long h = absurd h
 
--- the line is too long, or has this fault
+-- the line is too long, or has this error
 abbrev HeaderCause : Configuration → List ℕ → SyncError → Type 0
 HeaderCause config text e = ((e ≡ BadHeader) × (8388608 < length text)) ⊎ RefusesHeader config text e
 
@@ -68,7 +70,7 @@ one-header-cause config text d e (inl p) (inr q) = p.0 ∙ long-header config te
 one-header-cause config text d e (inr p) (inl q) = sym (q.0 ∙ long-header config text d q.1 p)
 one-header-cause config text d e (inr p) (inr q) = one-header-fault config text d e p q
 
--- The first line has the fault, or there is no line.
+-- The first line has the error, or there is no line.
 abbrev FailsFirstly : Configuration → List ℕ → SyncError → Type 0
 FailsFirstly config bytes e = HasBadFirst config (Some bytes) e ⊎ ((e ≡ Truncated) × HasNoLine (Some bytes))
 
@@ -82,7 +84,7 @@ at-first config bytes Io calm ample h = absurd (calm refl)
 at-first config bytes NoMemory calm ample h = absurd (ample refl)
 at-first config bytes e calm ample h = absurd h
 
--- A stream has one fault of its first line at most.
+-- A stream has one error of its first line at most.
 one-first-cause : (config : Configuration) (bytes : List ℕ) (d e : SyncError) → FailsFirstly config bytes d → FailsFirstly config bytes e → d ≡ e
 one-first-cause config bytes d e (inl h) (inl k) =
     let same = one-first-line bytes k.text h.text k.after h.after k.is h.is in
@@ -107,22 +109,29 @@ one-refusal m (Record x) Full w is l k p q = absurd q
 one-refusal m (Record x) v w is l k p q = absurd p
 one-refusal m (AReceipt r) UnknownDomain UnknownDomain is l k p q = refl
 one-refusal m (AReceipt r) UnknownDomain WrongEndpoint is l k p q = absurd (p q.relationship q.has q.domain)
+one-refusal m (AReceipt r) UnknownDomain BelowFloor is l k p q = absurd (p q.relationship q.has q.domain)
 one-refusal m (AReceipt r) UnknownDomain Full is l k p q = absurd (p q.fits.relationship q.fits.has q.fits.domain)
 one-refusal m (AReceipt r) WrongEndpoint UnknownDomain is l k p q = absurd (q p.relationship p.has p.domain)
 one-refusal m (AReceipt r) WrongEndpoint WrongEndpoint is l k p q = refl
+one-refusal m (AReceipt r) WrongEndpoint BelowFloor is l k p q = absurd (low_right m.config r is q p)
 one-refusal m (AReceipt r) WrongEndpoint Full is l k p q = absurd (fits_right m.config r is q.fits p)
+one-refusal m (AReceipt r) BelowFloor UnknownDomain is l k p q = absurd (q p.relationship p.has p.domain)
+one-refusal m (AReceipt r) BelowFloor WrongEndpoint is l k p q = absurd (low_right m.config r is p q)
+one-refusal m (AReceipt r) BelowFloor BelowFloor is l k p q = refl
+one-refusal m (AReceipt r) BelowFloor Full is l k p q = absurd (fits_above m.config r q.fits p)
 one-refusal m (AReceipt r) Full UnknownDomain is l k p q = absurd (q p.fits.relationship p.fits.has p.fits.domain)
 one-refusal m (AReceipt r) Full WrongEndpoint is l k p q = absurd (fits_right m.config r is p.fits q)
+one-refusal m (AReceipt r) Full BelowFloor is l k p q = absurd (fits_above m.config r p.fits q)
 one-refusal m (AReceipt r) Full Full is l k p q = refl
 one-refusal m (AReceipt r) v OtherConfig is l k p q = absurd q
 one-refusal m (AReceipt r) OtherConfig w is l k p q = absurd p
 
 module _ (format : Format) (m : Meaning) (is : IsConfiguration m.config) (text : List ℕ) where
-  -- what is wrong with the line, where it does not begin as the last one
+  -- what is wrong with the line, if it does not begin as the last one
   abbrev LineCause : SyncError → Type 0
   LineCause e = RefusesEntryLine m (placed_line (wanted_of format) (last_line m) (next_number m) text) e
 
-  -- A line has one such fault at most.
+  -- A line has one such error at most.
   one-line-cause : (d e : SyncError) → d ≢ NoMemory → e ≢ NoMemory → LineCause d → LineCause e → d ≡ e
   one-line-cause (NotCanonical n) (NotCanonical k) l j p q = ap NotCanonical (p.0 ∙ sym q.0)
   one-line-cause (NotCanonical n) (NotRising k) l j p q = absurd (no-entry-here (wanted_of format) text p.1 q.1.entry q.1.is)
@@ -172,7 +181,7 @@ module _ (format : Format) (m : Meaning) (is : IsConfiguration m.config) (text :
 
 -- ---- what follows a good beginning
 
--- The next line has the fault, more follows a right last line, or there is no line.
+-- The next line has the error, more follows a right last line, or there is no line.
 data NextCause (format : Format) (m : Meaning) (left : List ℕ) (e : SyncError) : Type 0 where
   bad : HasBadLine format m (Some left) e → NextCause format m left e
   more : e ≡ NotCanonical (next_number m + 1) → HasMoreAfter format m (Some left) → NextCause format m left e
@@ -196,14 +205,14 @@ count-line-next : (format : Format) (m : Meaning) (left : List ℕ) → IsMeanin
     → HasLine (Some left) h.after (count_line format m)
 count-line-next format m left valid h = (plain_count format m valid, h.is)
 
--- Nothing is wrong with a line where the last one is right.
+-- Nothing is wrong with a line at the place of a right last one.
 right-count : (format : Format) (m : Meaning) (left : List ℕ) (e : SyncError) → IsMeaning m → e ≢ NoMemory
     → HasBadLine format m (Some left) e → HasMoreAfter format m (Some left) → ⊥
 right-count format m left e valid ample h k =
     no_fault_of_count format m h.text e valid
     (one-first-line left h.text (count_line format m) h.after k.after h.is (count-line-next format m left valid k)) ample h.cause
 
--- After one good beginning stands one fault at most.
+-- After one good beginning there is one error at most.
 one-next-cause : (format : Format) (m : Meaning) (left : List ℕ) (d e : SyncError) → IsConfiguration m.config → IsMeaning m
     → d ≢ NoMemory → e ≢ NoMemory → NextCause format m left d → NextCause format m left e → d ≡ e
 one-next-cause format m left d e is valid l j (bad h) (bad k) =
@@ -254,7 +263,7 @@ line-is left text other follows (Some after) is e =
     let heads : text ∷ (lines_of after).whole ≡ other ∷ follows = sym (ap (λ (l : Lines). l.whole) (ap lines_of is.1 ∙ lines_of-line text after is.0)) ∙ e in
     cc
 
--- After the shorter of the two stands no fault.
+-- After the shorter of the two there is no error.
 shorter-fine : (format : Format) (m k : Meaning) (left rest : List ℕ) (e : SyncError) → AreOfOne format m k left rest
     → length (held_lines m) < length (held_lines k) → e ≢ NoMemory → NextCause format m left e → ⊥
 shorter-fine format m k left rest e one less ample cause =
@@ -290,7 +299,7 @@ alike format m k left rest one size =
           (ap (λ (ls : List (List ℕ)). text_of_lines ls ++ left) (sym lines.0) ∙ one.follows);
     }
 
--- After two good beginnings of one stream stands one fault at most.
+-- After two good beginnings of one stream there is one error at most.
 one-after : (format : Format) (m k : Meaning) (left rest : List ℕ) (d e : SyncError) → AreOfOne format m k left rest
     → d ≢ NoMemory → e ≢ NoMemory → NextCause format m left d → NextCause format k rest e → d ≡ e
 one-after format m k left rest d e one l j p q =
@@ -341,7 +350,7 @@ of-one config bytes f g m k left rest is b j =
       };
     }
 
--- Two faults after the first line are one.
+-- Two errors after the first line are one.
 two-after : (config : Configuration) (bytes : List ℕ) (d e : SyncError) → IsConfiguration config → d ≢ Io → d ≢ NoMemory → e ≢ Io → e ≢ NoMemory
     → HasFaultAfter config (Some bytes) d → HasFaultAfter config (Some bytes) e → d ≡ e
 two-after config bytes d e is c l n j h k = by-rests h.left k.left h.begins k.begins h.cause k.cause
@@ -355,7 +364,7 @@ two-after config bytes d e is c l n j h k = by-rests h.left k.left h.begins k.be
         one-after k.format h.m k.m left rest d e both.one l j
         (subst (λ (x : Format). NextCause x h.m left d) both.formats (at-next h.format h.m left d c l p)) (at-next k.format k.m rest e n j q)
 
--- A refused first line leaves no fault after it.
+-- A refused first line leaves no error after it.
 first-or-after : (config : Configuration) (bytes : List ℕ) (d e : SyncError) → d ≢ Io → d ≢ NoMemory → RefusesFirst config (Some bytes) d
     → HasFaultAfter config (Some bytes) e → ⊥
 first-or-after config bytes d e calm ample first h = by-rest h.left h.begins

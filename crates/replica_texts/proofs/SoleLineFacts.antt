@@ -1,4 +1,4 @@
--- A line that stands alone is one after no other line.
+-- A single line is one after no other line.
 use Rattle.std.proofs.Common.{◌≢◌, ℕ, List, [], inl, inr, refl, sym, subst}
 use Rattle.std.proofs.lemmas.List.Elements.{All-from_recursion}
 use Rattle.fed_config.specs.Configuration.{Configuration}
@@ -20,22 +20,22 @@ use Rattle.replica_texts.specs.SoleLines.{HasRefusedSoleLine, IsRefusedEntry, Is
 use Rattle.replica_texts.proofs.FeedFacts.{feedless_line, feedless_record}
 use Rattle.replica_texts.proofs.DigestFacts.{feedless_first}
 
--- Each line is above the empty text, which stands for no line before.
+-- Each line is above the empty text, which means that no line came before.
 above_none : (entry : Entry) → IsAbove [] (entry_line entry)
 unfolding line distrust_line
 above_none (Record x) = refl
 above_none (AReceipt r) = refl
 
--- What is taken after no line is taken alone.
+-- What is taken after no line is taken as a single line.
 pub sole_taken : (old : Meaning) (text : List ℕ) (new : Meaning) (count : ℕ) → TakesEntryText Either old [] text new count
     → TakesSoleLine old text new count
 sole_taken old text new count t = record { entry = t.entry; is = t.next.is; meaning = t.taken.meaning; more = t.taken.more }
 
--- What is refused after no line is refused alone.
+-- What is refused after no line is refused as a single line.
 refused_alone : (m : Meaning) (text : List ℕ) (why : TakeError) → IsRefused Either m [] text why → IsRefusedEntry m text why
 refused_alone m text why h = record { entry = h.entry; is = h.next.is; cause = h.cause }
 
--- The causes are those of a line alone; the first of all lines rises.
+-- The causes are those of a single line; the first of all lines is above the one before.
 sole_cause : (m : Meaning) (number : ℕ) (text : List ℕ) (e : SyncError) → RefusesEntryLine m (placed_line Either [] number text) e
     → RefusesSoleLine m number text e
 sole_cause m number text BadHeader h = h
@@ -50,7 +50,7 @@ sole_cause m number text (Refused n why) h = (h.0, h.1, refused_alone m text why
 sole_cause m number text Io h = h
 sole_cause m number text NoMemory h = elim h [ inl short ↦ inl short | inr refused ↦ inr (refused_alone m text _ refused) ]
 
--- A refusal after no line is one of a line alone.
+-- A refusal after no line is one of a single line.
 pub sole_refused : (old : Meaning) (number : ℕ) (text : List ℕ) (new : Meaning) (e : SyncError) → HasRefusedLine Either old [] number text new e
     → HasRefusedSoleLine old (record { number = number; text = text }) new e
 sole_refused old number text new e h = record { cause = sole_cause old number text e h.cause; same = h.same }

@@ -33,16 +33,16 @@ module _ (both : (old between new : Option (List ℕ)) (first second : List ℕ)
       subst (AppendsBeginning old new) (sym (w.parts ∙ ap (λ t. w.done ++ t) e))
       (in_second old now new w.done (piece ++ rest) w.appended (in_first now new piece rest p))
 
-  -- Of a text of four pieces, the first and a beginning of the second are a beginning.
+  -- The first of four pieces and a beginning of the second are a beginning of the whole.
   pub in_records : (a b c : Option (List ℕ)) (h r t k : List ℕ) → Appends a b h → AppendsBeginning b c r → AppendsBeginning a c (h ++ (r ++ (t ++ k)))
   in_records a b c h r t k p q = in_second a b c h (r ++ (t ++ k)) p (in_first b c r (t ++ k) q)
 
-  -- Of a text of four pieces, two and a beginning of the third are a beginning.
+  -- Two of four pieces and a beginning of the third are a beginning of the whole.
   pub in_receipts : (a b c d : Option (List ℕ)) (h r t k : List ℕ) → Appends a b h → Appends b c r
       → AppendsBeginning c d t → AppendsBeginning a d (h ++ (r ++ (t ++ k)))
   in_receipts a b c d h r t k p q s = in_second a b d h (r ++ (t ++ k)) p (in_second b c d r (t ++ k) q (in_first c d t k s))
 
-  -- Of a text of four pieces, three and a beginning of the last are a beginning.
+  -- Three of four pieces and a beginning of the last are a beginning of the whole.
   pub in_count : (a b c d e : Option (List ℕ)) (h r t k : List ℕ) → Appends a b h → Appends b c r → Appends c d t
       → AppendsBeginning d e k → AppendsBeginning a e (h ++ (r ++ (t ++ k)))
   in_count a b c d e h r t k p q s u = in_second a b e h (r ++ (t ++ k)) p (in_second b c e r (t ++ k) q (in_second c d e t k s u))
@@ -52,7 +52,7 @@ module _ (both : (old between new : Option (List ℕ)) (first second : List ℕ)
       → Appends d e k → Appends a e (h ++ (r ++ (t ++ k)))
   four a b c d e h r t k p q s u = both a b e h (r ++ (t ++ k)) p (both b c e r (t ++ k) q (both c d e t k s u))
 
--- Where a part was written, a beginning of the whole was.
+-- If a part was written, a beginning of the whole was.
 pub begun_before : (in_second : (old between new : Option (List ℕ)) (first second : List ℕ) → Appends old between first
     → AppendsBeginning between new second → AppendsBeginning old new (first ++ second))
     (nothing : (now : Option (List ℕ)) (text : List ℕ)
@@ -61,11 +61,11 @@ pub begun_before : (in_second : (old between new : Option (List ℕ)) (first sec
 begun_before in_second nothing old now rest whole w =
     subst (AppendsBeginning old now) (sym w.parts) (in_second old now now w.done rest w.appended (nothing now rest))
 
--- Where nothing was written, it is a beginning of each text.
+-- If nothing was written, it is a beginning of each text.
 pub nothing : (none : (old : Option (List ℕ)) → Appends old old []) (now : Option (List ℕ)) (text : List ℕ) → AppendsBeginning now now text
 nothing none now text = (0, none now)
 
--- Where nothing is left, all was written.
+-- If nothing is left, all was written.
 pub finished : (old now : Option (List ℕ)) (rest whole : List ℕ) → rest ≡ [] → WrittenSoFar old now rest whole → Appends old now whole
 finished old now rest whole e w = subst (Appends old now) (sym (w.parts ∙ ap (λ t. w.done ++ t) e ∙ append-nil w.done)) w.appended
 

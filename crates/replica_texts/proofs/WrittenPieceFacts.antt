@@ -9,7 +9,7 @@ use Rattle.byte_lines.specs.Device.{AppendsBeginning}
 use Rattle.replica_core.specs.declared.error.SyncError.{SyncError}
 use Rattle.replica_texts.specs.Messages.{WritesText}
 
--- Where nothing was written, the empty text was.
+-- If nothing was written, the empty text was.
 pub nothing-appended : (a : Option (List ℕ)) → Appends a a []
 nothing-appended None = tt
 nothing-appended (Some xs) = sym (append-nil xs)
@@ -25,7 +25,7 @@ pub begins-second : (a b c : Option (List ℕ)) (first second : List ℕ) → Ap
 begins-second a b c first second before (count, appended) =
     (length first + count, subst (Appends a c) (sym (take-append-add first second count)) (Appends-trans a b c first _ before appended))
 
--- Of a text so much was written, and the rest is still to come.
+-- A beginning of the text was written, and the rest is still to come.
 pub record Wrote (old now : Option (List ℕ)) (text rest : List ℕ) : Type 0 where
   pub pieces : List ℕ
   pub appended : Appends old now pieces
@@ -47,7 +47,7 @@ wrote-begun old now new text rest piece later w e a =
     subst (AppendsBeginning old new) (sym (w.whole ∙ ap (λ t. w.pieces ++ t) e))
     (begins-second old now new w.pieces (piece ++ later) w.appended (begins-first now new piece later a))
 
--- At a fault a beginning of the text was written.
+-- At an error a beginning of the text was written.
 pub writes-err : (old new : Option (List ℕ)) (r : Result (Unit {0}) SyncError) (text : List ℕ) → IsErr r
     → AppendsBeginning old new text → WritesText old new r text
 writes-err old new (Ok done) text e begun = absurd (let f : false ≡ true = e in cc)

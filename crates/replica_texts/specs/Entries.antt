@@ -1,5 +1,5 @@
 -- The lines of receipts and records of distrust, as they follow one another in snapshots and
--- answers: which may stand at a place, what they say, and the faults of one line.
+-- answers: which may be at a place, what they say, and the errors of one line.
 use Rattle.std.specs.Prelude.{◌≡◌, ◌≢◌, ℕ, ◌<◌, ◌≤◌, ◌⊎◌, List, length}
 use Rattle.std.specs.declared.cmp.Ordering.TheVariants.{Less}
 use Rattle.std.specs.Ordering.{nat_cmp}
@@ -26,7 +26,7 @@ abbrev pub entry_line : Entry → List ℕ
 entry_line (Record x) = distrust_line x
 entry_line (AReceipt r) = line r
 
--- It is a receipt or a record, and of a kind that may stand there.
+-- It is a receipt or a record, and of a kind that may be there.
 abbrev pub IsWanted : Wanted → Entry → Type 0
 IsWanted Records (Record x) = IsDistrust x
 IsWanted Receipts (AReceipt r) = IsReceipt r
@@ -42,7 +42,8 @@ pub record IsEntry (wanted : Wanted) (text : List ℕ) (entry : Entry) : Type 0 
 abbrev pub IsNoEntry : Wanted → List ℕ → Type 0
 IsNoEntry wanted text = (entry : Entry) → IsEntry wanted text entry → ⊥
 
--- the text is greater, byte by byte, than the line before it; the empty text stands for none
+-- the text is greater, byte by byte, than the line before it; the empty text means that there was
+-- none
 abbrev pub IsAbove : List ℕ → List ℕ → Type 0
 IsAbove last text = slice_cmp nat_cmp last text ≡ Less
 
@@ -50,13 +51,13 @@ pub record IsNextEntry (wanted : Wanted) (last text : List ℕ) (entry : Entry) 
   pub is : IsEntry wanted text entry
   pub above : IsAbove last text
 
--- ---- the faults of one line
+-- ---- the errors of one line
 
--- The line is too long, or none that may stand there.
+-- The line is too long, or none that may be there.
 abbrev pub IsNoLineOf : Wanted → List ℕ → Type 0
 IsNoLineOf wanted text = (line_limit < length text) ⊎ IsNoEntry wanted text
 
--- It is one that may stand there, and not greater than the line before.
+-- It is one that may be there, and not greater than the line before.
 pub record IsNotAbove (wanted : Wanted) (last text : List ℕ) : Type 0 where
   pub entry : Entry
   pub is : IsEntry wanted text entry
@@ -69,7 +70,7 @@ pub record IsRefused (wanted : Wanted) (m : Meaning) (last text : List ℕ)
   pub next : IsNextEntry wanted last text entry
   pub cause : RefusesEntry m entry why
 
--- a line at its place: what may stand there, the line before it, its number, and its text
+-- a line at its place: what may be there, the line before it, its number, and its text
 pub record PlacedLine : Type 0 where
   pub wanted : Wanted
   pub last : List ℕ
@@ -80,7 +81,7 @@ abbrev pub placed_line : Wanted → List ℕ → ℕ → List ℕ → PlacedLine
 placed_line wanted last number text =
     record { wanted = wanted; last = last; number = number; text = text }
 
--- what is wrong with the text alone
+-- what is wrong with the text itself
 abbrev pub RefusesEntryText : PlacedLine → SyncError → Type 0
 RefusesEntryText line (NotCanonical n) = (n ≡ line.number) × IsNoLineOf line.wanted line.text
 RefusesEntryText line (NotRising n) = (n ≡ line.number)
@@ -88,7 +89,7 @@ RefusesEntryText line (NotRising n) = (n ≡ line.number)
 RefusesEntryText line NoMemory = length line.text ≤ receipt_line_limit
 RefusesEntryText line _ = ⊥
 
--- The faults of a line, where the closure means m: the first of these that holds.
+-- The errors of a line, if the closure means m: the first of these that holds.
 abbrev pub RefusesEntryLine : Meaning → PlacedLine → SyncError → Type 0
 RefusesEntryLine m line (NotCanonical n) = (n ≡ line.number) × IsNoLineOf line.wanted line.text
 RefusesEntryLine m line (NotRising n) = (n ≡ line.number)

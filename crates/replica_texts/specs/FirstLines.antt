@@ -1,4 +1,4 @@
--- The first lines of messages, and what is wrong with those that are none.
+-- The first lines of messages, and why a line is not one.
 use Rattle.std.specs.Prelude.{◌≡◌, ◌≢◌, ℕ, ◌<◌, ◌≤◌, ◌^◌, ◌⊎◌, List, length, ⊤, Option, Some, None}
 use Rattle.std.specs.List.{AllByRecursion}
 use Rattle.fed_config.specs.Configuration.{Configuration, config_id_of}
@@ -16,19 +16,19 @@ use Rattle.byte_lines.specs.Limits.{line_limit}
 abbrev pub IsSupportedVersion : ℕ → ℕ → Type 0
 IsSupportedVersion format buckets = (format ≡ 2) × (buckets ≡ 256)
 
--- where a configuration is known, the digest is its
+-- if a configuration is known, the digest is its
 abbrev pub HasDigestOf : Option Configuration → List ℕ → Type 0
 HasDigestOf None digest = ⊤
 HasDigestOf (Some config) digest = digest ≡ config_id_of config
 
--- where a configuration is known, the digest is another one's
+-- if a configuration is known, the digest is another one's
 abbrev pub HasOtherDigest : Option Configuration → List ℕ → Type 0
 HasOtherDigest None digest = ⊥
 HasOtherDigest (Some config) digest = digest ≢ config_id_of config
 
 -- ---- haves
 
--- The bucket is one of so many, the numbers have 64 bits, digests 32 bytes, and the ids rise.
+-- The bucket is one of this many, the numbers have 64 bits, digests 32 bytes, and the ids rise.
 pub record IsAnyHave (a : AnyHave) : Type 0 where
   pub bucket : a.have.bucket < a.buckets
   pub format : a.format < 2 ^ 64
@@ -55,7 +55,7 @@ pub record IsHaveOfOtherVersion (config : Option Configuration) (text : List ℕ
   pub own : HasDigestOf config asked.have.config
   pub unsupported : IsSupportedVersion asked.format asked.buckets → ⊥
 
--- what is wrong with the line where a have's is wanted
+-- what is wrong with the line if a have's is wanted
 abbrev pub RefusesHaveLine : Option Configuration → List ℕ → SyncError → Type 0
 RefusesHaveLine config text BadHeader = (asked : AnyHave) → IsAnyHaveLine text asked → ⊥
 RefusesHaveLine config text ConfigDiffers = IsHaveOfOther config text
@@ -83,7 +83,7 @@ abbrev pub IsRecordCount : ℕ → Option ℕ → Type 0
 IsRecordCount format None = format ≡ 1
 IsRecordCount format (Some number) = number < 2 ^ 64
 
--- The bucket is one of so many, the numbers have 64 bits, and the digest 32 bytes.
+-- The bucket is one of this many, the numbers have 64 bits, and the digest 32 bytes.
 pub record IsGiveHeader (t : GiveHeader) : Type 0 where
   pub bucket : t.bucket < t.buckets
   pub count : t.count < 2 ^ 64
@@ -116,7 +116,7 @@ pub record IsUnsupportedHeader (expected : Option Expected) (text : List ℕ) : 
   pub own : HasDigestOf (config_of expected) header.config
   pub unsupported : IsSupportedVersion header.format header.buckets → ⊥
 
--- what is wrong with the line where an answer's first is wanted
+-- what is wrong with the line if an answer's first line is wanted
 abbrev pub RefusesGiveLine : Option Expected → List ℕ → SyncError → Type 0
 RefusesGiveLine expected text BadHeader = (header : GiveHeader)
     → IsWantedHeader expected text header → ⊥
@@ -127,12 +127,12 @@ RefusesGiveLine expected text _ = ⊥
 
 -- ---- in a stream
 
--- The line is too long, so it is none of a message, or else it has this fault.
+-- The line is too long, so it is not a line of a message, or else it has this error.
 abbrev pub RefusesFirstLine : (List ℕ → SyncError → Type 0) → List ℕ → SyncError → Type 0
 RefusesFirstLine refuses text e = ((e ≡ BadHeader) × (line_limit < length text))
     ⊎ ((length text ≤ line_limit) × refuses text e)
 
--- The stream's first line has this fault. It is used up.
+-- The stream's first line has this error. It is used up.
 pub record HasBadFirstLine (refuses : List ℕ → SyncError → Type 0) (old new : Option (List ℕ))
     (e : SyncError) : Type 0 where
   pub text : List ℕ

@@ -29,7 +29,7 @@ abbrev pub content_lines : State → List (List ℕ)
 content_lines content = map distrust_line content.records ++ map line content.held
 
 -- It is a first line that is read: about the bucket that is wanted, of this configuration, in the
--- one format that is supported, with so many receipts and records.
+-- one format that is supported, with this many receipts and records.
 pub record Heads (expected : Option Expected) (text : List ℕ) (count distrusts : ℕ) : Type 0 where
   pub header : GiveHeader
   pub wanted : IsWantedHeader expected text header
@@ -50,7 +50,8 @@ pub record IsGive (give : GiveMessage) : Type 0 where
   pub valid : IsContent give.content
   pub rising : IsStrictlySortedBy (slice_cmp nat_cmp) (content_lines give.content)
 
--- So much of an answer with so many receipts and records: first its records, then its receipts.
+-- A beginning of an answer with `count` receipts and `distrusts` records: first its records, then
+-- its receipts.
 pub record IsBegun (count distrusts : ℕ) (content : State) : Type 0 where
   pub valid : IsContent content
   pub records : length content.records ≤ distrusts
@@ -58,7 +59,7 @@ pub record IsBegun (count distrusts : ℕ) (content : State) : Type 0 where
   pub order : length content.records < distrusts → content.held ≡ []
   pub rising : IsStrictlySortedBy (slice_cmp nat_cmp) (content_lines content)
 
--- The stream begins with a first line that is read, and so much of the answer; `left` is what
+-- The stream begins with a first line that is read, and this much of the answer; `left` is what
 -- follows.
 pub record GiveBegins (expected : Option Expected) (stream : Option (List ℕ))
     (count distrusts : ℕ) (content : State) (left : Option (List ℕ)) : Type 0 where
@@ -67,18 +68,18 @@ pub record GiveBegins (expected : Option Expected) (stream : Option (List ℕ))
   pub begun : IsBegun count distrusts content
   pub text : Consumes stream left (ended first ++ text_of_lines (content_lines content))
 
--- which line is wanted after so much of an answer that is not whole
+-- which line is wanted after this much of an answer that is not whole
 abbrev pub Wants : ℕ → ℕ → State → Wanted → Type 0
 Wants count distrusts content Records = length content.records < distrusts
 Wants count distrusts content Receipts = (length content.records ≡ distrusts)
     × (length content.held < count)
 Wants count distrusts content Either = ⊥
 
--- the number of the next line, where the answer's first has the number
+-- the number of the next line, if this is the number of the answer's first line
 abbrev pub next_entry_number : ℕ → State → ℕ
 next_entry_number first content = first + 1 + length content.records + length content.held
 
--- The next line has a fault. It is used up.
+-- The next line has an error. It is used up.
 pub record HasBadNext (refuses : Wanted → List ℕ → List ℕ → SyncError → Type 0)
     (count distrusts : ℕ) (content : State) (left after : Option (List ℕ))
     (e : SyncError) : Type 0 where
@@ -94,7 +95,7 @@ pub record HasNoNext (count distrusts : ℕ) (content : State) (left : Option (L
   pub wants : Wants count distrusts content wanted
   pub ends : HasNoLine left
 
--- why the line that is wanted after so much of an answer is not read
+-- why the line that is wanted after this much of an answer is not read
 abbrev pub RefusesNextEntry : (Wanted → List ℕ → List ℕ → SyncError → Type 0) → ℕ → ℕ → State
     → Option (List ℕ) → Option (List ℕ) → SyncError → Type 0
 RefusesNextEntry refuses count distrusts content left after (NotCanonical n) = HasBadNext refuses
@@ -109,7 +110,7 @@ RefusesNextEntry refuses count distrusts content left after Io = Unit {0}
 RefusesNextEntry refuses count distrusts content left after NoMemory = Unit {0}
 RefusesNextEntry refuses count distrusts content left after _ = ⊥
 
--- why no first line is read, where one should begin
+-- why no first line is read where one should begin
 abbrev pub RefusesHead : Option Expected → Option (List ℕ) → Option (List ℕ) → SyncError → Type 0
 RefusesHead expected old new BadHeader = HasBadFirstLine (RefusesGiveLine expected) old new
     BadHeader
@@ -122,14 +123,14 @@ RefusesHead expected old new Io = Unit {0}
 RefusesHead expected old new NoMemory = Unit {0}
 RefusesHead expected old new _ = ⊥
 
--- ---- one answer alone
+-- ---- a single answer
 
--- what is wrong with a line where nothing is held yet
+-- what is wrong with a line when nothing is held yet
 abbrev pub refused_text : State → Wanted → List ℕ → List ℕ → SyncError → Type 0
 refused_text content wanted last text e = RefusesEntryText
     (placed_line wanted last (next_entry_number 1 content) text) e
 
--- A good beginning, and after it this fault.
+-- A good beginning, and after it this error.
 pub record GiveFailsAfter (old new : Option (List ℕ)) (e : SyncError) : Type 0 where
   pub count : ℕ
   pub distrusts : ℕ

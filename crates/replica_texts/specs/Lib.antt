@@ -1,5 +1,5 @@
--- What a caller cites stands in the first nine; `Inside` has what the records of the code say, and
--- the steps of reading and writing.
+-- What a caller cites is in the first nine; `Inside` has what the records of the code say, and the
+-- steps of reading and writing.
 pub mod Entries
 pub mod Snapshots
 pub mod WrittenSnapshot

@@ -80,7 +80,7 @@ abbrev pub give_text : GiveMessage → List ℕ
 give_text r = ended (give_header_text (give_header_of r))
     ++ (flat_map record_text r.content.records ++ flat_map receipt_text r.content.held)
 
--- exactly the text was written; at a fault a beginning of it
+-- exactly the text was written; at an error a beginning of it
 abbrev pub WritesText : {E : Type 0} → Option (List ℕ) → Option (List ℕ) → Result (Unit {0}) E
     → List ℕ → Type 0
 WritesText old new result text = MatchResult result (λ done. Appends old new text)

@@ -1,4 +1,4 @@
--- Snapshots: the text of what a replica holds, and what is wrong with a stream that is none.
+-- Snapshots: the text of what a replica holds, and why a stream is not a snapshot.
 use Rattle.std.specs.Prelude.{◌≡◌, ℕ, ◌+◌, ◌^◌, ◌<◌, ◌≤◌, ◌⊎◌, ◌++◌, ◌||◌, Bool, true, false, List}
 use Rattle.std.specs.Prelude.{[], ◌∷◌, length, map, flat_map, fold, codes, decimal, Option, IfSome}
 use Rattle.std.specs.Prelude.{Result, Err, nat_le, ◌&&◌}
@@ -124,7 +124,7 @@ pub record IsOfOther (config : Configuration) (text : List ℕ) : Type 0 where
   pub is : IsHeader text digits version
   pub other : digits ≡ digits_of config → ⊥
 
--- It is one of this configuration, with a number that is no format's.
+-- It is one of this configuration, with the number of no supported format.
 pub record IsOfOtherFormat (config : Configuration) (text : List ℕ) : Type 0 where
   pub version : ℕ
   pub is : IsHeader text (digits_of config) version
@@ -136,7 +136,7 @@ RefusesHeader config text ConfigDiffers = IsOfOther config text
 RefusesHeader config text VersionDiffers = IsOfOtherFormat config text
 RefusesHeader config text _ = ⊥
 
--- The first line is there, and has this fault. A first line that is too long is none.
+-- The first line is there, and has this error. A line that is too long is not a first line.
 pub record HasBadFirst (config : Configuration) (stream : Option (List ℕ))
     (e : SyncError) : Type 0 where
   pub text : List ℕ
@@ -155,12 +155,12 @@ RefusesFirst config stream _ = ⊥
 
 -- ---- what is refused: a line after a good beginning
 
--- in the first format a record's line is none
+-- the first format has no records
 abbrev pub wanted_of : Format → Wanted
 wanted_of First = Receipts
 wanted_of Second = Either
 
--- the last one, or the empty text where there is none
+-- the last one, or the empty text if there is none
 abbrev pub last_of : List (List ℕ) → List ℕ
 last_of lines = fold (λ before text. text) [] lines
 
@@ -181,7 +181,7 @@ pub record IsBadCount (format : Format) (m : Meaning) (text : List ℕ) : Type 0
   pub count : IsCountLine text
   pub other : text ≡ count_line format m → ⊥
 
--- It does not begin as the last line does, and has a fault of one line.
+-- It does not begin as the last line does, and has an error of one line.
 pub record IsBadLine (format : Format) (m : Meaning) (text : List ℕ) (e : SyncError) : Type 0 where
   pub further : IsCountLine text → ⊥
   pub cause : RefusesEntryLine m
@@ -196,7 +196,7 @@ RefusesPlace format m text (Refused n why) = IsBadLine format m text (Refused n 
 RefusesPlace format m text NoMemory = Unit {0}
 RefusesPlace format m text _ = ⊥
 
--- There is such a line, and it has this fault.
+-- There is such a line, and it has this error.
 pub record HasBadLine (format : Format) (m : Meaning) (left : Option (List ℕ))
     (e : SyncError) : Type 0 where
   pub text : List ℕ
@@ -210,8 +210,8 @@ pub record HasMoreAfter (format : Format) (m : Meaning) (left : Option (List ℕ
   pub is : Consumes left after (ended (count_line format m))
   pub more : HasMore after
 
--- Nothing of the stream is known where the source fails; and memory is wanted before its first byte
--- is read.
+-- Nothing of the stream is known if the source fails; and memory is wanted before its first byte is
+-- read.
 abbrev pub RefusesNext : Format → Meaning → Option (List ℕ) → SyncError → Type 0
 RefusesNext format m left (NotCanonical n) = HasBadLine format m left (NotCanonical n)
     ⊎ ((n ≡ next_number m + 1) × HasMoreAfter format m left)
@@ -223,9 +223,9 @@ RefusesNext format m left Io = Unit {0}
 RefusesNext format m left NoMemory = Unit {0}
 RefusesNext format m left _ = ⊥
 
--- ---- the first fault
+-- ---- the first error
 
--- A good beginning, and after it this fault.
+-- A good beginning, and after it this error.
 pub record HasFaultAfter (config : Configuration) (stream : Option (List ℕ))
     (e : SyncError) : Type 0 where
   pub format : Format
@@ -237,7 +237,7 @@ pub record HasFaultAfter (config : Configuration) (stream : Option (List ℕ))
 abbrev pub RefusesSnapshot : Configuration → Option (List ℕ) → SyncError → Type 0
 RefusesSnapshot config stream e = RefusesFirst config stream e ⊎ HasFaultAfter config stream e
 
--- the device was at fault
+-- the device failed
 abbrev pub is_io : {T : Type 0} → Result T SyncError → Bool
 is_io (Err Io) = true
 is_io _ = false

@@ -1,4 +1,4 @@
--- Single lines, without the stream that they stand in.
+-- Single lines, without the stream that they are in.
 use Rattle.std.specs.Prelude.{◌≡◌, ◌≢◌, ℕ, ◌+◌, ◌≤◌, ◌⊎◌, List, length}
 use Rattle.fed_config.specs.Configuration.{Configuration, config_id_of}
 use Rattle.receipt_core.specs.Acceptance.{Meaning}
@@ -25,7 +25,7 @@ use Rattle.replica_texts.specs.Snapshots.{IsNoHeader, IsOfOther, IsOfOtherFormat
 abbrev pub IsWellFormed : Entry → Type 0
 IsWellFormed entry = IsWanted Either entry
 
--- It is the line of a receipt or a record, which is held now; so many receipts are that were not.
+-- It is the line of a receipt or a record, which is held now; this many receipts are that were not.
 pub record TakesSoleLine (old : Meaning) (text : List ℕ) (new : Meaning) (count : ℕ) : Type 0 where
   pub entry : Entry
   pub is : IsEntry Either text entry
@@ -65,7 +65,7 @@ pub record HasRefusedSoleLine (old : Meaning) (line : SoleLine) (new : Meaning)
 abbrev pub written_header : Configuration → List ℕ
 written_header config = header_line Second config
 
--- what is wrong with the line where the first one of the format that is written is wanted
+-- what is wrong with the line if the first one of the format that is written is wanted
 abbrev pub RefusesSoleHeader : Configuration → List ℕ → SyncError → Type 0
 RefusesSoleHeader config text BadHeader = IsNoHeader text
 RefusesSoleHeader config text ConfigDiffers = IsOfOther config text

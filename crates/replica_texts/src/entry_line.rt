@@ -1,5 +1,5 @@
 //! One line of a list of receipts and records of distrust, read and judged (not canonical, not
-//! rising, refused) for snapshots and answers alike.
+//! sorted, refused) for snapshots and answers alike.
 ghost use Rattle.std.specs.Prelude.{◌≡◌, MatchResult, length};
 ghost use Rattle.receipt_core.specs.Line.{RefusesRecord, RefusesReceiptLine as RefusesReceipt};
 ghost use Rattle.replica_texts.specs.Entries.{IsEntry, IsNextEntry, RefusesEntryText, placed_line};
@@ -13,7 +13,7 @@ use replica_core::{Entry, SyncError};
 use std::alloc::Global;
 use std::cmp::Ordering;
 
-/// Which lines may stand at a place.
+/// Which lines may be at a place.
 #[derive(Clone, Copy, Debug)]
 pub enum Wanted {
     /// Those of records of distrust.
@@ -24,9 +24,8 @@ pub enum Wanted {
     Either,
 }
 
-/// Reads the line with this number, where `last` is the line before it, which is empty for the
-/// first, and digests are known, and takes what it says. Returns how many receipts are held now and
-/// were not.
+/// Reads the line with this number, and takes what it says. `last` is the line before it, which is
+/// empty for the first; digests are known. Returns how many receipts are held now and were not.
 pub(crate) fn take_line<C: Closure>(
     alloc: Global,
     closure: &mut C,
@@ -50,12 +49,11 @@ pub(crate) fn take_line<C: Closure>(
     }
 }
 
-/// What the line with this number says, where `last` is the line before it, which is empty for the
-/// first.
+/// What the line with this number says. `last` is the line before it, which is empty for the first.
 ///
 /// # Errors
-/// They name the line by this number. Of these the first that holds:
-/// - [`SyncError::NotCanonical`]: it is no line that may stand there, or has more than 8,388,608
+/// They name the line by this number. The first of these that holds:
+/// - [`SyncError::NotCanonical`]: it is not a line that may be there, or has more than 8,388,608
 ///   bytes,
 /// - [`SyncError::NotRising`]: it is not greater than the line before it,
 /// - [`SyncError::NoMemory`]: memory ran out.

@@ -3,7 +3,7 @@
 /// A format of snapshots.
 #[derive(Clone, Copy, Debug, PartialEq, Eq)]
 pub(crate) enum Format {
-    /// Receipts alone. It is read, and not written.
+    /// Only receipts. It is read, and not written.
     First,
     /// Records of distrust and receipts.
     Second,

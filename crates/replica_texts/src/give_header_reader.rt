@@ -1,5 +1,5 @@
 //! The first lines of answers, read: what the line says is guessed, written again by `spelling` and
-//! compared with the line. So a line is read exactly where it has the one spelling.
+//! compared with the line. So a line is read exactly if it has the one spelling.
 ghost use Rattle.std.specs.Prelude.{◌≡◌, ◌++◌, ◌<◌, ◌^◌, ◌↔◌, ◌||◌, ℕ, List, Option, IsTrue, IfOk};
 ghost use Rattle.std.specs.Prelude.{IfErr, IfSome, None, OnOk, MatchOption, codes};
 ghost use Rattle.byte_lines.specs.Streams.{stream_of, left_of};
@@ -77,7 +77,7 @@ pub(crate) fn read_head(
     }
 }
 
-// What the line says, where it is wanted and of the one format that is supported.
+// What the line says, if it is wanted and of the one format that is supported.
 fn head_of(expected: Option<Expected<'_>>, header: &GiveHeaderLine) -> Result<Head, SyncError>
     requires { IsGiveHeader (header_by header.now) }
     ensures ok { IfOk result (IsHeadOf (expected_by expected.entry) (header_by header.now)) }
@@ -122,7 +122,7 @@ fn is_own(expected: Option<Expected<'_>>, config: &ConfigId) -> bool
     }
 }
 
-/// Reads the first line of an answer, of whatever format and number of buckets. There is none where
+/// Reads the first line of an answer, of whatever format and number of buckets. There is none if
 /// the line is not spelt as one, or its bucket is not below that number.
 pub(crate) fn read_give_header(
     alloc: Global,
@@ -146,7 +146,7 @@ pub(crate) fn read_give_header(
     }
 }
 
-// What the line says, where it is spelt as the first of an answer, and else anything.
+// What the line says, if it is spelt as the first of an answer; otherwise anything.
 fn guess(text: &[u8]) -> GiveHeaderLine
     ensures words { HasWords (header_by result) }
     ensures right { (t : GiveHeader) → IsGiveHeaderLine text.now t → header_by result ≡ t }
@@ -167,7 +167,7 @@ fn guess(text: &[u8]) -> GiveHeaderLine
     }
 }
 
-// The number of records, where one is given, and what follows.
+// The number of records, if one is given, and what follows.
 fn records_after(text: &[u8]) -> (Option<u64>, &[u8])
     ensures few { IfSome result.0 (λ n. n < 2 ^ 64) }
     ensures right { (distrusts : Option ℕ) (more : List ℕ) → IfSome distrusts (λ n. n < 2 ^ 64)

@@ -26,16 +26,16 @@ use std::alloc::{AllocError, Global};
 /// says.
 ///
 /// # Errors
-/// The lines up to the fault are used up; but where memory ran out the last of them may still be
-/// next, and where the source failed nothing is known of what is next. The first fault in the order
-/// of the stream:
+/// The lines up to the error are used up; but if memory ran out the last of them may still be next,
+/// and if the source failed nothing is known of what is next. The first error in the order of the
+/// stream:
 /// - [`SyncError::Truncated`]: it ends before the last line's line feed,
-/// - [`SyncError::BadHeader`]: the first line is no answer's, of whatever format and number of
+/// - [`SyncError::BadHeader`]: the first line is not an answer's, of whatever format and number of
 ///   buckets, or its bucket is not below that number, or it has more than 8,388,608 bytes,
 /// - [`SyncError::VersionDiffers`]: it has another format than 2, or another number of buckets than
 ///   256,
-/// - [`SyncError::NotCanonical`]: a line is not a record's where a record should stand, or not a
-///   receipt's where a receipt should, or has more than 8,388,608 bytes,
+/// - [`SyncError::NotCanonical`]: a line is not a record's where a record should be, or not a
+///   receipt's where a receipt should be, or has more than 8,388,608 bytes,
 /// - [`SyncError::NotRising`]: a line is not greater than the one before,
 /// - [`SyncError::Io`]: the source failed,
 /// - [`SyncError::NoMemory`]: memory ran out.
@@ -63,7 +63,7 @@ pub fn read_give<R: Source>(
 struct GiveBody {
     distrusts: Vec<Distrust>,
     receipts: Vec<Receipt>,
-    // The last line of it, and empty where there is none.
+    // The last line of it, and empty if there is none.
     last: Vec<u8>,
 }
 
@@ -147,7 +147,7 @@ fn read_next<R: Source>(
     }
 }
 
-// Which line should stand after what was read, where that is not all.
+// Which line should come after what was read, if this is not all.
 fn next_wanted(head: &Head, content: &GiveBody) -> Option<Wanted>
     requires { IsBegun head.now.count head.now.distrusts (body_content content.now) }
     ensures { MatchOption result
@@ -163,8 +163,8 @@ fn next_wanted(head: &Head, content: &GiveBody) -> Option<Wanted>
     None
 }
 
-// The number of the line after what was read. There is no memory for so many that it has more than
-// 64 bits: there it asks for a growth that is always refused.
+// The number of the line after what was read. Past 64 bits, which no memory reaches, it asks for a
+// growth that is always refused.
 fn next_line_number(alloc: Global, content: &GiveBody) -> Result<u64, AllocError>
     ensures { IfOk result (λ number. number ≡ next_entry_number 1 (body_content content.now)) }
 {

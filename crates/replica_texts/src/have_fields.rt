@@ -4,8 +4,8 @@ ghost use Rattle.std.specs.Prelude.{◌≡◌, ◌<◌, ◌%◌};
 use fed_config::ConfigId;
 use replica_core::Have;
 
-/// What the line of a have says, of whatever format and number of buckets. The bucket is one of
-/// as many as the line names; of the have itself it is that modulo 256.
+/// What the line of a have says, of whatever format and number of buckets. The bucket is one of as
+/// many as the line names; the bucket of the have itself is that number modulo 256.
 #[derive(Debug, Drop)]
 pub(crate) struct VersionedHave {
     pub(crate) bucket: u64,
@@ -16,7 +16,7 @@ pub(crate) struct VersionedHave {
     ghost low: { have.bucket ≡ bucket % 256 },
 }
 
-/// The parts of a line, where it is a have's.
+/// The parts of a line, if it is a have's.
 #[derive(Clone, Copy)]
 pub(crate) struct HaveFields<'a> {
     pub(crate) bucket: u64,

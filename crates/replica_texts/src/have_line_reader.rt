@@ -1,5 +1,5 @@
 //! The lines of haves, read: what the line says is guessed, written again by `spelling` and
-//! compared with the line. So a line is read exactly where it has the one spelling.
+//! compared with the line. So a line is read exactly if it has the one spelling.
 ghost use Rattle.std.specs.Prelude.{◌≡◌, ◌<◌, ◌^◌, ◌↔◌, IsTrue, IfOk, MatchOption, map};
 ghost use Rattle.std.specs.List.Sorted.{IsStrictlySortedBy};
 ghost use Rattle.receipt_core.specs.Receipt.{IsDigest};
@@ -16,8 +16,8 @@ use receipt_core::ReceiptId;
 use replica_core::Have;
 use std::alloc::{AllocError, Global};
 
-/// Reads the line of a have. There is none where the line is not spelt as one, or its bucket is
-/// not below the number of buckets, or its ids do not rise.
+/// Reads the line of a have. There is none if the line is not spelt as one, or its bucket is not
+/// below the number of buckets, or its ids do not rise.
 pub(crate) fn read_versioned_have(
     alloc: Global,
     text: &[u8],
@@ -37,7 +37,7 @@ pub(crate) fn read_versioned_have(
     }
 }
 
-// The parts of the line where it is a have's, and else any.
+// The parts of the line if it is a have's; otherwise any.
 fn guess(text: &[u8]) -> HaveFields<'_>
     ensures parts { (a : AnyHave) → IsAnyHaveLine text.now a → ArePartsOf result a }
     ensures config { IsDigest result.config.0 }

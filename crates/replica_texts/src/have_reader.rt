@@ -22,14 +22,14 @@ use std::alloc::Global;
 /// Reads a have: the next line, of which the first bytes may lie in the buffer already. Only
 /// the spelling of [`write_have`](crate::write_have) is read. No configuration is compared.
 ///
-/// Beside the line, which has at most 8,388,608 bytes, memory is taken for its ids and for the line
+/// Memory is taken for the line, which has at most 8,388,608 bytes, for its ids, and for the line
 /// as it is written.
 ///
 /// # Errors
-/// The line is used up; but where memory ran out it may still be next, and where the source failed
-/// nothing is known of what is next. Of these the first that holds:
+/// The line is used up; but if memory ran out it may still be next, and if the source failed
+/// nothing is known of what is next. The first of these that holds:
 /// - [`SyncError::Truncated`]: the stream ends before the line's line feed,
-/// - [`SyncError::BadHeader`]: the line is no have's, of whatever format and number of buckets,
+/// - [`SyncError::BadHeader`]: the line is not a have's, of whatever format and number of buckets,
 ///   or its bucket is not below that number, or its ids do not rise strictly, or it has more than
 ///   8,388,608 bytes,
 /// - [`SyncError::VersionDiffers`]: it has another format than 2, or another number of buckets than
@@ -56,13 +56,13 @@ pub fn read_have<R: Source>(
     }
 }
 
-/// Reads the next have as [`read_have`] does, and then compares its configuration. There is
-/// none where the stream ends where it would begin.
+/// Reads the next have as [`read_have`] does, and then compares its configuration. There is none if
+/// the stream ends where it would begin.
 ///
 /// # Errors
-/// Of these the first that holds:
+/// The first of these that holds:
 /// - [`SyncError::Truncated`]: the source ends within the line,
-/// - [`SyncError::BadHeader`]: it is no have's, of whatever format and number of buckets, or its
+/// - [`SyncError::BadHeader`]: it is not a have's, of whatever format and number of buckets, or its
 ///   bucket is not below that number, or its ids do not rise strictly, or it has more than
 ///   8,388,608 bytes,
 /// - [`SyncError::ConfigDiffers`]: it is of another configuration,
@@ -92,7 +92,7 @@ pub fn next_own<R: Source>(
     }
 }
 
-// The line of a have that is next in the stream. There is none where that ends where one would
+// The line of a have that is next in the stream. There is none if the stream ends where one would
 // begin.
 fn next_have_line<R: Source>(
     alloc: Global,
@@ -129,7 +129,7 @@ pub(crate) fn versioned_have(alloc: Global, text: &[u8]) -> Result<VersionedHave
     }
 }
 
-/// The have, where it is of this configuration.
+/// The have, if it is of this configuration.
 pub(crate) fn own_have(config: &Config, versioned: VersionedHave) -> Result<Have, SyncError>
     ensures { MatchResult result
         (λ h. (h.config ≡ config_id_of config.now) × IsSupportedHave versioned h)
@@ -141,7 +141,7 @@ pub(crate) fn own_have(config: &Config, versioned: VersionedHave) -> Result<Have
     supported_have(versioned)
 }
 
-// The have, where it is of the one format and number of buckets that are supported.
+// The have, if it is of the one format and number of buckets that are supported.
 fn supported_have(versioned: VersionedHave) -> Result<Have, SyncError>
     ensures { MatchResult result (IsSupportedHave versioned) (IsUnsupportedHave versioned) }
 {

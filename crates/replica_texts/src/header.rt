@@ -43,7 +43,7 @@ pub(crate) fn read_first<R: Source>(
     }
 }
 
-/// The format that a first line says, where it is one of this configuration.
+/// The format that a first line says, if it is one of this configuration.
 pub(crate) fn format_of(config: &Config, text: &[u8]) -> Result<Format, SyncError>
     ensures { MatchResult result (λ format. text.now ≡ header_line format config.now)
         (λ e. RefusesHeader config.now text.now e) }

@@ -11,7 +11,7 @@ use crate::scanner::{digest_after, rest_after};
 use receipt_core::ReceiptId;
 use std::alloc::{AllocError, Global};
 
-/// What stands after the label and before the first closing bracket, and what begins with that.
+/// What comes after the label and before the first closing bracket, and what begins with that.
 pub(crate) fn list_after<'a>(text: &'a [u8], label: &[u8]) -> (&'a [u8], &'a [u8])
     ensures { (inside rest : List ℕ) → AllPass is_inside inside
         → text.now ≡ label.now ++ (inside ++ (93 ∷ rest))
@@ -30,8 +30,8 @@ fn bracket(text: &[u8]) -> Option<usize>
     text.iter().position(|byte| *byte == b']')
 }
 
-/// The ids that the text lists, each in quotation marks, with commas between. Of another text some
-/// of them.
+/// The ids that the text lists, each in quotation marks, with commas between. For any other text,
+/// some ids.
 pub(crate) fn read_ids(alloc: Global, text: &[u8]) -> Result<Vec<ReceiptId>, AllocError>
     ensures same { IfOk result
         (λ ids. (wanted : List (List ℕ)) → AllByRecursion IsDigest wanted
@@ -49,7 +49,7 @@ pub(crate) fn read_ids(alloc: Global, text: &[u8]) -> Result<Vec<ReceiptId>, All
     }
 }
 
-// The first id, and what stands after it and its comma.
+// The first id, and what comes after it and its comma.
 fn take_id(text: &[u8]) -> Option<(ReceiptId, &[u8])>
     ensures same { (ids : List (List ℕ)) → AllByRecursion IsDigest ids
         → text.now ≡ join_by quoted (codes ",") ids → TakesId ids result }

@@ -18,13 +18,13 @@ ghost use Rattle.replica_texts.specs.Gives.{IsGive, RefusesGive};
 ghost use Rattle.replica_texts.specs.Snapshots.{IsSnapshot, RefusesSnapshot};
 ghost use Rattle.replica_texts.specs.SoleLines.{IsWellFormed, written_header};
 
-/// What a stream says is one: it is the text of one set at most, and none that a replica of a valid
-/// configuration reads has a fault. Only a source that fails, or lack of memory, may keep it from
+/// What a stream says is unique: it is the text of one set at most, and under a valid configuration
+/// the text of a set has no error. Only a source that fails, or lack of memory, may keep it from
 /// being read.
 ///
-/// - `one`: of two sets whose text it is, both are the same.
-/// - `read`: it has no fault where it is the text of a set.
-/// - `one_cause`: where it is none, it has one fault.
+/// - `one`: two sets whose text it is are the same.
+/// - `read`: it has no error if it is the text of a set.
+/// - `one_cause`: if it is not such a text, it has one error.
 pub fn snapshots()
     ensures one { (config : Configuration) (bytes : List ℕ) (m n : Meaning)
         → IsSnapshot config (Some bytes) m → IsSnapshot config (Some bytes) n → m ≡ n }
@@ -36,13 +36,13 @@ pub fn snapshots()
         → RefusesSnapshot config (Some bytes) d → RefusesSnapshot config (Some bytes) e → d ≡ e }
 {}
 
-/// What a stream asks is one, and a have that a line can ask is read. Only a source that fails,
+/// What a stream asks is unique, and a have that a line can ask is read. Only a source that fails,
 /// or lack of memory, may keep it from being read.
 ///
-/// - `one`: of two haves that it begins with, both are the same, and so is what follows them.
-/// - `read`: where it begins with a have, of the configuration if one is wanted, it has no
-///   fault there.
-/// - `one_cause`: where it begins with none, it has one fault there.
+/// - `one`: two haves that it begins with are the same, and so is what follows them.
+/// - `read`: if it begins with a have, of the configuration if one is wanted, it has no error
+///   there.
+/// - `one_cause`: if it does not begin with a have, it has one error there.
 pub fn haves()
     ensures one { (bytes : List ℕ) (p q : HaveMessage) (left rest : Option (List ℕ))
         → IsAskable p → IsAskable q
@@ -60,12 +60,12 @@ pub fn haves()
         → RefusesHave config (Some bytes) since e → d ≡ e }
 {}
 
-/// What a stream answers is one, and an answer that is there to its last byte is read. Only a
+/// What a stream answers is unique, and an answer that is there to its last byte is read. Only a
 /// source that fails, or lack of memory, may keep it from being read.
 ///
-/// - `one`: of two answers that it begins with, both are the same, and so is what follows them.
-/// - `read`: where it begins with a whole answer, it has no fault before that answer's end.
-/// - `one_cause`: where it begins with none, it has one fault.
+/// - `one`: two answers that it begins with are the same, and so is what follows them.
+/// - `read`: if it begins with a whole answer, it has no error before that answer's end.
+/// - `one_cause`: if it does not begin with an answer, it has one error.
 pub fn gives()
     ensures one { (bytes : List ℕ) (a b : GiveMessage) (left rest : Option (List ℕ))
         → IsGive a → IsGive b

@@ -1,4 +1,4 @@
-//! The parts of a first line, guessed: right wherever the text has the shape, and else any.
+//! The parts of a first line, guessed: right if the text has the shape, otherwise any.
 ghost use Rattle.std.specs.Prelude.{◌≡◌, ◌++◌, ◌∷◌, ◌<◌, ◌^◌, ℕ, List, MatchOption, decimal, false};
 ghost use Rattle.std.specs.List.{AllPass};
 ghost use Rattle.std.specs.Char.{is_ascii_digit};
@@ -9,7 +9,7 @@ ghost use Rattle.spiffe_name.specs.Bytes.{FirstFails};
 use crate::number_text::read_number;
 use fed_config::ConfigId;
 
-/// What follows the label, where the text begins with it.
+/// What follows the label, if the text begins with it.
 pub(crate) fn after<'a>(text: &'a [u8], label: &[u8]) -> Option<&'a [u8]>
     ensures { MatchOption result ((rest : List ℕ) → text.now ≡ label.now ++ rest → ⊥)
         (λ rest. text.now ≡ label.now ++ rest.now) }
@@ -78,7 +78,7 @@ fn split_digits(text: &[u8]) -> (&[u8], &[u8])
     }
 }
 
-// Where the first byte is that is no decimal digit.
+// The place of the first byte that is not a decimal digit.
 fn first_stop(text: &[u8]) -> Option<usize>
     ensures { MatchOption result (AllPass is_ascii_digit text.now)
         (FirstFails is_ascii_digit text.now) }
@@ -101,7 +101,7 @@ fn digest_of(digits: &[u8]) -> [u8; 32]
         → result ≡ digest }
 {
     let mut digest = [0; 32];
-    // What is refused is written otherwise, so whatever stands there then is right.
+    // What is refused is written otherwise, so whatever is there then is right.
     let _ = hex::decode_to_slice(digits, &mut digest);
     digest
 }

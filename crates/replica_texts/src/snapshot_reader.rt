@@ -24,17 +24,17 @@ use replica_core::SyncError;
 use std::alloc::{AllocError, Global};
 
 /// Reads a snapshot of this configuration: a first line, the lines of records of distrust and of
-/// receipts, rising, and a last line with their numbers, each ended by a line feed (byte 10), and
+/// receipts, sorted, and a last line with their numbers, each ended by a line feed (byte 10), and
 /// nothing after them. The second format is read, which [`write_snapshot`](crate::write_snapshot)
-/// writes, and the first, which has receipts alone. The closure then holds exactly what the lines
+/// writes, and the first, which has only receipts. The closure then holds exactly what the lines
 /// say.
 ///
-/// The work is linear in the bytes. Beside what is held, memory is taken for one line.
+/// The work is linear in the bytes. Apart from what is held, memory is taken for one line.
 ///
 /// # Errors
-/// There is no closure then. Of several faults the one that comes first in the bytes:
+/// There is no closure then. The first error in the order of the bytes:
 /// - [`SyncError::Truncated`]: it ends before the last line's line feed,
-/// - [`SyncError::BadHeader`]: the line is no first line, or has more than 8,388,608 bytes,
+/// - [`SyncError::BadHeader`]: the line is not a first line, or has more than 8,388,608 bytes,
 /// - [`SyncError::ConfigDiffers`]: it is of another configuration,
 /// - [`SyncError::VersionDiffers`]: it is of another format than the first two,
 /// - [`SyncError::NotCanonical`]: a line is not that of a record or a receipt, or is a record's in
@@ -91,8 +91,8 @@ fn read_held<C: Closure, R: Source>(
     Ok(number + 1)
 }
 
-// Reads the line with this number, where `last` is the one before, and returns whether it was not
-// the last one.
+// Reads the line with this number, and returns whether it was not the last one. `last` is the line
+// before.
 fn read_next<C: Closure, R: Source>(
     alloc: Global,
     format: Format,
@@ -129,8 +129,8 @@ fn read_next<C: Closure, R: Source>(
     }
 }
 
-// Takes what the line with this number says, where `last` is the one before, or compares the
-// numbers that it says. Returns whether it was not the last one.
+// Takes what the line with this number says, or compares the numbers that it says. Returns whether
+// it was not the last one. `last` is the line before.
 fn judge<C: Closure>(
     alloc: Global,
     format: Format,

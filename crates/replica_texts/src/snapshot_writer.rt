@@ -13,9 +13,9 @@ use replica_core::SyncError;
 use std::alloc::Global;
 
 /// Writes the snapshot of what is held: a first line with the configuration's digest, the lines of
-/// records of distrust and of receipts, each rising, and a last line with their numbers, each ended
-/// by a line feed (byte 10). The text depends on the configuration, the receipts and the records of
-/// distrust alone, so closures of one meaning write the same bytes.
+/// records of distrust and of receipts, each sorted, and a last line with their numbers, each ended
+/// by a line feed (byte 10). The text depends only on the configuration, the receipts and the
+/// records of distrust, so closures of one meaning write the same bytes.
 ///
 /// Memory is taken for one line at a time.
 ///

@@ -1,5 +1,5 @@
-//! Single lines, for a caller that does not have them in a stream: a receipt or a record that
-//! stands anywhere, the first line of a snapshot, a have, and the first line of an answer.
+//! Single lines, for a caller that does not have them in a stream: a receipt or a record from any
+//! place, the first line of a snapshot, a have, and the first line of an answer.
 ghost use Rattle.std.specs.Prelude.{◌≡◌, IfOk, IfErr, MatchResult, Some};
 ghost use Rattle.replica_texts.specs.Gives.{Heads};
 ghost use Rattle.replica_texts.specs.Snapshots.{header_line};
@@ -18,12 +18,12 @@ use receipt_core::KnownParts;
 use replica_core::{Have, SyncError};
 use std::alloc::{AllocError, Global};
 
-/// Takes the receipt or the record of distrust whose line this is, wherever it stands. Returns how
+/// Takes the receipt or the record of distrust whose line this is, from whatever place. Returns how
 /// many receipts are held now and were not.
 ///
 /// # Errors
-/// What is held stays. Errors name the line by this number. Of these the first that holds:
-/// - [`SyncError::NotCanonical`]: it is no line of a record or a receipt, or has more than
+/// What is held is as before. Errors name the line by this number. The first of these that holds:
+/// - [`SyncError::NotCanonical`]: it is not a line of a record or a receipt, or has more than
 ///   8,388,608 bytes,
 /// - [`SyncError::Refused`]: the receipt or the record is not of the configuration, or is one too
 ///   many,
@@ -54,8 +54,8 @@ pub fn take_sole_line<C: Closure>(
 /// Reads the first line of a snapshot of this configuration, in the format that is written.
 ///
 /// # Errors
-/// Of these the first that holds:
-/// - [`SyncError::BadHeader`]: the line is no first line,
+/// The first of these that holds:
+/// - [`SyncError::BadHeader`]: the line is not a first line,
 /// - [`SyncError::ConfigDiffers`]: it is of another configuration,
 /// - [`SyncError::VersionDiffers`]: it is of another format.
 pub fn read_first_line(config: &Config, text: &[u8]) -> Result<(), SyncError>
@@ -80,8 +80,8 @@ pub fn write_first_line(alloc: Global, config: &Config) -> Result<Vec<u8>, Alloc
 /// one from a stream.
 ///
 /// # Errors
-/// Of these the first that holds:
-/// - [`SyncError::BadHeader`]: the line is no have's, of whatever format and number of buckets,
+/// The first of these that holds:
+/// - [`SyncError::BadHeader`]: the line is not a have's, of whatever format and number of buckets,
 ///   or its bucket is not below that number, or its ids do not rise strictly,
 /// - [`SyncError::ConfigDiffers`]: it is of another configuration,
 /// - [`SyncError::VersionDiffers`]: it has another format than 2, or another number of buckets than
@@ -99,8 +99,8 @@ pub fn read_have_line(alloc: Global, config: &Config, text: &[u8]) -> Result<Hav
 /// [`pull`](crate::pull) does. Returns how many receipts it announces, and how many records.
 ///
 /// # Errors
-/// Of these the first that holds:
-/// - [`SyncError::BadHeader`]: the line is no answer's first, of whatever format and number of
+/// The first of these that holds:
+/// - [`SyncError::BadHeader`]: the line is not an answer's first, of whatever format and number of
 ///   buckets, or is about another bucket,
 /// - [`SyncError::ConfigDiffers`]: it is of another configuration,
 /// - [`SyncError::VersionDiffers`]: it has another format than 2, or another number of buckets than

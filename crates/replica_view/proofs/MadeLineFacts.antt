@@ -42,7 +42,7 @@ one_shown passed shows (y ∷ ys) lines x line are not is = elim are [
 
 -- ---- in a loop
 
--- Of all items these are still to come, and the lines of the others were added.
+-- These of all items are still to come, and the lines of the others were added.
 pub record LinesSoFar {A : Type 0} (passed : A → Type 0) (shows : A → List ℕ → Type 0) (all rest : List A) (old new : List (List ℕ)) : Type 0 where
   pub done : List A
   pub split : all ≡ done ++ rest
@@ -96,7 +96,7 @@ module _ {A : Type 0} (passed : A → Type 0) (shows : A → List ℕ → Type 0
 
 -- ---- no lines
 
--- Where there is no line, each item was passed over.
+-- If there is no line, each item was passed over.
 none_all : {A : Type 0} (passed : A → Type 0) (shows : A → List ℕ → Type 0) (xs : List A) → AreLinesFor passed shows xs []
     → (x : A) → Contains xs x → passed x
 none_all passed shows [] are x has = absurd (contains_none x has)
@@ -105,7 +105,7 @@ none_all passed shows (y ∷ ys) are x has = elim are [
   | inr shown ↦ absurd (omega (arith, ap length shown.3))
 ]
 
--- And where each item is passed over, there is none.
+-- And if each item is passed over, there is none.
 all_none : {A : Type 0} (passed : A → Type 0) (shows : A → List ℕ → Type 0) (xs : List A) (lines : List (List ℕ)) → AreLinesFor passed shows xs lines
     → ((x : A) → Contains xs x → passed x) → lines ≡ []
 all_none passed shows [] lines are all = are
@@ -144,7 +144,7 @@ lacked_made one other mark old then new empty receipts records = record {
   are = records.now ∙ ap (λ z. z ++ records.made) (receipts.now ∙ ap (λ z. z ++ receipts.made) empty);
 }
 
--- Where there is no such line, the other one holds all that this one holds.
+-- If there is no such line, the other one holds all that this one holds.
 module _ (one other : Meaning) (mark : List ℕ) (lines : List (List ℕ)) (lacked : AreLackedLines one other mark lines) where
   parts : lines ≡ [] → (lacked.receipts ≡ []) × (lacked.records ≡ [])
   parts e = no_parts lacked.receipts lacked.records (sym lacked.are ∙ e)
@@ -163,7 +163,7 @@ module _ (one other : Meaning) (mark : List ℕ) (lines : List (List ℕ)) (lack
       ∙ (λ i. all_none (Contains other.held) (ShowsReceipt one mark) one.held lacked.receipts lacked.each_receipt receipts i
       ++ all_none (Contains other.records) (ShowsRecord mark) one.records lacked.records lacked.each_record records i)
 
--- There are no lines just where both hold the same.
+-- There are no lines exactly if both hold the same.
 pub same_held : (one other : Meaning) (lines : List (List ℕ)) → AreDifferenceLines one other lines → (lines ≡ []) ↔ HoldSame one other
 same_held one other lines are = (
   λ e.

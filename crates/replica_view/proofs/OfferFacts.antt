@@ -1,4 +1,4 @@
--- What accepted documents offer, domain by domain, and how a receipt stands by that
+-- What accepted documents offer, domain by domain, and the status of a receipt by that
 use Rattle.std.proofs.Common.{◌≡◌, inl, inr, ℕ, ◌+◌, ◌<◌, List, [], ◌∷◌, ◌++◌, flat_map, true, false, sym, ap, ◌∙◌, subst}
 use Rattle.std.proofs.Common.{length, get_or, take, add-one}
 use Rattle.std.proofs.Math.Seq.{take-suc}
@@ -47,7 +47,7 @@ taken_domain xs k x low is = ap (λ n. take n xs) (add-one k) ∙ take-suc xs k 
 abbrev offers_in : List ℕ → Bundle → List Triple
 offers_in domain d = offers_of (document_of domain d)
 
--- before the first domain there is no offer
+-- before the first domain there are no offers
 pub offers_none : (m : Meaning) (offers : List Triple) → offers ≡ [] → AreOffersFrom m [] offers
 offers_none m offers e = record {
   sound = λ t has. absurd (contains_none t (subst (λ ts. Contains ts t) e has));
@@ -89,7 +89,7 @@ offers_set m offers set are made = record {
   exactly = btree_set_contains_from_list triple_total one_triple offers set made;
 }
 
--- ---- how a receipt stands
+-- ---- the status of a receipt
 
 -- the domain of a fitting receipt's endpoint is one of the configuration
 endpoint_domain : (c : Configuration) (r : Receipt) → IsFitting c r → HasDomain c r.endpoint.domain
@@ -99,7 +99,7 @@ module _ (m : Meaning) (offered : BTreeSet Triple) (r : Receipt) (valid : IsMean
   fits : IsFitting m.config r
   fits = each_has (IsFitting m.config) m.held r valid.fitting (Has-from_contains m.held r held)
 
-  -- an accepted document vouches for it, where one offers what it needs and its key is not distrusted
+  -- an accepted document vouches for it, if one offers what it needs and its key is not distrusted
   pub is_vouched : (Contains m.records (distrust_of r.endpoint.domain r) → ⊥) → contains triple_cmp offered (need_of r) ≡ true → IsReleased m r
   is_vouched trusted told =
       let by = set.are.sound (need_of r) ((set.exactly (need_of r)).0 told) in
@@ -111,7 +111,7 @@ module _ (m : Meaning) (offered : BTreeSet Triple) (r : Receipt) (valid : IsMean
         vouches = (Vouches-by_offers m.records by.offerer r).1 (by.offers, trusted);
       }
 
-  -- and none does, where none offers that
+  -- and none does, if none offers that
   pub is_unvouched : contains triple_cmp offered (need_of r) ≡ false → IsPending m r
   is_unvouched told = record {
     held = held;

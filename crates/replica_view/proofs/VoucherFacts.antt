@@ -22,7 +22,8 @@ use Rattle.replica_view.specs.Inside.ShownVouchers.{AreShownVouchers, IsVoucherS
 
 -- ---- the list, receipt by receipt
 
--- Of all receipts these are still to come, and the documents that vouch for the others that are shown were added.
+-- These of all receipts are still to come, and the documents that vouch for the others that are
+-- shown were added.
 pub record VouchersSoFar (chosen : Option (List ℕ)) (all rest : List Receipt) (ids : List DocId) : Type 0 where
   pub done : List Receipt
   pub split : all ≡ done ++ rest

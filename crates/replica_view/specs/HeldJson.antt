@@ -40,7 +40,7 @@ status_member Distrusted = codes ",\"status\":\"distrusted\"}"
 abbrev pub held_receipt_json : Receipt → ReceiptStatus → List ℕ
 held_receipt_json r status = receipt_members r ++ status_member status
 
--- The text is the receipt's, and says how the receipt stands.
+-- The text is the receipt's, and has the receipt's status.
 pub record ShowsReceiptJson (m : Meaning) (r : Receipt) (text : List ℕ) : Type 0 where
   pub status : ReceiptStatus
   pub is_status : IsStatusOf m r status
@@ -55,7 +55,7 @@ held_record_json x = digest_member (codes "{\"distrust\":") x.key.0
 abbrev pub ShowsRecordJson : Distrust → List ℕ → Type 0
 ShowsRecordJson x text = text ≡ held_record_json x
 
--- ---- all that is held, or what of it is of one domain
+-- ---- all that is held, or only what is of one domain
 
 abbrev pub held_json : (receipts records : List (List ℕ)) → List ℕ
 held_json receipts records = array_member (codes "{\"receipts\":") receipts

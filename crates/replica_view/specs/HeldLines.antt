@@ -1,5 +1,5 @@
--- A receipt and a record of distrust, as lines that an operator reads and compares. Lines stand
--- here without their line feeds.
+-- A receipt and a record of distrust, as lines that an operator reads and compares. Lines are here
+-- without their line feeds.
 use Rattle.std.specs.Prelude.{◌≡◌, ℕ, List, ◌++◌, codes, Contains}
 use Rattle.hex.specs.Hex.{encode_lower}
 use Rattle.bundle_doc.specs.Bundle.{doc_id_of}
@@ -11,7 +11,7 @@ use Rattle.replica_view.specs.declared.receipt_status.ReceiptStatus.{ReceiptStat
 use Rattle.replica_view.specs.declared.receipt_status.ReceiptStatus.TheVariants.{Accepted, Pending}
 use Rattle.replica_view.specs.declared.receipt_status.ReceiptStatus.TheVariants.{Distrusted}
 
--- ---- how a receipt stands
+-- ---- the status of a receipt
 
 -- An accepted document vouches for it; or its key is distrusted, so that no document can; or none
 -- does, and one still may.
@@ -49,7 +49,7 @@ held_receipt_line r status =
 abbrev pub held_record_line : Distrust → List ℕ
 held_record_line x = codes "distrust " ++ (encode_lower x.key.0 ++ (codes " domain " ++ x.domain))
 
--- The line is the receipt's, after the mark, and says how the receipt stands.
+-- The line is the receipt's, after the mark, and has the receipt's status.
 pub record ShowsReceipt (m : Meaning) (mark : List ℕ) (r : Receipt) (line : List ℕ) : Type 0 where
   pub status : ReceiptStatus
   pub is_status : IsStatusOf m r status

@@ -16,7 +16,7 @@ AreLinesFor passed shows (x ∷ items) lines = (passed x × AreLinesFor passed s
     ⊎ ((passed x → ⊥) × (line : List ℕ) × (others : List (List ℕ)) × (lines ≡ line ∷ others)
     × shows x line × AreLinesFor passed shows items others)
 
--- ---- all that is held, or what of it is of one domain
+-- ---- all that is held, or only what is of one domain
 
 -- another domain is chosen
 abbrev pub is_left_aside : Option (List ℕ) → List ℕ → Bool

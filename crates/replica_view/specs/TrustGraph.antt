@@ -1,6 +1,6 @@
 -- Which document vouches for which, as a graph in Graphviz's language DOT. A node has a document's
--- id; of the lines that speak of one node, a later one adds to the earlier ones and stands in place
--- of what it says again.
+-- id. If several lines speak of one node, a later one adds to the earlier ones, and replaces what
+-- they say of the same attribute.
 use Rattle.std.specs.Prelude.{◌≡◌, ℕ, List, [], ◌∷◌, ◌++◌, take, codes, Option, Some, None}
 use Rattle.std.specs.Prelude.{Contains}
 use Rattle.std.specs.Prelude.{true}
@@ -45,7 +45,7 @@ seen_label domain d = label_start domain ++ sequence_label domain d
 
 -- ---- lines
 
--- the document that vouches for a receipt, of which the receipt says no more than its id
+-- the document that vouches for a receipt, of which the receipt says only its id
 abbrev pub voucher_line : Receipt → List ℕ
 voucher_line r = node_text r.voucher.0
     ++ (unseen_label r.endpoint.domain r.voucher.0 ++ codes "\"];")
@@ -60,7 +60,7 @@ abbrev pub configured_line : Seed → List ℕ
 configured_line s = node_text (doc_id_of s.domain s.document)
     ++ (seen_label s.domain s.document ++ codes "\", peripheries=2];")
 
--- a comment where a domain has no current document, and else that document
+-- a comment if a domain has no current document, and else that document
 abbrev pub no_current_line : List ℕ → List ℕ
 no_current_line domain = codes "// no current document of " ++ domain
 
@@ -132,7 +132,7 @@ pub record IsPassedDomain (m : Meaning) (chosen : Option (List ℕ)) (domain : L
 -- ---- the whole
 
 -- All receipts, the documents that vouch for them and that they brought, the configured documents
--- and the current ones. With a domain: the receipts that brought a document of it, and, of the
+-- and the current ones. With a domain: the receipts that brought a document of it; and of the
 -- documents that are of it or vouch for one of these receipts, which a held receipt brought, which
 -- are configured and which are current.
 pub record AreGraphLines (m : Meaning) (chosen : Option (List ℕ))

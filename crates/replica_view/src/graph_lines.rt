@@ -16,7 +16,7 @@ use spiffe_name::TrustDomain;
 use std::alloc::{AllocError, Global};
 use text_lines::{TextLine, push_number_or_none};
 
-/// The document that vouches for the receipt, of which no more than its id is known.
+/// The document that vouches for the receipt, of which only its id is known.
 pub(crate) fn voucher_line(alloc: Global, receipt: &Receipt) -> Result<TextLine, AllocError>
     ensures { IfOk result (λ line. line ≡ voucher_line receipt.now) }
 {
@@ -55,7 +55,7 @@ pub(crate) fn configured_line(alloc: Global, seed: &Seed) -> Result<TextLine, Al
     Ok(TextLine::new(line))
 }
 
-/// The current document of the domain, whose border is bold, or a comment where there is none.
+/// The current document of the domain, whose border is bold, or a comment if there is none.
 pub(crate) fn current_line(
     alloc: Global,
     domain: &TrustDomain,

@@ -1,5 +1,5 @@
 //! What a replica holds, printed for operators: all of it, as lines, as JSON or as a graph, or what
-//! one state has that another one lacks. It knows closures by their trait alone.
+//! one state has that another one lacks. It knows closures only by their trait.
 #![tactic(auto)]
 
 mod comparing;

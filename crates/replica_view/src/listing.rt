@@ -1,4 +1,4 @@
-//! All that is held, or what of it is of one domain.
+//! All that is held, or only what is of one domain.
 ghost use Rattle.std.specs.Prelude.{◌≡◌, ◌||◌, true, Contains, Err, IfOk, OnOk, option_copied};
 ghost use Rattle.byte_lines.specs.Device.{is_source_fault};
 ghost use Rattle.byte_lines.specs.declared.error.DeviceError.TheVariants.{Io, NoMemory};
@@ -33,7 +33,7 @@ pub(crate) enum ShownForm {
 }
 
 /// Writes what is held: a line for each receipt, in the order of the receipts' lines, and then one
-/// for each record of distrust, rising by key and then by domain. With a domain these are the
+/// for each record of distrust, sorted by key and then by domain. With a domain these are the
 /// receipts that brought a document of it and the records of keys that are distrusted in it.
 ///
 /// | Line | What it says |

@@ -64,8 +64,8 @@ fn receipt_json(
 }
 
 /// Adds the brace that opens an object, and the members that say the five parts of the receipt:
-/// `receipt` with its id, `domain`, `sequence` (`null` where the document has none), `document`
-/// with the document's id, `endpoint`, `key` and `voucher`.
+/// `receipt` with its id, `domain`, `sequence` (`null` if the document has none), `document` with
+/// the document's id, `endpoint`, `key` and `voucher`.
 ///
 /// # Errors
 /// Memory ran out. Nothing is said then of what is there.

@@ -1,4 +1,4 @@
-//! How a receipt stands.
+//! The status of a receipt.
 ghost use Rattle.std.specs.Prelude.{◌≡◌, Contains};
 ghost use Rattle.replica_view.specs.HeldLines.{IsStatusOf, status_text};
 ghost use Rattle.replica_view.specs.Inside.Offered.{IsOfferSet};
@@ -7,7 +7,7 @@ use closure_core::Closure;
 use receipt_core::{Receipt, Triple};
 use std::collections::BTreeSet;
 
-/// How a held receipt stands.
+/// The status of a held receipt.
 #[derive(Clone, Copy, Debug, PartialEq, Eq)]
 pub enum ReceiptStatus {
     /// An accepted document vouches for it.
@@ -18,7 +18,7 @@ pub enum ReceiptStatus {
     Distrusted,
 }
 
-/// How a held receipt stands, by all that the accepted documents offer.
+/// The status of a held receipt, by all that the accepted documents offer.
 pub(crate) fn status_of<C: Closure>(
     closure: &C,
     offered: &BTreeSet<Triple>,
@@ -40,7 +40,7 @@ pub(crate) fn status_of<C: Closure>(
     }
 }
 
-/// The word of the line, after a space.
+/// The status as it is in the line, after a space.
 pub(crate) fn text_of(status: ReceiptStatus) -> &'static str
     ensures { result.now ≡ status_text status }
 {

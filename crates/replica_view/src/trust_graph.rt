@@ -46,7 +46,7 @@ pub(crate) enum GraphPart {
 /// | In the graph | What it is |
 /// |---|---|
 /// | a box | a document, with its domain, its sequence number and the first eight digits of its
-/// id; without a sequence number where a receipt names it and nothing brought it |
+/// id; without a sequence number if a receipt names it and nothing brought it |
 /// | a box with two borders | a configured document |
 /// | a bold box | the current document of its domain |
 /// | an arrow | a receipt, from the document that vouches for it to the one that it brought, with
@@ -54,8 +54,8 @@ pub(crate) enum GraphPart {
 /// | a dashed arrow | a pending receipt ([`crate::ReceiptStatus`]) |
 /// | a red arrow | a receipt whose key is distrusted |
 ///
-/// The nodes stand before the arrows, and receipts in the order of their lines. So the text depends
-/// on the configuration, the receipts and the records of distrust alone. The work and the memory
+/// The nodes come before the arrows, and receipts in the order of their lines. So the text depends
+/// only on the configuration, the receipts and the records of distrust. The work and the memory
 /// grow as those of [`crate::write_held`]. All memory is taken before the first byte is written.
 ///
 /// # Errors

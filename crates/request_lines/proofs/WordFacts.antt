@@ -17,17 +17,17 @@ abbrev are_texts : Items → Bool
 are_texts no_items = true
 are_texts (item d ds) = is_text d && are_texts ds
 
--- whether the value is an array of texts alone
+-- whether the value is an array of only texts
 abbrev is_of_texts : Data → Bool
 is_of_texts (array ds) = are_texts ds
 is_of_texts d = false
 
--- an array of words has texts alone
+-- an array of arguments has only texts
 words_are_texts : (ws : List (List ℕ)) → are_texts (items_of (map string ws)) ≡ true
 words_are_texts [] = refl
 words_are_texts (w ∷ ws) = words_are_texts ws
 
--- a value without a text is none
+-- a value without a text is not a text
 no_text : (d : Data) → as_str d ≡ None → is_text d ≡ false
 no_text null e = refl
 no_text (boolean b) e = refl
@@ -41,13 +41,13 @@ and_false : (b : Bool) → (b && false) ≡ false
 and_false true = refl
 and_false false = refl
 
--- with one item that is no text, not all are texts
+-- with one item that is not a text, not all are texts
 one_is_none : (ds : List Data) (k : ℕ) (d : Data) → k < length ds → d ≡ get_or ds k d → as_str d ≡ None → are_texts (items_of ds) ≡ false
 one_is_none [] k d low at e = absurd (omega arith)
 one_is_none (x ∷ xs) zero d low at e = ap (λ b. b && are_texts (items_of xs)) (no_text x (ap as_str (sym at) ∙ e))
 one_is_none (x ∷ xs) (suc k) d low at e = ap (λ b. is_text x && b) (one_is_none xs k d (omega arith) at e) ∙ and_false (is_text x)
 
--- an array with an item that is no text is no array of words
+-- an array with an item that is not a text is not an array of arguments
 pub not_of_words : (v : Data) (ds : List Data) → v ≡ array (items_of ds) → (k : ℕ) (d : Data) → k < length ds → d ≡ get_or ds k d
     → as_str d ≡ None → IsOfWords v → ⊥
 not_of_words v ds is k d low at e h =
@@ -61,12 +61,12 @@ item_at [] k v low at = absurd (omega arith)
 item_at (x ∷ xs) zero v low at = ap view at
 item_at (x ∷ xs) (suc k) v low at = item_at xs k v (omega arith) at
 
--- an array of words has no float
+-- an array of arguments has no float
 pub words_have_no_float : (ws : List (List ℕ)) → has_float (words_value ws) ≡ false
 words_have_no_float [] = refl
 words_have_no_float (w ∷ ws) = words_have_no_float ws
 
--- an array of words nests one level deep
+-- an array of arguments nests one level deep
 flat_items : (ws : List (List ℕ)) → items_depth (items_of (map string ws)) ≡ 0
 flat_items [] = refl
 flat_items (w ∷ ws) = ap (λ n. max 0 n) (flat_items ws)

@@ -14,7 +14,7 @@ use Rattle.request_lines.specs.declared.request_error.RequestError.TheVariants.{
 abbrev pub request_limit : ℕ
 request_limit = 65536
 
--- Why a line is refused, where `Says d` is what its value has to say.
+-- Why a line is refused, if `Says d` is what its value has to say.
 abbrev pub RefusesLine : (Data → Type 0) → List ℕ → RequestError → Type 0
 RefusesLine Says line TooLong = request_limit < length line
 RefusesLine Says line BadLine = (length line ≤ request_limit)
@@ -29,7 +29,7 @@ RefusesValue Says d NoMemory = ⊤
 
 -- ---- requests
 
--- the words as a JSON array of texts
+-- the arguments as a JSON array of texts
 abbrev pub words_value : List (List ℕ) → Data
 words_value words = array (items_of (map string words))
 

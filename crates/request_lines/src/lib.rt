@@ -1,4 +1,4 @@
-//! The texts of the local requests that a running replica answers: the words of a request, as a
+//! The texts of the local requests that a running replica answers: the arguments of a request, as a
 //! JSON array (RFC 8259), and the first line of a reply.
 #![tactic(auto)]
 

@@ -1,4 +1,4 @@
-//! The words of a request, as the JSON array of its first line.
+//! The arguments of a request, as the JSON array of its first line.
 ghost use Rattle.std.specs.Prelude.{◌≡◌, ◌≤◌, ⊤, IfOk, Some, MatchResult, length, map};
 ghost use Rattle.std.specs.Prelude.{string_bytes};
 ghost use Rattle.serde_json.specs.Data.{string};
@@ -17,12 +17,12 @@ use std::str;
 /// The most bytes of a request's first line, without its line feed.
 pub const MOST_WORDS: usize = 65_536;
 
-/// The words that a request's first line says, which is a JSON array of texts of at most 65,536
-/// bytes. The line feed after it is not part of the line.
+/// The arguments in a request's first line, a JSON array of texts of at most 65,536 bytes. The line
+/// feed after it is not part of the line.
 ///
 /// # Errors
 /// - [`RequestError::TooLong`]: the line has more than 65,536 bytes,
-/// - [`RequestError::BadLine`]: it is no JSON array of texts,
+/// - [`RequestError::BadLine`]: it is not a JSON array of texts,
 /// - [`RequestError::NoMemory`]: memory ran out.
 pub fn read_request_words(alloc: Global, line: &[u8]) -> Result<Vec<String>, RequestError>
     ensures { MatchResult result
@@ -32,7 +32,7 @@ pub fn read_request_words(alloc: Global, line: &[u8]) -> Result<Vec<String>, Req
     words_of(alloc, &read_value(alloc, line)?)
 }
 
-/// The first line of a request with these words, without its line feed.
+/// The first line of a request with these arguments, without its line feed.
 ///
 /// # Errors
 /// Memory ran out.
@@ -65,7 +65,7 @@ pub(crate) fn read_value(alloc: Global, line: &[u8]) -> Result<Value, RequestErr
     }
 }
 
-// The words, where the value is an array of texts.
+// The arguments, if the value is an array of texts.
 fn words_of(alloc: Global, value: &Value) -> Result<Vec<String>, RequestError>
     ensures { MatchResult result
         (λ words. view value.now ≡ words_value (map string_bytes words.items))

@@ -1,5 +1,5 @@
 -- Items of a list, looked at one after another.
-use Rattle.std.proofs.Common.{◌≡◌, ◌≢◌, ◌↔◌, ℕ, List, [], ◌∷◌, Some, subst, sym, ◌∙◌, inl, inr}
+use Rattle.std.proofs.Common.{◌≡◌, ◌≢◌, ◌↔◌, ℕ, List, [], ◌∷◌, subst, sym, inl, inr}
 use Rattle.std.specs.List.{Contains}
 use Rattle.bundle_doc.specs.Bundle.{Bundle, HasKeyId, canonical_text}
 use Rattle.receipt_core.specs.Acceptance.{Meaning}

@@ -1,2 +1,6 @@
+mod ConfigFacts
 mod DomainsFacts
 mod DoubtFacts
+mod FloorFacts
+mod NewConfigFacts
+mod StayFacts

@@ -1,19 +1,24 @@
--- The configuration of a start anew, and which domains are refused.
+-- The configuration of a new start, how many receipts fit it, and which domains are refused.
 use Rattle.std.specs.Prelude.{◌≡◌, ◌≢◌, ℕ, List, [], ◌∷◌, ◌++◌, map, flat_map, codes, Bool, false}
 use Rattle.std.specs.Prelude.{Contains, Option, Some, None, IsSome, cond}
 use Rattle.std.specs.Str.{bytes_eq}
 use Rattle.bundle_doc.specs.Bundle.{Bundle, HasKeyId, canonical_text}
-use Rattle.fed_config.specs.Configuration.{AreDomains, Configuration, config_text}
+use Rattle.fed_config.specs.Configuration.{AreDomains, Configuration, IsFloorOf, config_text}
+use Rattle.fed_config.specs.declared.floor.Floor.{Floor}
 use Rattle.fed_config.specs.declared.seed.Seed.{Seed}
-use Rattle.receipt_core.specs.Acceptance.{Meaning, IsMember}
+use Rattle.receipt_core.specs.Acceptance.{IsFitting, Meaning, IsMember}
+use Rattle.receipt_core.specs.Receipt.{Receipt}
 use Rattle.receipt_core.specs.declared.distrust.Distrust.{Distrust}
 use Rattle.closure_core.specs.AcceptedList.{document_of}
+use Rattle.closure_core.specs.Count.{IsCount}
 use Rattle.bundle_view.specs.Current.{IsCurrent}
 use Rattle.reseeding.specs.declared.doubt.SeedDoubt.{SeedDoubt}
 use Rattle.reseeding.specs.declared.doubt.SeedDoubt.TheVariants.{DistrustedKey, Rival}
 use Rattle.reseeding.specs.declared.doubt.SeedDoubt.TheVariants.{Unnumbered}
+use Rattle.reseeding.specs.declared.new_floors.FloorChoice.{FloorChoice}
+use Rattle.reseeding.specs.declared.new_floors.FloorChoice.TheVariants.{Kept, Raised}
 use Rattle.reseeding.specs.declared.starting_anew.Reseeded.{Reseeded}
-use Rattle.reseeding.specs.declared.starting_anew.Reseeded.TheVariants.{NewConfig, Refusals}
+use Rattle.reseeding.specs.declared.starting_anew.Reseeded.TheVariants.{Refusals, Seeded}
 
 -- ---- what stands against a document as a seed
 
@@ -88,7 +93,7 @@ pub record IsRefusalText (m : Meaning) (allowed : Option (List ℕ)) (text : Lis
   pub each : (s : JudgedDomain) → Contains judged s → IsJudged m s
   pub is : text ≡ flat_map (refusal_line allowed) judged
 
--- ---- the new configuration
+-- ---- the seeds of the new configuration
 
 abbrev pub seed_of : List ℕ → Option Bundle → List Seed
 seed_of domain None = []
@@ -109,18 +114,67 @@ pub record AreCurrentSeeds (m : Meaning) (seeds : List Seed) : Type 0 where
   pub each : (s : SeededDomain) → Contains seeded s → IsCurrent m s.domain s.current
   pub are : seeds ≡ flat_map seed_in seeded
 
-abbrev pub reseeded : Configuration → List Seed → Configuration
-reseeded c seeds = record { relationships = c.relationships; seeds = seeds }
+-- ---- the floors of the new configuration
 
--- the canonical text of the configuration with the same relationships and these seeds
-pub record IsNewConfig (m : Meaning) (text : List ℕ) : Type 0 where
-  pub seeds : List Seed
-  pub are : AreCurrentSeeds m seeds
-  pub is : text ≡ config_text (reseeded m.config seeds)
+-- The floor that a domain gets, by its current document: the sequence number of that, if it has
+-- one; without a current document the floor that the domain has, if it has one.
+abbrev pub IsRaisedBy : Meaning → List ℕ → (current : Option Bundle) → (floor : Option ℕ) → Type 0
+IsRaisedBy m domain None floor = IsFloorOf m.config domain floor
+IsRaisedBy m domain (Some d) floor = floor ≡ d.rank
+
+-- a domain and the floor that it gets
+pub record FlooredDomain : Type 0 where
+  pub domain : List ℕ
+  pub floor : Option ℕ
+
+pub record IsRaised (m : Meaning) (f : FlooredDomain) : Type 0 where
+  pub current : Option Bundle
+  pub is : IsCurrent m f.domain current
+  pub raised : IsRaisedBy m f.domain current f.floor
+
+abbrev pub floor_of : List ℕ → Option ℕ → List Floor
+floor_of domain None = []
+floor_of domain (Some n) = record { domain = domain; sequence = n } ∷ []
+
+abbrev pub floor_in : FlooredDomain → List Floor
+floor_in f = floor_of f.domain f.floor
+
+-- the floor of each domain of the configuration that gets one, sorted
+pub record AreRaisedFloors (m : Meaning) (floors : List Floor) : Type 0 where
+  pub floored : List FlooredDomain
+  pub domains : AreDomains m.config (map (λ f. f.domain) floored)
+  pub each : (f : FlooredDomain) → Contains floored f → IsRaised m f
+  pub are : floors ≡ flat_map floor_in floored
+
+-- the floors that the configuration has, or the raised ones
+abbrev pub AreNewFloors : FloorChoice → Meaning → List Floor → Type 0
+AreNewFloors Kept m floors = floors ≡ m.config.floors
+AreNewFloors Raised m floors = AreRaisedFloors m floors
+
+-- ---- the new configuration
+
+-- the same relationships, the current documents as seeds, and the chosen floors
+pub record IsNewConfig (choice : FloorChoice) (m : Meaning) (c : Configuration) : Type 0 where
+  pub relationships : c.relationships ≡ m.config.relationships
+  pub seeds : AreCurrentSeeds m c.seeds
+  pub floors : AreNewFloors choice m c.floors
+
+-- exactly n of the receipts that are held fit the configuration
+abbrev pub IsStayCount : Meaning → Configuration → ℕ → Type 0
+IsStayCount m c n = IsCount (λ (r : Receipt). Contains m.held r × IsFitting c r) n
+
+-- its canonical text, and how many of the receipts that are held fit it
+pub record MakesConfig (choice : FloorChoice) (m : Meaning) (text : List ℕ)
+    (staying : ℕ) : Type 0 where
+  pub config : Configuration
+  pub is : IsNewConfig choice m config
+  pub written : text ≡ config_text config
+  pub stay : IsStayCount m config staying
 
 -- ---- a call of `reseed`
 
 -- No domain is refused, and this is the new configuration; or the lines of those that are.
-abbrev pub Reseeds : Meaning → Option (List ℕ) → Reseeded → Type 0
-Reseeds m allowed (NewConfig text) = IsRefusalText m allowed [] × IsNewConfig m text.items
-Reseeds m allowed (Refusals text) = IsRefusalText m allowed text.items × (text.items ≢ [])
+abbrev pub Reseeds : Meaning → Option (List ℕ) → FloorChoice → Reseeded → Type 0
+Reseeds m allowed choice (Seeded new) = IsRefusalText m allowed []
+    × MakesConfig choice m new.text.items new.staying
+Reseeds m allowed choice (Refusals text) = IsRefusalText m allowed text.items × (text.items ≢ [])

@@ -3,9 +3,13 @@
 #![tactic(auto)]
 
 mod doubt;
+pub mod laws;
+mod new_floors;
 mod refusals;
 mod seed_choice;
 mod starting_anew;
+mod staying;
 
 pub use doubt::SeedDoubt;
-pub use starting_anew::{Reseeded, reseed};
+pub use new_floors::FloorChoice;
+pub use starting_anew::{NewConfig, Reseeded, reseed};

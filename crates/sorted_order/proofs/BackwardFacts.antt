@@ -1,4 +1,4 @@
--- Numbers lent from the end: where the last of them stands, and what is left before it
+-- Numbers lent from the end: where the last of them is, and what is left before it
 use Rattle.std.proofs.Common.{◌≡◌, ℕ, zero, suc, ◌+◌, ◌-◌, ◌<◌, ◌≤◌, List, [], ◌∷◌, ◌++◌, length, take}
 use Rattle.std.proofs.Common.{◌==◌, true, eqb-true, refl, sym, subst, ◌∙◌, ap, arith, append_assoc, length-append}
 use Rattle.std.proofs.lemmas.List.{append-nil, take-append-le}
@@ -21,7 +21,7 @@ take-concat (b ∷ bs) (suc i) w at l h e =
     ∙ ap (λ rest. b ++ rest) (take-concat bs i w (length_before bs i + w) (omega arith) h refl)
     ∙ sym (append_assoc b (concat (take i bs)) (take w (block_at bs i))))
 
--- So many numbers here and in the blocks, where they end in a block.
+-- This many numbers here and in the blocks, if they end in a block.
 pub backward_view : (here : List ℕ) (bs : List (List ℕ)) (left i w : ℕ) (b : List ℕ) → length here ≤ left
     → IsSpot bs (left - length here) i w → b ≡ block_at bs i
     → here ++ (concat (take i bs) ++ take w b) ≡ take left (here ++ concat bs)
@@ -40,12 +40,12 @@ half_before (b ∷ bs) (suc i) h = (h.0, half_before bs i h.1)
 pub concat-last : (bs : List (List ℕ)) (b : List ℕ) → concat (bs ++ b ∷ []) ≡ concat bs ++ b
 concat-last bs b = concat-append bs (b ∷ []) ∙ ap (λ rest. concat bs ++ rest) (append-nil b)
 
--- What stands before the last of half full blocks is half full, and so is that.
+-- The blocks before the last of half full blocks are half full, and so is the last.
 pub half_last : (bs : List (List ℕ)) (b : List ℕ) → AreHalfFull (bs ++ b ∷ []) → AreHalfFull bs × (256 ≤ length b)
 half_last [] b h = (tt, h.0)
 half_last (c ∷ bs) b h = let rest = half_last bs b h.1 in ((h.0, rest.0), rest.1)
 
--- Where the last part is empty, the last block takes its place.
+-- If the last part is empty, the last block takes its place.
 pub to_last : (first last : List ℕ) (bs others : List (List ℕ)) (block b : List ℕ) → (length last == 0) ≡ true → bs ≡ others ++ block ∷ []
     → b ≡ block → first ++ (concat bs ++ last) ≡ first ++ (concat others ++ b)
 to_last first [] bs others block b none e f =

@@ -57,19 +57,19 @@ length-halved (b ∷ bs) (suc i) h = ap suc (length-halved bs i (omega arith))
 
 -- ---- the two halves
 
--- After a cut the first half stands where the block stood.
+-- After a cut the first half is where the block was.
 pub first_half : (bs : List (List ℕ)) (i : ℕ) → i < length bs → block_at (halved bs i) i ≡ take 256 (block_at bs i)
 first_half [] i h = absurd (omega arith)
 first_half (b ∷ bs) zero h = refl
 first_half (b ∷ bs) (suc i) h = first_half bs i (omega arith)
 
--- After a cut the second half stands in the next place.
+-- After a cut the second half is in the next place.
 pub second_half : (bs : List (List ℕ)) (i : ℕ) → i < length bs → block_at (halved bs i) (suc i) ≡ drop 256 (block_at bs i)
 second_half [] i h = absurd (omega arith)
 second_half (b ∷ bs) zero h = refl
 second_half (b ∷ bs) (suc i) h = second_half bs i (omega arith)
 
--- A cut does not change what stands before the block.
+-- A cut does not change how many numbers come before the block.
 pub before_first_half : (bs : List (List ℕ)) (i : ℕ) → length_before (halved bs i) i ≡ length_before bs i
 before_first_half [] i = refl
 before_first_half (b ∷ bs) zero = refl
@@ -78,18 +78,18 @@ before_first_half (b ∷ bs) (suc i) =
 
 -- ---- how far it is to the next block, and to the end
 
--- Before the next block stand the numbers of this one too.
+-- Before the next block come the numbers of this one too.
 pub before_next : (bs : List (List ℕ)) (i : ℕ) → i < length bs → length_before bs (suc i) ≡ length_before bs i + length (block_at bs i)
 before_next [] i h = absurd (omega arith)
 before_next (b ∷ bs) zero h = omega (arith, length-append b [])
 before_next (b ∷ bs) (suc i) h =
     omega (arith, before_next bs i (omega arith), length-append b (concat (take i bs)), length-append b (concat (take (suc i) bs)))
 
--- Before the end of the directory stand all numbers.
+-- Before the end of the directory come all numbers.
 pub before_all : (bs : List (List ℕ)) (i : ℕ) → length bs ≤ i → length_before bs i ≡ length (concat bs)
 before_all bs i h = ap (λ rest. length (concat rest)) (take_all i bs h)
 
--- No block stands further on than the sequence is long.
+-- No block begins past the end of the sequence.
 pub before_within : (bs : List (List ℕ)) (i : ℕ) → length_before bs i ≤ length (concat bs)
 before_within [] zero = omega arith
 before_within [] (suc i) = omega arith
@@ -97,19 +97,19 @@ before_within (b ∷ bs) zero = omega arith
 before_within (b ∷ bs) (suc i) =
     omega (arith, before_within bs i, length-append b (concat (take i bs)), length-append b (concat bs))
 
--- ---- what stays half full
+-- ---- what is still half full
 
 -- Inserting a number never shortens a block.
 longer : (b : List ℕ) (w n : ℕ) → length b ≤ length (insert b w n)
 longer b w n = omega (arith, length-append (take w b) (n ∷ drop w b), length-take w b, length-drop w b)
 
--- Blocks that are half full stay so when a number is put in.
+-- Blocks that are half full are still so when a number is put in.
 AreHalfFull-put : (bs : List (List ℕ)) (i w n : ℕ) → AreHalfFull bs → AreHalfFull (put bs i w n)
 AreHalfFull-put [] i w n h = tt
 AreHalfFull-put (b ∷ bs) zero w n h = let half : 256 ≤ length b = h.0 in (omega (arith, longer b w n), h.1)
 AreHalfFull-put (b ∷ bs) (suc i) w n h = (h.0, AreHalfFull-put bs i w n h.1)
 
--- The same where the first block may be less full: this is the invariant of the directory.
+-- The same if the first block may be less full: this is the invariant of the directory.
 pub AreFilled-put : (bs : List (List ℕ)) (i w n : ℕ) → AreFilled bs → AreFilled (put bs i w n)
 AreFilled-put [] i w n h = tt
 AreFilled-put (b ∷ bs) zero w n h = h
@@ -122,7 +122,7 @@ AreHalfFull-halved (b ∷ bs) zero l full h =
     (omega (arith, length-take 256 b), (omega (arith, length-drop 256 b), h.1))
 AreHalfFull-halved (b ∷ bs) (suc i) l full h = (h.0, AreHalfFull-halved bs i (omega arith) full h.1)
 
--- The same where the first block may be less full: this is the invariant of the directory.
+-- The same if the first block may be less full: this is the invariant of the directory.
 pub AreFilled-halved : (bs : List (List ℕ)) (i : ℕ) → i < length bs → 512 ≤ length (block_at bs i) → AreFilled bs → AreFilled (halved bs i)
 AreFilled-halved [] i l full h = absurd (omega arith)
 AreFilled-halved (b ∷ bs) zero l full h = (omega (arith, length-drop 256 b), h)
@@ -191,11 +191,11 @@ drop-concat (b ∷ bs) (suc i) w at l h e =
     ∙ ap (λ rest. drop (length_before bs i + w) rest) (drop_at b (concat bs) (length b) refl)
     ∙ drop-concat bs i w (length_before bs i + w) (omega arith) h refl)
 
--- What a discarded answer means where there was room.
+-- What a discarded answer means if there was room.
 pub if_ok : {A E X : Type 0} (r : Result A E) (xs ys zs : List X) → IsOk r → xs ≡ (if is_ok r then ys else zs) → xs ≡ ys
 if_ok r xs ys zs ok e = rw ok at e
 
--- ---- what the calls over vectors leave, in the words of lists
+-- ---- what the calls over vectors leave, in terms of lists
 
 -- Putting a number into a block that was lent out gives `put`.
 pub put_from : (bs : List (List ℕ)) (i w n : ℕ) (b : List ℕ) → i < length bs → b ≡ slice_index_or bs i b
@@ -243,7 +243,7 @@ half_after [] (suc i) h = tt
 half_after (b ∷ bs) zero h = h
 half_after (b ∷ bs) (suc i) h = half_after bs i h.1
 
--- All blocks after another one are half full, since the first alone may be less full.
+-- All blocks after another one are half full, since only the first may be less full.
 filled_after : (bs : List (List ℕ)) (i : ℕ) → AreFilled bs → AreHalfFull (drop (suc i) bs)
 filled_after [] i h = tt
 filled_after (b ∷ bs) i h = half_after bs i h
@@ -266,14 +266,14 @@ left_view bs at i w n b spot e =
 
 -- ---- the number at a place
 
--- Where the place lies in its block, the number there is the sequence's.
+-- If the place lies in its block, the number there is the sequence's.
 pub first_here : (bs : List (List ℕ)) (i j at : ℕ) → i < length bs → j < length (block_at bs i) → length_before bs i + j ≡ at
     → slice_get (concat bs) at ≡ Some (slice_index (block_at bs i) j)
 first_here bs i j at l h e =
     slice_get-get_or (concat bs) at 0 (omega (arith, before_next bs i l, before_within bs (suc i)))
     ∙ ap Some (concat-at bs i j at l h e)
 
--- Where the place is the end of its block, the number is the first of the next block.
+-- If the place is the end of its block, the number is the first of the next block.
 pub first_next : (bs : List (List ℕ)) (i j : ℕ) → i + 1 < length bs → j ≡ length (block_at bs i) → AreFilled bs
     → slice_get (concat bs) (length_before bs i + j) ≡ Some (slice_index (block_at bs (i + 1)) 0)
 first_next bs i j l h filled =
@@ -282,7 +282,7 @@ first_next bs i j l h filled =
     rw add-one (first_here bs (suc i) 0 (length_before bs i + j) next
     (omega (arith, filled_at bs (suc i) (omega arith) next filled)) (omega (arith, before_next bs i here)))
 
--- Where the place is the end of the last block, nothing stands there.
+-- If the place is the end of the last block, nothing is there.
 pub first_past : (bs : List (List ℕ)) (i j : ℕ) → i < length bs → length bs ≤ i + 1 → j ≡ length (block_at bs i)
     → length (concat bs) ≤ length_before bs i + j
 first_past bs i j here l h = omega (arith, before_next bs i here, before_all bs (suc i) (omega arith))
@@ -312,7 +312,7 @@ first_room bs at i w h = rw (first_half bs i h.spot.listed) (omega (arith, lengt
 pub second_room : (bs : List (List ℕ)) (at i w : ℕ) → IsFull bs at i w → length (block_at (halved bs i) (suc i)) < 512
 second_room bs at i w h = rw (second_half bs i h.spot.listed) (omega (arith, length-drop 256 (block_at bs i), h.full))
 
--- Where the sequence has room and a block is full, a spare block is there to cut it.
+-- If the sequence has room and a block is full, a spare block is there to cut it.
 pub has_spare : (bs : List (List ℕ)) (at i w spare : ℕ) → IsFull bs at i w → AreFilled bs
     → length (concat bs) < 256 * (length bs + spare - 1) → 0 < spare
 has_spare bs at i w spare h filled room = omega (arith, too_many bs i h.spot.listed (omega (arith, h.full)) filled)

@@ -7,8 +7,7 @@ use Rattle.std.specs.List.{AllPairs, AllWithin, insert}
 use Rattle.std.specs.Ordering.{ordering_index}
 use Rattle.sorted_order.specs.Sought.{IsRising}
 
--- Items in the order `less` rise for each search that agrees with that order: the law
--- `order_rises`.
+-- Items in the order `less` are sorted for each search that agrees with it: the law `order_rises`.
 pub order_rises_lem : {T : Type 0} (less : T → T → Bool) (compared : T → Ordering) (items : List T) → AllPairs (λ x y. less x y ≡ true) items
     → ((x y : T) → less x y ≡ true → ordering_index (compared x) ≤ ordering_index (compared y)) → IsRising compared items
 order_rises_lem less compared items all keeps = record {
@@ -27,7 +26,7 @@ IsMoved items at item k d = ((k < at) × (slice_index_or (insert items at item) 
     ⊎ (((k ≡ at) × (slice_index_or (insert items at item) k d ≡ item))
     ⊎ ((at < k) × (slice_index_or (insert items at item) k d ≡ slice_index_or items (k - 1) d)))
 
--- What is read after an insertion is what stood there, the new item, or what stood one earlier.
+-- What is read after an insertion is what was there, the new item, or what was one place earlier.
 moved : {T : Type 0} (items : List T) (at : ℕ) (item : T) (k : ℕ) (d : T) → at ≤ length items → IsMoved items at item k d
 moved items at item k d l =
     elim (cases_lt k at) [

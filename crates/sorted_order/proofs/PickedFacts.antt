@@ -20,11 +20,11 @@ use Rattle.sorted_order.specs.ArenaView.{ArenaView, picked, in_order, Arranges, 
 abbrev pub AreNumbers : {T : Type 0} → List T → List ℕ → Type 0
 AreNumbers items numbers = All (λ number. number < length items) numbers
 
--- Where each number is that of an item, so is each number of the rest.
+-- If each number is that of an item, so is each number of the rest.
 rest_of : {T : Type 0} (items : List T) (n : ℕ) (ns : List ℕ) → AreNumbers items (n ∷ ns) → AreNumbers items ns
 rest_of items n ns all = λ k d h. all (suc k) d (omega arith)
 
--- Where each number is that of an item, so is the first.
+-- If each number is that of an item, so is the first.
 first_of : {T : Type 0} (items : List T) (n : ℕ) (ns : List ℕ) → AreNumbers items (n ∷ ns) → n < length items
 first_of items n ns all = all 0 0 (omega arith)
 
@@ -86,12 +86,12 @@ get_more [] n item h = absurd (omega arith)
 get_more (x ∷ xs) zero item h = refl
 get_more (x ∷ xs) (suc n) item h = get_more xs n item (omega arith)
 
--- The new item stands at the old length.
+-- The new item is at the old length.
 get_last : {T : Type 0} (items : List T) (item : T) → slice_get (items ++ item ∷ []) (length items) ≡ Some item
 get_last [] item = refl
 get_last (x ∷ xs) item = get_last xs item
 
--- The items with the old numbers stay the same.
+-- The items with the old numbers are the same.
 same_picked : {T : Type 0} (items : List T) (ns : List ℕ) (item : T) → AreNumbers items ns → picked (items ++ item ∷ []) ns ≡ picked items ns
 same_picked items [] item all = refl
 same_picked items (n ∷ ns) item all =
@@ -113,22 +113,22 @@ picked-put items ns at n item all e =
     ∙ ap (λ rest. picked items (take at ns) ++ item ∷ rest) (drop-picked items ns at all)
     ∙ ap (λ front. front ++ item ∷ drop at (picked items ns)) (take-picked items ns at all)
 
--- A new item, whose number is inserted at a place, comes to that place in the caller's order.
+-- A new item, whose number is inserted at a place, has that place in the caller's order.
 pub picked-insert : {T : Type 0} (items : List T) (ns : List ℕ) (at : ℕ) (item : T) → AreNumbers items ns
     → picked (items ++ item ∷ []) (insert ns at (length items)) ≡ insert (picked items ns) at item
 picked-insert items ns at item all =
     picked-put (items ++ item ∷ []) ns at (length items) item (more_numbers items ns item all) (get_last items item)
     ∙ ap (λ xs. insert xs at item) (same_picked items ns item all)
 
--- ---- how the numbers stand, and how their items do
+-- ---- how the numbers compare, and how their items do
 
--- The i-th number stands to what is sought as the i-th item does.
+-- The i-th number compares to what is sought as the i-th item does.
 pub compared_is : {T : Type 0} (compared : T → Ordering) (items : List T) (ns : List ℕ) (i d : ℕ) (e : T) → AreNumbers items ns
     → i < length ns → compared_at compared items (slice_index_or ns i d) ≡ compared (slice_index_or (picked items ns) i e)
 compared_is compared items ns i d e all h =
     ap (λ n. compared_at compared items n) (get_or_default ns i d 0 h) ∙ ap (λ found. compared_if compared found) (picked-at items ns i e all h)
 
--- Where the items rise, their numbers do: so a search may go over the numbers.
+-- If the items are sorted, their numbers are: so a search may go over the numbers.
 pub rising_numbers : {T : Type 0} (compared : T → Ordering) (items : List T) (ns : List ℕ) → AreNumbers items ns
     → IsRising compared (picked items ns) → IsRising (λ n. compared_at compared items n) ns
 rising_numbers compared items ns all rises = record {
@@ -183,12 +183,12 @@ All-cons limit n ns h all = λ k d l. elim k as (λ j. j < length (n ∷ ns) →
   | suc j ↦ λ w. all j d (omega arith)
 ] l
 
--- The bound also holds where the number is added only if it passes a test.
+-- The bound also holds if the number is added only when it passes a test.
 All-cond : (b : Bool) (limit n : ℕ) (ns : List ℕ) → n < limit → All (λ m. m < limit) ns → All (λ m. m < limit) (cond b (n ∷ ns) ns)
 All-cond true limit n ns h all = All-cons limit n ns h all
 All-cond false limit n ns h all = all
 
--- Numbers that pass a test stay within the bound of all.
+-- Numbers that pass a test are within the bound of all.
 pub filter_within : (test : ℕ → Bool) (limit : ℕ) (ns : List ℕ) → All (λ n. n < limit) ns → All (λ n. n < limit) (filter test ns)
 filter_within test limit [] all = all
 filter_within test limit (n ∷ ns) all =
@@ -227,7 +227,7 @@ Arranges-insert order count at h l = record {
       ];
 }
 
--- Where the arena's items rise for what is sought, their numbers do: so the search may go over
+-- If the arena's items are sorted for what is sought, their numbers are: so the search may go over
 -- these.
 pub by_rises : {T P : Type 0} (compared : P → T → Ordering) (p q : P) (items lent : List T) (order : List ℕ) (capacity : ℕ) (stock : ArenaView T)
     → record { items = items; order = order; capacity = capacity } ≡ stock → q ≡ p → lent ≡ items → AreNumbers items order
@@ -349,7 +349,7 @@ by_filter {T} {P} compared p q items lent order capacity stock view same_probe s
     rw (same_probe, same_items) (filter-picked (compared p) items order all
     ∙ ap (λ (s : ArenaView T). filter (λ item. is_equal (compared p item)) (in_order s)) view)
 
--- The items in the caller's order are as many as all items.
+-- The number of items in the caller's order is the number of all items.
 pub length-in_order : {T : Type 0} (stock : ArenaView T) → Arranges stock.order (length stock.items) → length (in_order stock) ≡ length stock.items
 length-in_order stock h = length-picked stock.items stock.order h.within ∙ h.counted
 

@@ -22,8 +22,7 @@ All-block P bs i l all = λ k d h.
     concat-at bs i k (length_before bs i + k) l h refl ∙ get_or_default (block_at bs i) k 0 d h in
     subst P same (all (length_before bs i + k) 0 within)
 
--- What stands just before the edge stands before what is sought, also where that is in the block
--- before.
+-- The number just before the edge comes before what is sought, also if it is in the block before.
 edge_before : (compared : ℕ → Ordering) (bs : List (List ℕ)) (i w : ℕ) → AreFilled bs → IsEdgeBlock compared bs i
     → IsBoundary compared (block_at bs i) w → 0 < length_before bs i + w → compared (slice_index (concat bs) (length_before bs i + w - 1)) ≡ Less
 edge_before compared bs zero zero filled block edge p = absurd (omega arith)
@@ -37,8 +36,7 @@ edge_before compared bs i (suc w) filled block edge p =
     subst (λ n. compared (slice_index (block_at bs i) n) ≡ Less) here (edge.before (omega arith)) in
     rw (concat-at bs i w (length_before bs i + suc w - 1) block.within (omega (arith, edge.within)) last) less
 
--- What stands at the edge does not stand before what is sought, also where that is in the next
--- block.
+-- The number at the edge does not come before what is sought, also if it is in the next block.
 edge_after : (compared : ℕ → Ordering) (bs : List (List ℕ)) (i w : ℕ) → AreFilled bs → IsEdgeBlock compared bs i
     → IsBoundary compared (block_at bs i) w → length_before bs i + w < length (concat bs) → compared (slice_index (concat bs) (length_before bs i + w)) ≢ Less
 edge_after compared bs i w filled block edge p =
@@ -72,7 +70,7 @@ less_of Less e = refl
 less_of Equal e = absurd (cc)
 less_of Greater e = absurd (cc)
 
--- Where the last number of the last block stands before what is sought, the end is the edge.
+-- If the last number of the last block comes before what is sought, the end is the edge.
 pub edge_of_end : (compared : ℕ → Ordering) (bs : List (List ℕ)) (i w : ℕ) → i < length bs → length bs ≤ suc i
     → w ≡ length (block_at bs i) → 0 < w → compared (slice_index (block_at bs i) (w - 1)) ≡ Less
     → IsBoundary compared (concat bs) (length_before bs i + w)
@@ -84,7 +82,7 @@ edge_of_end compared bs i w here end whole some less =
       after = λ p. absurd (omega (arith, whole, before_next bs i here, before_all bs (suc i) end, p));
     }
 
--- A place is the edge where the number just before it, which is in its block, stands before what is
+-- A place is the edge if the number just before it, which is in its block, comes before what is
 -- sought, and the number there does not.
 pub edge_beside : (compared : ℕ → Ordering) (bs : List (List ℕ)) (i w : ℕ) → i < length bs → w ≤ length (block_at bs i)
     → (0 < w → compared (slice_index (block_at bs i) (w - 1)) ≡ Less) → (w ≡ 0 → i ≡ 0)
@@ -115,8 +113,8 @@ index_of_less Greater h = absurd (omega arith)
 index_zero : (o : Ordering) → o ≡ Less → ordering_index o ≤ 0
 index_zero o e = rw e (omega arith)
 
--- In a rising list the edge is the gap: all before stand before what is sought, and none after
--- does.
+-- In a sorted list the edge is the gap: all numbers before it come before what is sought, and none
+-- after it does.
 pub gap_of_edge : (compared : ℕ → Ordering) (numbers : List ℕ) (place : ℕ) → IsRising compared numbers
     → IsBoundary compared numbers place → IsGap compared numbers place
 gap_of_edge compared numbers place rises edge = record {
@@ -146,9 +144,9 @@ gap_from compared bs lent items block place before same whole e rises edge =
     let here : IsBoundary compared items (before + place) = rw (e, ← whole, ← same) edge in
     gap_of_edge compared items (before + place) rises here
 
--- ---- what stands at the gap, and after it
+-- ---- what is at the gap, and after it
 
--- What is neither before what is sought nor equal to it stands after it, in indices.
+-- What is neither before what is sought nor equal to it is after it, in indices.
 greater_at : (o : Ordering) → o ≢ Less → o ≢ Equal → 2 ≤ ordering_index o
 greater_at Less l e = absurd (l refl)
 greater_at Equal l e = absurd (e refl)
@@ -160,7 +158,7 @@ greater_from Less h = absurd (omega arith)
 greater_from Equal h = absurd (omega arith)
 greater_from Greater h = refl
 
--- Where an item stands at the gap and is not equal, what is sought is missing.
+-- If an item at the gap is not equal, what is sought is missing.
 pub missing_else : {X : Type 0} (compared : X → Ordering) (items : List X) (place : ℕ) (item : X) → IsRising compared items
     → IsGap compared items place → slice_get items place ≡ Some item → compared item ≢ Equal → IsMissing compared items place
 missing_else compared items place item rises gap at other = record {
@@ -176,7 +174,7 @@ missing_else compared items place item rises gap at other = record {
       greater_from (compared (slice_index_or items k d)) (omega (arith, least, more));
 }
 
--- Where the gap is the end, what is sought is missing.
+-- If the gap is the end, what is sought is missing.
 pub missing_none : {X : Type 0} (compared : X → Ordering) (items : List X) (place : ℕ) → IsGap compared items place
     → slice_get items place ≡ None → IsMissing compared items place
 missing_none compared items place gap none = record {
@@ -187,7 +185,7 @@ missing_none compared items place gap none = record {
       absurd (cc);
 }
 
--- Where nothing at the gap is equal, what is sought is missing.
+-- If nothing at the gap is equal, what is sought is missing.
 pub missing_unless : {X : Type 0} (compared : X → Ordering) (items : List X) (place : ℕ)
     → IsRising compared items
     → IsGap compared items place → ((item : X) → slice_get items place ≡ Some item
@@ -201,7 +199,7 @@ missing_unless compared items place rises gap other = record {
       (missing_else compared items place (slice_index_or items place d) rises gap there not_equal).after k d h l;
 }
 
--- Where the item at the gap is equal, it is the first one found.
+-- If the item at the gap is equal, it is the first one found.
 pub found_at : {X : Type 0} (compared : X → Ordering) (items : List X) (place : ℕ) (item : X) → IsGap compared items place
     → slice_get items place ≡ Some item → compared item ≡ Equal → IsFound compared items place
 found_at compared items place item gap at equal = record {
@@ -210,7 +208,7 @@ found_at compared items place item gap at equal = record {
   here = λ d. ap compared (get_or_from_slice_get items place item d at) ∙ equal;
 }
 
--- Where the number at the edge in the blocks is equal, it is the first one found in the sequence.
+-- If the number at the edge in the blocks is equal, it is the first one found in the sequence.
 pub found_from : (compared : ℕ
     → Ordering) (bs lent : List (List ℕ)) (items : List ℕ) (block place number : ℕ) → lent ≡ bs
     → concat bs ≡ items → IsRising compared items
@@ -227,7 +225,7 @@ found_from compared bs lent items block place number same whole rises edge at eq
       numbered = get_or_from_slice_get items (length_before lent block + place) number 0 there;
     }
 
--- Where the number at the edge is not equal, what is sought is missing in the sequence.
+-- If the number at the edge is not equal, what is sought is missing in the sequence.
 pub missing_from : (compared : ℕ
     → Ordering) (bs lent : List (List ℕ)) (items : List ℕ) (block place before : ℕ) → lent ≡ bs
     → concat bs ≡ items → before ≡ length_before lent block → IsRising compared items
@@ -256,7 +254,8 @@ past_keeps Greater Less h = absurd (omega arith)
 past_keeps Greater Equal h = absurd (omega arith)
 past_keeps Greater Greater h = omega arith
 
--- What rises for what is sought rises for the place just past it: so a second search finds the end.
+-- What is sorted for what is sought is so for the place just past it: a second search finds the
+-- end.
 pub past_rises : {X : Type 0} (compared : X → Ordering) (items : List X) → IsRising compared items
     → IsRising (λ x. past (compared x)) items
 past_rises compared items rises = record {
@@ -264,7 +263,7 @@ past_rises compared items rises = record {
       past_keeps (compared (slice_index_or items i d)) (compared (slice_index_or items j d)) (rises.rising i j d h l);
 }
 
--- What stands before what is sought stands before the place just past it.
+-- What comes before what is sought comes before the place just past it.
 past_less : (o : Ordering) → o ≡ Less → past o ≡ Less
 past_less o e = rw e refl
 
@@ -292,13 +291,13 @@ equal_keeps Less x xs ys l p e = absurd (l refl)
 equal_keeps Equal x xs ys l p e = ap (λ rest. x ∷ rest) e
 equal_keeps Greater x xs ys l p e = absurd (cc)
 
--- What stands before what is sought is not kept.
+-- What comes before what is sought is not kept.
 less_drops : {X : Type 0} (o : Ordering) (x : X) (xs ys : List X) → o ≡ Less → xs ≡ ys → cond (is_equal o) (x ∷ xs) xs ≡ ys
 less_drops Less x xs ys l e = e
 less_drops Equal x xs ys l e = absurd (cc)
 less_drops Greater x xs ys l e = absurd (cc)
 
--- What stands after what is sought is not kept.
+-- What comes after what is sought is not kept.
 greater_drops : {X : Type 0} (o : Ordering) (x : X) (xs ys : List X) → past o ≢ Less → xs ≡ ys → cond (is_equal o) (x ∷ xs) xs ≡ ys
 greater_drops Less x xs ys l e = absurd (l refl)
 greater_drops Equal x xs ys l e = absurd (l refl)

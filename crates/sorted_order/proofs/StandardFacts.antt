@@ -53,11 +53,11 @@ missing zero one e l h = absurd (omega arith)
 missing (suc zero) one e l h = absurd (omega arith)
 missing (suc (suc k)) one e l h = absurd (omega arith)
 
--- An order in which a number stands twice is refused.
+-- An order that has a number twice is refused.
 not_arranged : Arranges (0 ∷ 0 ∷ []) 2 → ⊥
 not_arranged h = let has = h.each 1 (omega arith) in missing has.0 1 refl has.1 has.2
 
--- Of a list just the equal items are kept.
+-- Just the equal items of a list are kept.
 the_twenties : filter (λ n. is_equal (nat_cmp n 20)) (10 ∷ 20 ∷ 20 ∷ 30 ∷ []) ≡ 20 ∷ 20 ∷ []
 the_twenties = refl
 
@@ -69,6 +69,6 @@ not_rising h = let low : 2 ≤ 0 = h.rising 0 1 0 (omega arith) (omega arith) in
 not_the_first : IsFound (λ n. nat_cmp n 20) (20 ∷ 20 ∷ []) 1 → ⊥
 not_the_first h = let less : Equal ≡ Less = h.before 0 0 (omega arith) (omega arith) in cc
 
--- What is equal stands before the place just past it.
+-- What is equal comes before the place just past it.
 just_past : past Equal ≡ Less
 just_past = refl

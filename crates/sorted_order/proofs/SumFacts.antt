@@ -30,12 +30,12 @@ sum_all xs i h = ap sum (take_all i xs h)
 
 -- ---- the numbers before a block, by those before an earlier one
 
--- Without blocks nothing stands before any place.
+-- Without blocks nothing comes before any place.
 none_before : (i : ℕ) → length_before [] i ≡ 0
 none_before zero = refl
 none_before (suc i) = refl
 
--- What stands before a later block stands before an earlier one or in the blocks between.
+-- What comes before a later block comes before an earlier one or is in the blocks between.
 before_sum : (bs : List (List ℕ)) (i j k : ℕ) → i + j ≡ k
     → length_before bs k ≡ length_before bs i + length_before (drop i bs) j
 before_sum bs zero j k e =
@@ -68,7 +68,7 @@ before_from : (bs : List (List ℕ)) (i j : ℕ)
     → length_before bs (i + j) ≡ length_before bs i + length_before (drop i bs) j
 before_from bs i j = before_sum bs i j (i + j) refl
 
--- What stands before a place and what stands from it on is everything.
+-- What comes before a place and what comes from it on is everything.
 before_after : (bs : List (List ℕ)) (i : ℕ)
     → length_before bs i + length (concat (drop i bs)) ≡ length (concat bs)
 before_after bs i =
@@ -152,7 +152,7 @@ before_put_low (b ∷ bs) (suc i) w n (suc k) l =
       length-append b (concat (take k (put bs i w n))),
     )
 
--- Before each later block stands one number more.
+-- Before each later block comes one number more.
 before_put_high : (bs : List (List ℕ)) (i w n k : ℕ) → i < k → i < length bs
     → w ≤ length (block_at bs i)
     → length_before (put bs i w n) k ≡ length_before bs k + 1

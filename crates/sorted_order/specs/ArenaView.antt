@@ -21,13 +21,13 @@ picked items numbers = filter_map (slice_get items) numbers
 abbrev pub in_order : {T : Type 0} → ArenaView T → List T
 in_order stock = picked stock.items stock.order
 
--- Each number below so many stands in the order, and no other, and none twice.
+-- Each number below the count is in the order, and no other, and none twice.
 pub record Arranges (order : List ℕ) (count : ℕ) : Type 0 where
   pub counted : length order ≡ count
   pub within : All (λ number. number < count) order
   pub each : (number : ℕ) → number < count → Contains order number
 
--- how the item with a number stands to what is sought
+-- how the item with a number compares to what is sought
 abbrev pub compared_if : {T : Type 0} → (T → Ordering) → Option T → Ordering
 compared_if compared None = Equal
 compared_if compared (Some item) = compared item
@@ -35,7 +35,7 @@ compared_if compared (Some item) = compared item
 abbrev pub compared_at : {T : Type 0} → (T → Ordering) → List T → ℕ → Ordering
 compared_at compared items number = compared_if compared (slice_get items number)
 
--- The number is that of the first item, in the caller's order, that is in its place.
+-- The number is that of the first item in its place, in the caller's order.
 pub record IsNumber {T : Type 0} (compared : T → Ordering) (stock : ArenaView T)
     (number : ℕ) : Type 0 where
   pub within : number < length stock.items
@@ -44,7 +44,7 @@ pub record IsNumber {T : Type 0} (compared : T → Ordering) (stock : ArenaView 
   pub found : IsFound compared (in_order stock) place
   pub numbered : slice_index stock.order place ≡ number
 
--- what a search answers: the item's number, or the place in the order where it would stand
+-- what a search answers: the item's number, or the place in the order where it would be
 abbrev pub FindsNumber : {T : Type 0} → (T → Ordering) → ArenaView T → Result ℕ ℕ → Type 0
 FindsNumber compared stock result = MatchResult result (IsNumber compared stock)
     (IsMissing compared (in_order stock))

@@ -1,4 +1,4 @@
--- How the items of a list stand to what is sought: `Less` before it, `Equal` in its place,
+-- How the items of a list compare to what is sought: `Less` before it, `Equal` in its place,
 -- `Greater` after it
 use Rattle.std.specs.Prelude.{◌≡◌, ◌≢◌, ℕ, ◌<◌, ◌≤◌, Bool, true, false, List, length, Result}
 use Rattle.std.specs.Prelude.{MatchResult}
@@ -12,27 +12,27 @@ use Rattle.std.specs.Ordering.{ordering_index}
 pub record IsRising {X : Type 0} (compared : X → Ordering) (items : List X) : Type 0 where
   pub rising : IsNonDecreasingBy (λ x. ordering_index (compared x)) items
 
--- The items up to the place stand before it, and no other does.
+-- The items up to the place come before it, and no other does.
 pub record IsGap {X : Type 0} (compared : X → Ordering) (items : List X) (place : ℕ) : Type 0 where
   pub within : place ≤ length items
   pub before : AllWithin (λ x. compared x ≡ Less) items 0 place
   pub after : AllWithin (λ x. compared x ≢ Less) items place (length items)
 
--- The first item in its place stands at this place.
+-- The first item in its place is at this place.
 pub record IsFound {X : Type 0} (compared : X → Ordering) (items : List X)
     (place : ℕ) : Type 0 where
   pub within : place < length items
   pub before : AllWithin (λ x. compared x ≡ Less) items 0 place
   pub here : HoldsAt (λ x. compared x ≡ Equal) items place
 
--- No item is in its place: those up to this place stand before it, and the others after it.
+-- No item is in its place: those up to this place come before it, and the others after it.
 pub record IsMissing {X : Type 0} (compared : X → Ordering) (items : List X)
     (place : ℕ) : Type 0 where
   pub within : place ≤ length items
   pub before : AllWithin (λ x. compared x ≡ Less) items 0 place
   pub after : AllWithin (λ x. compared x ≡ Greater) items place (length items)
 
--- what a search answers: the place where it is, or the place where it would stand
+-- what a search answers: the place where it is, or the place where it would be
 abbrev pub Finds : {X : Type 0} → (X → Ordering) → List X → Result ℕ ℕ → Type 0
 Finds compared items result = MatchResult result (IsFound compared items) (IsMissing compared items)
 

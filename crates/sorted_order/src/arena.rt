@@ -1,4 +1,4 @@
-//! Items in order of arrival, beside the order that the caller gives them. A second order over the
+//! Items in order of arrival, with the order that the caller gives them. A second order over the
 //! same items is an `Order` of its own, searched by `ByItem` and lent by `Lent::new`.
 ghost use Rattle.std.specs.Prelude.{◌≡◌, ℕ, ◌+◌, ◌<◌, ◌≤◌, [], ◌∷◌, ◌++◌, length, drop};
 ghost use Rattle.std.specs.Prelude.{slice_get, IsOk, OnOk, Some};
@@ -14,8 +14,7 @@ use crate::probe::{ByItem, ItemProbe};
 use std::alloc::{AllocError, Global};
 use std::marker::Model;
 
-/// Items that stay where they are, each with the number of those that came before it, beside their
-/// order.
+/// Items that are never moved, each with the number of those that came before it, and their order.
 #[derive(Drop)]
 pub struct Arena<T> {
     items: Vec<T>,
@@ -48,7 +47,7 @@ impl<T> Arena<T> {
         }
     }
 
-    /// How many items there are. Each number below that stands in the order once.
+    /// How many items there are. Each number below that is in the order once.
     pub fn len(&self) -> usize
         ensures len { result ≡ length self.now.items }
         ensures arranged { Arranges self.now.order (length self.now.items) }
@@ -66,8 +65,8 @@ impl<T> Arena<T> {
     /// Makes room for this many more items.
     ///
     /// # Errors
-    /// Memory ran out, or there cannot be so much room, which is for fewer than 2^32 items. All
-    /// items are there still, and only the room may have grown.
+    /// Memory ran out, or there would be room for 2^32 items or more. All items are still there,
+    /// and only the room may have grown.
     pub fn try_reserve(&mut self, items: usize) -> Result<(), AllocError>
         ensures items { self.new.items ≡ self.old.items }
         ensures order { self.new.order ≡ self.old.order }
@@ -129,7 +128,7 @@ impl<T> Arena<T> {
     }
 
     /// The number of the first item in the order that is what is sought, or, as an error, the place
-    /// in the order where it would stand.
+    /// in the order where it would be.
     pub fn find<P: ItemProbe<T>>(&self, probe: &P) -> Result<u32, usize>
         requires { IsRising (P.compared probe.now) (in_order self.now) }
         ensures { FindsNumber (P.compared probe.now) self.now result }
@@ -138,8 +137,8 @@ impl<T> Arena<T> {
             .find_number(&ByItem::new(self.items.as_slice(), probe))
     }
 
-    /// The same, where the place is guessed first, by the hints of the items and, where these are
-    /// equal, by what the caller guesses. So few items are compared whole.
+    /// The same, but the place is guessed first, by the hints of the items and, if these are equal,
+    /// by what the caller guesses. So few items are compared whole.
     pub fn find_by_guess<P: ItemProbe<T> + ItemGuess<T>>(&self, probe: &P) -> Result<u32, usize>
         requires { IsRising (P.compared probe.now) (in_order self.now) }
         ensures { FindsNumber (P.compared probe.now) self.now result }
@@ -148,7 +147,7 @@ impl<T> Arena<T> {
             .find_number_by_guess(&ByItem::new(self.items.as_slice(), probe))
     }
 
-    /// How many items in the order stand before what is sought.
+    /// How many items in the order come before what is sought.
     pub fn before<P: ItemProbe<T>>(&self, probe: &P) -> usize
         requires { IsRising (P.compared probe.now) (in_order self.now) }
         ensures { IsGap (P.compared probe.now) (in_order self.now) result }

@@ -69,7 +69,7 @@ impl<'a> Iterator for Backward<'a> {
     }
 }
 
-/// The same numbers, of which some stand in the last part if there are any.
+/// The same numbers; if there are any, some are in the last part.
 fn last_of<'a>(
     first: &'a [u32],
     blocks: &'a [Block],

@@ -1,4 +1,4 @@
-//! A block: a vector of at most 512 numbers whose room is there from the start, and a hint beside
+//! A block: a vector of at most 512 numbers whose room is there from the start, and a hint for
 //! each. Contracts see it as the list of the numbers.
 ghost use Rattle.std.specs.Prelude.{◌≡◌, ℕ, ◌<◌, ◌≤◌, List, [], length, take, drop, vec_capacity};
 ghost use Rattle.std.specs.Prelude.{IfOk};
@@ -13,8 +13,8 @@ pub(crate) const BLOCK: usize = 512;
 /// Half of them.
 pub(crate) const HALF: usize = 256;
 
-/// Numbers, and for each a hint in the same place. No clause speaks of hints, and that there are as
-/// many is not relied upon.
+/// Numbers, and for each a hint in the same place. No clause speaks of hints, and nothing relies on
+/// their number.
 #[derive(Drop)]
 pub(crate) struct Block {
     numbers: Vec<u32>,
@@ -53,7 +53,7 @@ impl Block {
         self.numbers.as_slice()
     }
 
-    /// The hints beside the numbers.
+    /// The hints of the numbers.
     pub(crate) fn hints(&self) -> &[u64] {
         self.hints.as_slice()
     }
@@ -84,7 +84,7 @@ impl Block {
 
 fn insert_hint(hints: &mut Vec<u64>, at: usize, hint: u64) {
     if at <= hints.len() {
-        // There is room. Where a hint is refused, only guesses are worse.
+        // There is room. If a hint is refused, only guesses are worse.
         let _ = hints.insert(at, hint);
     }
 }
@@ -92,7 +92,7 @@ fn insert_hint(hints: &mut Vec<u64>, at: usize, hint: u64) {
 fn halve_hints(hints: &mut Vec<u64>, spare: &mut Vec<u64>) {
     spare.clear();
     if HALF <= hints.len() {
-        // There is room. Where hints are refused, only guesses are worse.
+        // There is room. If hints are refused, only guesses are worse.
         let _ = spare.extend_from_slice(&hints[HALF..]);
     }
     hints.truncate(HALF);

@@ -26,7 +26,7 @@ pub(crate) fn locate(blocks: &[Block], sums: &[usize], at: usize) -> (usize, usi
     (first + block, place)
 }
 
-/// The same, by the lengths of the blocks alone.
+/// The same, only by the lengths of the blocks.
 pub(crate) fn locate_among(blocks: &[Block], at: usize) -> (usize, usize)
     requires place { at ≤ length (concat blocks.now) }
     requires some { 0 < length blocks.now }
@@ -42,7 +42,7 @@ pub(crate) fn locate_among(blocks: &[Block], at: usize) -> (usize, usize)
     (block, within)
 }
 
-/// Puts a number into the sequence, and its hint beside it.
+/// Puts a number and its hint into the sequence.
 pub(crate) fn put_number(
     blocks: &mut Vec<Block>,
     spare: &mut Vec<Block>,

@@ -1,5 +1,5 @@
-//! Guesses of where what is sought stands. They are made by parts of what is compared, and believed
-//! only where comparisons beside the place show that they hold.
+//! Guesses of where what is sought is. They are made by parts of what is compared, and believed
+//! only if comparisons next to the place show that they hold.
 ghost use Rattle.std.specs.Prelude.{◌≡◌, ◌≢◌, ℕ, ◌+◌, ◌-◌, ◌<◌, ◌≤◌, length};
 ghost use Rattle.std.specs.Prelude.{slice_get, slice_index, Some, IsTrue};
 ghost use Rattle.std.specs.List.{All, concat};
@@ -16,35 +16,35 @@ use std::cmp::Ordering;
 /// sought.
 #[derive(Clone, Copy, Debug)]
 pub struct Agreed {
-    /// That of the nearest one that seems to stand before it.
+    /// That of the nearest one that seems to come before it.
     pub before: usize,
     /// That of the nearest other one.
     pub after: usize,
 }
 
-/// Guesses where numbers stand, for those who seek by a hint, and by a text or a number where hints
-/// are equal. No clause speaks of it: where a guess does not hold, the search compares.
+/// Guesses where numbers are, for those who seek by a hint, and by a text or a number if hints are
+/// equal. No clause speaks of it: if a guess does not hold, the search compares.
 pub trait Guess {
-    /// What is known of the place of what is sought beforehand. Where it can tell, it rises with
-    /// the order. Each number has the hint that it was inserted with.
+    /// What is known beforehand of the place of what is sought. As far as hints differ, they grow
+    /// with the order. Each number has the hint that it was inserted with.
     fn hint(&self) -> u64;
 
-    /// Whether the number, which stands between those on both sides, seems to stand before what is
+    /// Whether the number, which is between those on both sides, seems to come before what is
     /// sought; and on how many bytes their texts seem to agree. It is asked only of numbers with
     /// the same hint.
     fn guess(&self, number: u32, agreed: Agreed) -> (bool, usize);
 }
 
-/// Guesses where items stand, for those who seek by a hint, and by a text or a number where hints
-/// are equal. No clause speaks of it: where a guess does not hold, the search compares.
+/// Guesses where items are, for those who seek by a hint, and by a text or a number if hints are
+/// equal. No clause speaks of it: if a guess does not hold, the search compares.
 pub trait ItemGuess<T> {
-    /// What is known of the place of what is sought beforehand. Where it can tell, it rises with
-    /// the order. Each item has the hint that it was inserted with.
+    /// What is known beforehand of the place of what is sought. As far as hints differ, they grow
+    /// with the order. Each item has the hint that it was inserted with.
     fn hint(&self) -> u64;
 
-    /// Whether the item, which stands between those on both sides, seems to stand before what is
-    /// sought; and on how many bytes their texts seem to agree. It is asked only of items with the
-    /// same hint.
+    /// Whether the item, which is between those on both sides, seems to come before what is sought;
+    /// and on how many bytes their texts seem to agree. It is asked only of items with the same
+    /// hint.
     fn guess(&self, item: &T, agreed: Agreed) -> (bool, usize);
 }
 
@@ -61,10 +61,10 @@ impl<'a, T, P: ItemGuess<T>> Guess for ByItem<'a, T, P> {
     }
 }
 
-/// How one text, which stands between those on both sides, seems to stand to the other, which is
-/// sought: by the first byte that seems to differ. And on how many bytes they seem to agree. Where
-/// one side agrees on more bytes than the other only samples of those are read, so nothing is
-/// promised of a guess.
+/// How one text, which is between those on both sides, seems to compare to the other, which is
+/// sought: by the first byte that seems to differ. And on how many bytes they seem to agree. If one
+/// side agrees on more bytes than the other, only samples of those are read, so nothing is promised
+/// of a guess.
 pub fn guess_text(one: &[u8], other: &[u8], agreed: Agreed) -> (Ordering, usize) {
     let place = agreement(one, other, agreed);
     match (one.get(place), other.get(place)) {
@@ -75,7 +75,7 @@ pub fn guess_text(one: &[u8], other: &[u8], agreed: Agreed) -> (Ordering, usize)
     }
 }
 
-/// How many bytes are compared at once.
+/// How many bytes are compared in one step.
 const STRIDE: usize = 64;
 
 /// From sample to sample, and how many bytes a sample has. Texts of two RSA keys mostly differ in
@@ -99,7 +99,7 @@ fn agreement(one: &[u8], other: &[u8], agreed: Agreed) -> usize {
     place
 }
 
-/// Where the first byte that differs is to be looked for: behind the samples in which the texts
+/// From where the first byte that differs is to be looked for: after the samples in which the texts
 /// agree.
 fn sampled(one: &[u8], other: &[u8], near: usize, far: usize) -> usize
     requires order { near ≤ far }
@@ -124,7 +124,7 @@ fn is_same(one: &[u8], other: &[u8], place: usize, bytes: usize) -> bool
     one[place..place + bytes] == other[place..place + bytes]
 }
 
-/// The same as [`crate::search::edge`], by a guess where that holds.
+/// The same as [`crate::search::edge`], by a guess if that holds.
 pub(crate) fn edge_by_guess<P: Probe + Guess>(blocks: &[Block], probe: &P) -> (usize, usize)
     requires some { 0 < length blocks.now }
     requires filled { AreFilled blocks.now }
@@ -144,7 +144,7 @@ pub(crate) fn edge_by_guess<P: Probe + Guess>(blocks: &[Block], probe: &P) -> (u
     edge_among(blocks, probe)
 }
 
-/// Whether the place is where what is sought would stand. A yes is sure.
+/// Whether the place is where what is sought would be. A yes is sure.
 fn is_edge<P: Probe>(blocks: &[Block], probe: &P, block: usize, place: usize) -> bool
     requires filled { AreFilled blocks.now }
     requires known { All (P.knows probe.now) (concat blocks.now) }
@@ -166,7 +166,7 @@ fn is_edge<P: Probe>(blocks: &[Block], probe: &P, block: usize, place: usize) ->
     }
 }
 
-/// Whether the number just before the place, which is in the same block, stands before what is
+/// Whether the number just before the place, which is in the same block, comes before what is
 /// sought, or there is none before.
 fn is_past<P: Probe>(blocks: &[Block], probe: &P, block: usize, place: usize) -> bool
     requires block { block < length blocks.now }
@@ -183,7 +183,7 @@ fn is_past<P: Probe>(blocks: &[Block], probe: &P, block: usize, place: usize) ->
     probe.compare(numbers[place - 1]).is_lt()
 }
 
-/// Whether the number at the place does not stand before what is sought, or there is none.
+/// Whether the number at the place does not come before what is sought, or there is none.
 fn is_not_past<P: Probe>(blocks: &[Block], probe: &P, block: usize, place: usize) -> bool
     requires block { block < length blocks.now }
     requires place { place ≤ length (block_at blocks.now block) }
@@ -239,7 +239,7 @@ fn guessed_block<G: Guess>(blocks: &[Block], guess: &G, known: &mut Known) -> us
     low
 }
 
-/// How many numbers of the block seem to stand before what is sought.
+/// How many numbers of the block seem to come before what is sought.
 fn guessed_place<G: Guess>(block: &Block, guess: &G, known: &mut Known) -> usize {
     let mut low = 0;
     let mut high = block.len();
@@ -254,8 +254,8 @@ fn guessed_place<G: Guess>(block: &Block, guess: &G, known: &mut Known) -> usize
     low
 }
 
-/// Whether the number at the place seems to stand before what is sought. The caller is asked only
-/// where its hint is that of what is sought.
+/// Whether the number at the place seems to come before what is sought. The caller is asked only if
+/// its hint is that of what is sought.
 fn seems_before<G: Guess>(block: &Block, place: usize, guess: &G, known: &mut Known) -> bool {
     let Some(hint) = block.hints().get(place) else {
         return false;
@@ -267,8 +267,8 @@ fn seems_before<G: Guess>(block: &Block, place: usize, guess: &G, known: &mut Kn
     }
 }
 
-/// Whether the number is guessed to stand before what is sought. On how many bytes they agree is
-/// kept.
+/// Whether the number is guessed to come before what is sought. It keeps on how many bytes they
+/// agree.
 fn is_guessed_before<G: Guess>(number: Option<&u32>, guess: &G, known: &mut Known) -> bool {
     let Some(number) = number else {
         return false;

@@ -6,8 +6,8 @@ ghost use Rattle.std.specs.Ordering.{ordering_index};
 ghost use Rattle.sorted_order.specs.Sought.{IsRising};
 ghost use Rattle.sorted_order.specs.ArenaView.{ArenaView, Arranges, in_order};
 
-/// A list in order rises under what is sought, where no item that stands before another is further
-/// on under it.
+/// A list in order is sorted for what is sought, if of two items the earlier never compares greater
+/// to it than the later.
 pub fn order_rises<T>()
     ensures { (less : T → T → Bool) (compared : T → Ordering) (items : List T)
         → AllPairs (λ x y. less x y ≡ true) items
@@ -15,7 +15,7 @@ pub fn order_rises<T>()
         → IsRising compared items }
 {}
 
-/// A list in order stays so when an item is put after those that stand before it, and before the
+/// A list in order is still so when an item is put after those that come before it, and before the
 /// others.
 pub fn insertion_keeps_order<T>()
     ensures { (less : T → T → Bool) (items : List T) (at : ℕ) (item : T) → at ≤ length items
@@ -25,7 +25,7 @@ pub fn insertion_keeps_order<T>()
         → AllPairs (λ x y. less x y ≡ true) (insert items at item) }
 {}
 
-/// As many items stand in order as there are.
+/// The number of items in order is the number of items.
 pub fn each_item_is_in_order<T>()
     ensures { (stock : ArenaView T) → Arranges stock.order (length stock.items)
         → length (in_order stock) ≡ length stock.items }

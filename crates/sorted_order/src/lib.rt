@@ -1,5 +1,5 @@
-//! Numbers in an order that the caller gives, in which an insertion stays cheap however many there
-//! are, and items in order of arrival beside their order.
+//! Numbers in an order that the caller gives, in which an insertion is cheap however many there
+//! are, and items in order of arrival with their order.
 #![tactic(auto)]
 
 mod arena;

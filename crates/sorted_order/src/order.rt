@@ -2,9 +2,9 @@
 //! count.
 //!
 //! Each block but the first is at least half full. The blocks, spare ones among them, number at
-//! most one for each 256 numbers of capacity and one more. So where there is room, a full block
-//! means that a spare one is left, and insertion needs no memory. A number of capacity costs 24
-//! bytes: 8 for numbers and 16 for the hints beside them.
+//! most one for each 256 numbers of capacity and one more. So if there is room, a full block means
+//! that a spare one is left, and insertion needs no memory. A number of capacity costs 24 bytes: 8
+//! for numbers and 16 for their hints.
 ghost use Rattle.std.specs.Prelude.{◌≡◌, ℕ, ◌+◌, ◌-◌, ◌*◌, ◌^◌, ◌<◌, ◌≤◌, [], length, take, drop};
 ghost use Rattle.std.specs.Prelude.{slice_get, slice_index, min, IsOk, OnOk};
 ghost use Rattle.std.specs.List.{All, filter, insert};
@@ -28,14 +28,14 @@ const MOST_BLOCKS: usize = 16_777_216;
 const MOST_NUMBERS: usize = 4_294_967_040;
 
 /// Numbers of 32 bits in the order that the caller gives, each with a hint, by which a search can
-/// guess a place without looking at what the numbers stand for.
+/// guess a place without looking at what the numbers mean.
 ///
-/// They lie in blocks of at most 512, and beside these stands a sum for each group of 64 blocks. A
-/// place is found by passing over the sums of the groups before it, at most one for each 16,000
-/// numbers and one more, and over the lengths of at most 64 blocks. An insertion looks at those,
-/// raises one sum, and moves at most 6 KiB of numbers and hints. Where it finds a full block, at
-/// most once in 256 insertions on average, it cuts that into halves, moves the directory's entries
-/// after it and makes all sums anew.
+/// They lie in blocks of at most 512, and there is a sum for each group of 64 blocks. A place is
+/// found by passing over the sums of the groups before it, at most one for each 16,000 numbers and
+/// one more, and over the lengths of at most 64 blocks. An insertion looks at those, raises one
+/// sum, and moves at most 6 KiB of numbers and hints. If it finds a full block, at most once in 256
+/// insertions on average, it cuts that into halves, moves the directory's entries after it and
+/// makes all sums again.
 #[derive(Drop)]
 pub struct Order {
     blocks: Vec<Block>,
@@ -91,11 +91,11 @@ impl Order {
         HALF * blocks.saturating_sub(1) - self.len()
     }
 
-    /// Makes room for this many more numbers. Where there is not so much room, it at least doubles
-    /// what there is room for in all, so far as there can be room: for fewer than 2^32 numbers.
+    /// Makes room for this many more numbers. If the room is not there yet, it at least doubles the
+    /// room in all, as far as there can be room: for fewer than 2^32 numbers.
     ///
     /// # Errors
-    /// Memory ran out, or there cannot be so much room. All numbers are there still, and only the
+    /// Memory ran out, or there cannot be that much room. All numbers are still there, and only the
     /// room may have grown.
     pub fn try_reserve(&mut self, numbers: usize) -> Result<(), AllocError>
         ensures items { self.new.items ≡ self.old.items }
@@ -116,8 +116,8 @@ impl Order {
         add_blocks(&mut self.blocks, &mut self.spare, &mut self.sums, wanted)
     }
 
-    /// So many numbers more are to be fewer than 2^32 in all: past that it asks for a growth that
-    /// is always refused.
+    /// With this many more there have to be fewer than 2^32 numbers: past that it asks for a growth
+    /// that is always refused.
     fn try_count(&mut self, numbers: usize) -> Result<(), AllocError>
         ensures same { self.new ≡ self.old }
         ensures ok { OnOk result (length self.new.items + numbers ≤ 4294967040) }
@@ -128,7 +128,7 @@ impl Order {
         Ok(())
     }
 
-    /// Puts a number at a place: those from there on stand one place later. It takes no memory. Its
+    /// Puts a number at a place: those from there on move one place on. It takes no memory. Its
     /// hint is 0.
     pub fn insert(&mut self, at: usize, number: u32)
         requires place { at ≤ length self.old.items }
@@ -176,7 +176,7 @@ impl Order {
         Numbers::new(self.blocks.as_slice(), self.sums.as_slice(), at, numbers)
     }
 
-    /// How many numbers stand before what is sought.
+    /// How many numbers come before what is sought.
     pub fn before<P: Probe>(&self, probe: &P) -> usize
         requires known { All (P.knows probe.now) self.now.items }
         requires rising { IsRising (P.compared probe.now) self.now.items }
@@ -186,7 +186,7 @@ impl Order {
         place
     }
 
-    /// The first place of what is sought, or, as an error, the place where it would stand.
+    /// The first place of what is sought, or, as an error, the place where it would be.
     pub fn find<P: Probe>(&self, probe: &P) -> Result<usize, usize>
         requires known { All (P.knows probe.now) self.now.items }
         requires rising { IsRising (P.compared probe.now) self.now.items }
@@ -203,7 +203,7 @@ impl Order {
         }
     }
 
-    /// The same, where the place is guessed first, by the hints of the numbers and, where these are
+    /// The same, but the place is guessed first, by the hints of the numbers and, if these are
     /// equal, by what the caller guesses. So few numbers are compared whole.
     pub fn find_by_guess<P: Probe + Guess>(&self, probe: &P) -> Result<usize, usize>
         requires known { All (P.knows probe.now) self.now.items }
@@ -234,7 +234,7 @@ impl Order {
     }
 
     /// The first number in the place of what is sought, or, as an error, the place where it would
-    /// stand. Where it finds one it adds up no lengths.
+    /// be. If it finds one it adds up no lengths.
     pub(crate) fn find_number<P: Probe>(&self, probe: &P) -> Result<u32, usize>
         requires known { All (P.knows probe.now) self.now.items }
         requires rising { IsRising (P.compared probe.now) self.now.items }
@@ -251,7 +251,7 @@ impl Order {
         }
     }
 
-    /// The same, where the place is guessed first. So few numbers are compared whole.
+    /// The same, but the place is guessed first. So few numbers are compared whole.
     pub(crate) fn find_number_by_guess<P: Probe + Guess>(&self, probe: &P) -> Result<u32, usize>
         requires known { All (P.knows probe.now) self.now.items }
         requires rising { IsRising (P.compared probe.now) self.now.items }
@@ -268,7 +268,7 @@ impl Order {
         }
     }
 
-    /// How many numbers stand before what is sought, and the number that stands after those.
+    /// How many numbers come before what is sought, and the number after those.
     pub(crate) fn seek<P: Probe>(&self, probe: &P) -> (usize, Option<u32>)
         requires known { All (P.knows probe.now) self.now.items }
         requires rising { IsRising (P.compared probe.now) self.now.items }
@@ -287,7 +287,7 @@ impl Order {
         )
     }
 
-    /// The same, where the place is guessed first.
+    /// The same, but the place is guessed first.
     fn seek_by_guess<P: Probe + Guess>(&self, probe: &P) -> (usize, Option<u32>)
         requires known { All (P.knows probe.now) self.now.items }
         requires rising { IsRising (P.compared probe.now) self.now.items }

@@ -7,14 +7,14 @@ use std::cmp::Ordering;
 pub trait Probe {
     ghost use Rattle.std.specs.declared.cmp.Ordering.{Ordering};
 
-    // How a number stands to what is sought: `Less` before it, `Equal` in its place, `Greater`
+    // How a number compares to what is sought: `Less` before it, `Equal` in its place, `Greater`
     // after it.
     ghost compared: { Self → ℕ → Ordering };
 
     // Whether the number can be compared.
     ghost knows: { Self → ℕ → Type 0 };
 
-    /// How the number stands to what is sought: `Less` before it, `Equal` in its place, `Greater`
+    /// How the number compares to what is sought: `Less` before it, `Equal` in its place, `Greater`
     /// after it.
     fn compare(&self, number: u32) -> Ordering
         requires { knows self.now number }
@@ -25,11 +25,11 @@ pub trait Probe {
 pub trait ItemProbe<T> {
     ghost use Rattle.std.specs.declared.cmp.Ordering.{Ordering};
 
-    // How an item stands to what is sought: `Less` before it, `Equal` in its place, `Greater` after
-    // it.
+    // How an item compares to what is sought: `Less` before it, `Equal` in its place, `Greater`
+    // after it.
     ghost compared: { Self → T → Ordering };
 
-    /// How the item stands to what is sought: `Less` before it, `Equal` in its place, `Greater`
+    /// How the item compares to what is sought: `Less` before it, `Equal` in its place, `Greater`
     /// after it.
     fn compare(&self, item: &T) -> Ordering
         ensures { result ≡ compared self.now item.now };
@@ -38,7 +38,7 @@ pub trait ItemProbe<T> {
 /// What is sought among numbers of items, by those items.
 #[derive(Drop)]
 pub struct ByItem<'a, T, P> {
-    /// The items that the numbers stand for.
+    /// The items that the numbers are of.
     pub items: &'a [T],
     /// What is sought.
     pub probe: &'a P,
@@ -67,7 +67,7 @@ impl<'a, T, P: ItemProbe<T>> Probe for ByItem<'a, T, P> {
     }
 }
 
-/// Seeks the place just past what is sought: what would be in its place stands before it.
+/// Seeks the place just past what is sought: what would be in its place comes before it.
 #[derive(Drop)]
 pub(crate) struct Past<'a, P> {
     probe: &'a P,

@@ -10,8 +10,8 @@ ghost use Rattle.sorted_order.specs.Inside.Seeking.{FindsAt};
 use crate::block::Block;
 use crate::probe::Probe;
 
-/// Where what is sought would stand: a block, and a place in it. Items often come in their order,
-/// so it looks at the last number first.
+/// Where what is sought would be: a block, and a place in it. Items often come in their order, so
+/// it looks at the last number first.
 pub(crate) fn edge<P: Probe>(blocks: &[Block], probe: &P) -> (usize, usize)
     requires some { 0 < length blocks.now }
     requires filled { AreFilled blocks.now }
@@ -27,7 +27,7 @@ pub(crate) fn edge<P: Probe>(blocks: &[Block], probe: &P) -> (usize, usize)
     edge_among(blocks, probe)
 }
 
-/// The end, if there are numbers and the last of them stands before what is sought.
+/// The end, if there are numbers and the last of them comes before what is sought.
 pub(crate) fn edge_at_end<P: Probe>(blocks: &[Block], probe: &P) -> Option<(usize, usize)>
     requires some { 0 < length blocks.now }
     requires known { All (P.knows probe.now) (concat blocks.now) }
@@ -81,7 +81,7 @@ fn edge_block<P: Probe>(blocks: &[Block], probe: &P) -> usize
     low
 }
 
-/// How many numbers of the block stand before what is sought.
+/// How many numbers of the block come before what is sought.
 fn edge_in<P: Probe>(numbers: &[u32], probe: &P) -> usize
     requires { All (P.knows probe.now) numbers.now }
     ensures { IsBoundary (P.compared probe.now) numbers.now result }
@@ -99,7 +99,7 @@ fn edge_in<P: Probe>(numbers: &[u32], probe: &P) -> usize
     low
 }
 
-/// The number that stands there in the sequence, if there is one.
+/// The number at that place of the sequence, if there is one.
 pub(crate) fn first_from(blocks: &[Block], block: usize, place: usize) -> Option<u32>
     requires block { block < length blocks.now }
     requires place { place ≤ length (block_at blocks.now block) }
@@ -115,7 +115,7 @@ pub(crate) fn first_from(blocks: &[Block], block: usize, place: usize) -> Option
     None
 }
 
-/// The number that stands there in the sequence, if it is in the place of what is sought.
+/// The number at that place of the sequence, if it is in the place of what is sought.
 pub(crate) fn equal_from<P: Probe>(
     blocks: &[Block],
     block: usize,

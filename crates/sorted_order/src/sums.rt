@@ -30,7 +30,7 @@ pub(crate) fn group_at(sums: &[usize], at: usize) -> (usize, usize)
     (group, within)
 }
 
-/// How many numbers stand before a block.
+/// How many numbers come before a block.
 pub(crate) fn length_before_block(blocks: &[Block], sums: &[usize], block: usize) -> usize
     requires block { block ≤ length blocks.now }
     requires few { length (concat blocks.now) < 2 ^ 64 }
@@ -70,7 +70,7 @@ pub(crate) fn count_one(sums: &mut [usize], block: usize)
     sums[block / GROUP] += 1;
 }
 
-/// Makes all sums anew.
+/// Makes all sums again.
 pub(crate) fn sum_up(blocks: &[Block], sums: &mut [usize])
     requires all { length blocks.now ≤ 64 * length sums.old }
     requires few { length (concat blocks.now) < 2 ^ 64 }

@@ -12,7 +12,7 @@ use Rattle.spiffe_name.specs.SpiffeId.{IsSegment, FaultInSegment, is_empty_or_mo
 use Rattle.spiffe_name.specs.declared.error.NameError.{NameError}
 use Rattle.spiffe_name.specs.declared.error.NameError.TheVariants.{Empty, TooLong, BadScheme, BadDomainByte, BadPath, NoMemory}
 
--- where all bytes pass a test, none fails it
+-- if all bytes pass a test, none fails it
 pub not_all : (test : ℕ → Bool) (text : List ℕ) (n : ℕ) → AllPass test text → FirstFails test text n → ⊥
 not_all test text n all f = let h = All-get_or (λ b. test b ≡ true) text n 0 f.within all in let e = f.fails in cc
 
@@ -55,7 +55,7 @@ one_domain_error text NoMemory Empty p q = let some = p.some in absurd (omega (a
 one_domain_error text NoMemory TooLong p q = let limit = p.limit in absurd (omega arith)
 one_domain_error text NoMemory (BadDomainByte n) p q = absurd (not_all is_domain_byte text n p.bytes q.1)
 
--- the empty segment and the relative path modifiers have good bytes only, so the two faults of a
+-- the empty segment and the relative path modifiers have good bytes only, so the two errors of a
 -- segment exclude each other
 modifier_passes : (segment : List ℕ) → is_empty_or_modifier segment ≡ true → AllPass is_segment_byte segment
 modifier_passes segment h =
@@ -66,14 +66,14 @@ modifier_passes segment h =
     (passes (codes "..") refl)
     (or_cases _ _ h)
 
--- a segment has one fault at most
+-- a segment has one error at most
 pub one_segment_fault : (segment : List ℕ) (m n : ℕ) → FaultInSegment segment m → FaultInSegment segment n → m ≡ n
 one_segment_fault segment m n (inl f) (inl g) = one_first is_segment_byte segment m n f g
 one_segment_fault segment m n (inl f) (inr g) = absurd (not_all is_segment_byte segment m (modifier_passes segment g.0) f)
 one_segment_fault segment m n (inr f) (inl g) = absurd (not_all is_segment_byte segment n (modifier_passes segment f.0) g)
 one_segment_fault segment m n (inr f) (inr g) = f.1 ∙ sym g.1
 
--- a good segment has no fault
+-- a good segment has no error
 pub no_segment_fault : (segment : List ℕ) (n : ℕ) → IsSegment segment → FaultInSegment segment n → ⊥
 no_segment_fault segment n good (inl f) = not_all is_segment_byte segment n good.bytes f
 no_segment_fault segment n good (inr f) = let e = good.named in let h = f.0 in cc

@@ -11,7 +11,7 @@ use Rattle.spiffe_name.proofs.SlashFacts.{same_split, IsCharBoundary-at_slash}
 use Rattle.spiffe_name.proofs.FaultFacts.{one_domain_error}
 use Rattle.spiffe_name.proofs.PathFacts.{EmptyOrSlash-path, no_slash_in_domain, one_fault, no_fault}
 
--- the scheme and the domain together are as long as both: there the path begins
+-- the length of the scheme and the domain together, at which the path begins
 length-front : (domain : List ℕ) → length (scheme ++ domain) ≡ length scheme + length domain
 length-front domain = length-append scheme domain
 
@@ -26,8 +26,7 @@ pub path_is : (text domain path : List ℕ) → IsIdText text domain path → dr
 path_is text domain path id =
     rw (id.whole ∙ sym (append_assoc scheme domain path)) (drop_at (scheme ++ domain) path (length scheme + length domain) (length-front domain))
 
--- an ID is one with what follows the scheme and the domain as its path, which is how the code cuts
--- it
+-- the path of an ID is what follows the scheme and the domain: so the code cuts it
 pub IsIdText-at : (text domain path : List ℕ) → IsIdText text domain path → IsIdText text domain (drop (length scheme + length domain) text)
 IsIdText-at text domain path id = subst (IsIdText text domain) (sym (path_is text domain path id)) id
 
@@ -54,7 +53,7 @@ same_parts text domain path other more p q =
 pub one_id : (text domain path other more : List ℕ) → IsIdText text domain path → IsIdText text other more → (domain ≡ other) × (path ≡ more)
 one_id text domain path other more p q = same_parts text domain path other more (parts_of text domain path p) (parts_of text other more q)
 
--- why a text with these parts is no ID, or that it is one
+-- why a text with these parts is not an ID, or that it is one
 data Behind (domain path : List ℕ) : NameError → Type 0 where
   in_domain : {e : NameError} → RefusesDomain domain e → e ≢ NoMemory → Behind domain path (moved (length scheme) e)
   in_path : {n : ℕ} → IsDomainText domain → FirstFault path n → Behind domain path (BadPath (length scheme + length domain + n))
@@ -72,7 +71,7 @@ one_behind domain path (nowhere p f) (in_domain {e} q y) = absurd (y (one_domain
 one_behind domain path (nowhere p f) (in_path {n} q g) = absurd (no_fault path n f g)
 one_behind domain path (nowhere p f) (nowhere q g) = refl
 
--- why a text is no ID, or that it is one
+-- why a text is not an ID, or that it is one
 data Cause (text : List ℕ) : NameError → Type 0 where
   nothing : text ≡ [] → Cause text Empty
   long : 2048 < length text → Cause text TooLong

@@ -1,4 +1,4 @@
--- A path as far as it is read, and the one fault that it may have.
+-- A path as far as it is read, and the one error that it may have.
 use Rattle.std.proofs.Common.{◌≡◌, ◌≢◌, ℕ, ◌+◌, true, List, [], ◌∷◌, ◌++◌, length, refl, sym, ◌∙◌, ap, subst, arith}
 use Rattle.std.proofs.lemmas.List.{append-nil, append_assoc, length-append}
 use Rattle.std.proofs.lemmas.List.Concat.{flat_map-append}
@@ -51,12 +51,12 @@ Reads-more path rest after segment next r e split good = record {
   slash = split.slash;
 }
 
--- a rest that does not begin with a slash, though it is empty or does, is empty
+-- a rest that is empty or begins with a slash, and does not begin with one, is empty
 no_rest : (rest : List ℕ) → EmptyOrSlash rest → ((more : List ℕ) → rest ≢ 47 ∷ more) → rest ≡ []
 no_rest [] slash none = refl
 no_rest (b ∷ rest) slash none = absurd (none rest (ap (λ x. x ∷ rest) slash))
 
--- where no slash follows, all is read
+-- if no slash follows, all is read
 pub IsPath-read : (path rest : List ℕ) → Reads path rest → ((more : List ℕ) → rest ≢ 47 ∷ more) → IsPath path
 IsPath-read path rest r none = record {
   segments = r.front;
@@ -66,7 +66,7 @@ IsPath-read path rest r none = record {
       ∙ append-nil (path_of_segments r.front);
 }
 
--- a rest that is empty or begins with a slash stays so with segments in front
+-- a rest that is empty or begins with a slash is still so with segments in front
 EmptyOrSlash-front : (segments : List (List ℕ)) (rest : List ℕ) → EmptyOrSlash rest → EmptyOrSlash (path_of_segments segments ++ rest)
 EmptyOrSlash-front [] rest h = h
 EmptyOrSlash-front (s ∷ segments) rest h = refl
@@ -79,7 +79,7 @@ next_segment s front x segment rest a b c d e =
     let tails : (s ++ path_of_segments front) ++ x ≡ segment ++ rest = cc in
     same_split s (path_of_segments front ++ x) segment rest a (EmptyOrSlash-front front x b) c d (sym (append_assoc s (path_of_segments front) x) ∙ tails)
 
--- the first faults of two equal paths are at one place
+-- the first errors of two equal paths are at one place
 faults_meet : (front other : List (List ℕ)) → AllByRecursion IsSegment front → AllByRecursion IsSegment other
     → (segment rest : List ℕ) → AllPass is_not_slash segment → EmptyOrSlash rest → (m : ℕ) → FaultInSegment segment m
     → (apart more : List ℕ) → AllPass is_not_slash apart → EmptyOrSlash more → (n : ℕ) → FaultInSegment apart n
@@ -103,12 +103,12 @@ faults_meet (s ∷ front) (t ∷ other) p q segment rest a b m f apart more c d 
     let fronts = ap length same.0 in
     rw (length-append s (path_of_segments front), length-append t (path_of_segments other)) (omega arith)
 
--- a path has one first fault at most
+-- a path has one first error at most
 pub one_fault : (path : List ℕ) (m n : ℕ) → FirstFault path m → FirstFault path n → m ≡ n
 one_fault path m n f g = f.counted ∙ faults_meet f.front g.front f.each g.each f.segment f.rest f.no_slash f.slash
     f.offset f.fault g.segment g.rest g.no_slash g.slash g.offset g.fault (sym f.whole ∙ g.whole) ∙ sym g.counted
 
--- segments joined to a path have no fault
+-- segments joined to a path have no error
 fault_within : (front segments : List (List ℕ)) → AllByRecursion IsSegment front → AllByRecursion IsSegment segments
     → (segment rest : List ℕ) → AllPass is_not_slash segment → EmptyOrSlash rest → (m : ℕ) → FaultInSegment segment m
     → path_of_segments front ++ (47 ∷ (segment ++ rest)) ≡ path_of_segments segments → ⊥
@@ -122,7 +122,7 @@ fault_within (s ∷ front) (t ∷ segments) p q segment rest a b m f e =
     refl (no_slash_in_segment t q.0) (EmptyOrSlash-joined segments) e in
     fault_within front segments p.1 q.1 segment rest a b m f same.1
 
--- a path has no fault, so no ID is refused for its path
+-- a path has no error, so no ID is refused for its path
 pub no_fault : (path : List ℕ) (n : ℕ) → IsPath path → FirstFault path n → ⊥
 no_fault path n p f = fault_within f.front p.segments f.each p.each f.segment f.rest f.no_slash f.slash f.offset f.fault (sym f.whole ∙ p.whole)
 

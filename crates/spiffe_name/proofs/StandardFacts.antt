@@ -1,5 +1,5 @@
--- Names, IDs and texts that are none, from SPIFFE-ID, sections 2 to 2.3, said of the definitions: a slip in one of
--- these does not check.
+-- Names and IDs, and texts that are neither, from SPIFFE-ID, sections 2 to 2.3, tried on the
+-- definitions: a slip there does not check.
 use Rattle.std.proofs.Common.{◌≡◌, ℕ, ◌<◌, ◌≤◌, List, [], ◌∷◌, ◌++◌, inl, inr, Bool, true, false, refl, codes, length, take, slice_index, lit<, lit≤}
 use Rattle.std.specs.List.{list_all}
 use Rattle.std.proofs.lemmas.List.Sums.{AllPass-from_list_all}
@@ -66,7 +66,7 @@ no_path = record { whole = refl; limit = lit≤ tt; is_domain = staging; is_path
 pub three_dots : IsSegment (codes "...")
 three_dots = segment_of _ refl refl
 
--- two dots are no segment
+-- two dots are not a segment
 pub two_dots : IsSegment (codes "..") → ⊥
 two_dots h = let named = h.named in cc
 
@@ -74,7 +74,7 @@ two_dots h = let named = h.named in cc
 pub empty_segment : IsSegment (codes "") → ⊥
 empty_segment h = let named = h.named in cc
 
--- the parts of a text that may be no ID, from tests that compute
+-- the parts of a text that may not be an ID, from tests that compute
 parts_of : (text domain path : List ℕ) → text ≡ scheme ++ (domain ++ path) → length text ≤ 2048
     → list_all is_not_slash domain ≡ true → EmptyOrSlash path → HasParts text domain path
 parts_of text domain path whole limit no_slash slash =

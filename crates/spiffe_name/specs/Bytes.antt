@@ -55,8 +55,8 @@ is_printable b = nat_le 33 b && nat_le b 126
 abbrev pub is_quotable : ℕ → Bool
 is_quotable b = not ((b == 34) || (b == 92) || nat_lt b 32)
 
--- A text that can stand between quotation marks as it is, as in a JSON string (RFC 8259, section
--- 7).
+-- A text that can be put between quotation marks without an escape, as in a JSON string (RFC 8259,
+-- section 7).
 pub record IsPlainText (text : List ℕ) : Type 0 where
   pub printable : AllPass is_printable text
   pub unescaped : AllPass is_quotable text

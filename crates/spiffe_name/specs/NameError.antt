@@ -13,7 +13,7 @@ place_of (BadDomainByte place) = place
 place_of (BadPath place) = place
 place_of NoMemory = 0
 
--- the error in a text with so many more bytes before
+-- the error in a text with this many more bytes in front
 abbrev pub moved : ℕ → NameError → NameError
 moved bytes Empty = Empty
 moved bytes TooLong = TooLong

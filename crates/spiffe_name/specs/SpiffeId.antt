@@ -47,25 +47,25 @@ pub record IsIdText (text domain path : List ℕ) : Type 0 where
 abbrev pub IsId : Id → Type 0
 IsId id = IsIdText id.text id.domain id.path
 
--- A text within the limit is spiffe://, what is to be a trust domain name, up to the next slash or
--- the end, and what is to be a path.
+-- A text within the limit is spiffe://, then what should be a trust domain name, up to the next
+-- slash or the end, and then what should be a path.
 pub record HasParts (text domain path : List ℕ) : Type 0 where
   pub limit : length text ≤ id_limit
   pub whole : text ≡ scheme ++ (domain ++ path)
   pub no_slash : AllPass is_not_slash domain
   pub slash : EmptyOrSlash path
 
--- What is to be a trust domain name is none, for this cause.
+-- What should be a trust domain name is not one, for this cause.
 abbrev pub RefusesDomainPart : List ℕ → NameError → Type 0
 RefusesDomainPart text error = (domain path : List ℕ)
     × (HasParts text domain path × RefusesDomain domain error)
 
--- A segment has its first wrong byte here, or is no name and begins here.
+-- A segment has its first wrong byte here, or begins here and is empty or a modifier.
 abbrev pub FaultInSegment : List ℕ → ℕ → Type 0
 FaultInSegment segment place = FirstFails is_segment_byte segment place
     ⊎ ((is_empty_or_modifier segment ≡ true) × (place ≡ 0))
 
--- A front of the path is segments, and the next one has a fault here.
+-- A front of the path is segments, and the next one has an error here.
 pub record FirstFault (path : List ℕ) (place : ℕ) : Type 0 where
   pub front : List (List ℕ)
   pub each : AllByRecursion IsSegment front
@@ -78,7 +78,7 @@ pub record FirstFault (path : List ℕ) (place : ℕ) : Type 0 where
   pub fault : FaultInSegment segment offset
   pub counted : place ≡ length (path_of_segments front) + (1 + offset)
 
--- The first cause for which the text is no ID, or that there was no memory for one.
+-- The first cause for which the text is not an ID, or that there was no memory for one.
 abbrev pub RefusesId : List ℕ → NameError → Type 0
 RefusesId text Empty = (text ≡ []) ⊎ RefusesDomainPart text Empty
 RefusesId text TooLong = (id_limit < length text) ⊎ RefusesDomainPart text TooLong

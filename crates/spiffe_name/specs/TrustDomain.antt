@@ -13,7 +13,7 @@ pub record IsDomainText (text : List ℕ) : Type 0 where
   pub limit : length text ≤ name_limit
   pub bytes : AllPass is_domain_byte text
 
--- The first cause for which the text is no name, or that there was no memory for one.
+-- The first cause for which the text is not a name, or that there was no memory for one.
 abbrev pub RefusesDomain : List ℕ → NameError → Type 0
 RefusesDomain text Empty = text ≡ []
 RefusesDomain text TooLong = name_limit < length text

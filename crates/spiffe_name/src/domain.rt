@@ -28,7 +28,7 @@ pub const MAX_DOMAIN_BYTES: usize = 255;
 /// least one of these, and no more than 255 (SPIFFE-ID, sections 2.1 and 2.3).
 ///
 /// A name is its bytes: by these it is compared, ordered and hashed. One of at most 24 bytes lies
-/// in the value itself, and takes no memory beside it.
+/// in the value itself, and takes no other memory.
 #[derive(Debug, Drop)]
 pub struct TrustDomain {
     text: NameText,
@@ -55,7 +55,7 @@ impl TrustDomain {
     /// # Errors
     /// - [`NameError::Empty`]: the text is empty,
     /// - [`NameError::TooLong`]: it has more than [`MAX_DOMAIN_BYTES`] bytes,
-    /// - [`NameError::BadDomainByte`]: else, where its first wrong byte is,
+    /// - [`NameError::BadDomainByte`]: else, with the place of its first wrong byte,
     /// - [`NameError::NoMemory`]: memory ran out, for a name of more than 24 bytes.
     pub fn read(alloc: Global, text: &str) -> Result<TrustDomain, NameError>
         ensures answer { MatchResult result
@@ -89,7 +89,7 @@ impl TrustDomain {
         TrustDomain::copied(alloc, self.as_str())
     }
 
-    /// A name of its own for a text that is known to be one.
+    /// Copies a text that is known to be a name.
     pub(crate) fn copied(alloc: Global, text: &str) -> Result<TrustDomain, AllocError>
         requires { IsDomainText text.now }
         ensures text { IfOk result (λ domain. domain ≡ text.now) }
@@ -166,7 +166,7 @@ fn first_bad_byte(text: &[u8]) -> Option<usize>
     text.iter().position(|byte| !is_domain_byte(*byte))
 }
 
-/// The first cause for which the text is no trust domain name.
+/// The first cause for which the text is not a trust domain name.
 pub(crate) fn check_domain(text: &[u8]) -> Result<(), NameError>
     ensures answer { MatchResult result (λ _. IsDomainText text.now) (RefusesDomain text.now) }
     ensures cause { IfErr result (λ error. error ≢ NameError.NoMemory) }

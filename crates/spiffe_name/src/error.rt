@@ -1,12 +1,12 @@
-//! Why a text is no name.
+//! Why a text is not a name.
 ghost use Rattle.std.specs.Prelude.{◌≡◌, ◌+◌, ◌<◌, ◌^◌};
 ghost use Rattle.spiffe_name.specs.declared.error.NameError.TheVariants.{NoMemory};
 
 use std::alloc::AllocError;
 use thiserror::Error;
 
-/// The first cause for which a text is no trust domain name or no SPIFFE ID. Places count the bytes
-/// of the whole text, from 0.
+/// The first cause for which a text is not a trust domain name or not a SPIFFE ID. Places count the
+/// bytes of the whole text, from 0.
 #[derive(Clone, Copy, Debug, PartialEq, Eq, Error)]
 pub enum NameError {
     /// The text, or the trust domain name in it, is empty.
@@ -18,7 +18,7 @@ pub enum NameError {
     /// A SPIFFE ID doesn't begin with `spiffe://`.
     #[error("N3 BadScheme")]
     BadScheme,
-    /// A trust domain name has a byte other than `a-z`, `0-9`, `.`, `-` and `_`, first here.
+    /// The first byte of a trust domain name that is not `a-z`, `0-9`, `.`, `-` or `_` is here.
     #[error("N4 BadDomainByte at {0}")]
     BadDomainByte(usize),
     /// A path has a byte here that no segment has, or a segment that begins here is empty, `.` or
@@ -33,7 +33,7 @@ pub enum NameError {
 impl NameError {
     ghost use Rattle.spiffe_name.specs.NameError.{place_of, moved};
 
-    /// The same cause in a longer text, in which this many bytes stand before.
+    /// The same cause in a longer text, which has this many more bytes in front.
     pub(crate) fn behind(self, bytes: usize) -> NameError
         requires { bytes + place_of self < 2 ^ 64 }
         ensures { result ≡ moved bytes self }

@@ -25,13 +25,13 @@ use std::marker::Model;
 /// The most bytes that a SPIFFE ID has (SPIFFE-ID, section 2.3).
 pub const MAX_ID_BYTES: usize = 2048;
 
-/// A SPIFFE ID (SPIFFE-ID, section 2): after `spiffe://` stands the name of a trust domain, and
-/// after that a path, if any, in which each slash opens a segment. The whole has no more than
-/// 2,048 bytes. Segments consist of letters, digits, full stops, hyphens and low lines; the empty
-/// one and the relative ones `.` and `..` don't occur.
+/// A SPIFFE ID (SPIFFE-ID, section 2): after `spiffe://` comes the name of a trust domain, and then
+/// a path, if any, in which each slash opens a segment. The whole has no more than 2,048 bytes.
+/// Segments consist of letters, digits, full stops, hyphens and low lines; the empty one and the
+/// relative ones `.` and `..` don't occur.
 ///
-/// The standard has readers that take the scheme and the trust domain in any case; here both are
-/// read in lower case only. An ID is its bytes: by these it is compared, ordered and hashed.
+/// The standard lets readers take the scheme and the trust domain in any case; this one takes lower
+/// case only. An ID is its bytes: by these it is compared, ordered and hashed.
 #[derive(Debug, Drop)]
 pub struct SpiffeId {
     text: String,
@@ -59,13 +59,12 @@ impl SpiffeId {
     /// - [`NameError::Empty`]: the text is empty,
     /// - [`NameError::TooLong`]: it has more than [`MAX_ID_BYTES`] bytes,
     /// - [`NameError::BadScheme`]: it doesn't begin with `spiffe://`,
-    /// - [`NameError::Empty`], [`NameError::TooLong`], [`NameError::BadDomainByte`]: what stands
-    ///   from there up to the next slash or the end is no trust domain name,
-    /// - [`NameError::BadPath`]: of the segments, from the left, one has a wrong byte, or is empty,
-    ///   `.` or `..`; its place is that byte, or else the segment's start.
+    /// - [`NameError::Empty`], [`NameError::TooLong`], [`NameError::BadDomainByte`]: the text from
+    ///   there up to the next slash or the end is not a trust domain name,
+    /// - [`NameError::BadPath`]: a segment, the first such from the left, has a wrong byte, or is
+    ///   empty, `.` or `..`; the place is that byte, or else the segment's start.
     ///
-    /// Where memory ran out it is [`NameError::NoMemory`], which comes only for a text that is an
-    /// ID.
+    /// If memory ran out it is [`NameError::NoMemory`], which comes only for a text that is an ID.
     pub fn read(alloc: Global, text: &str) -> Result<SpiffeId, NameError>
         ensures answer { MatchResult result
             (λ id. (id.text ≡ text.now) × IsId id)
@@ -197,7 +196,7 @@ fn is_empty_or_modifier(segment: &str) -> bool
     segment == "" || segment == "." || segment == ".."
 }
 
-/// Where a segment has its fault: at its first wrong byte, or at its start.
+/// Where a segment has its error: at its first wrong byte, or at its start.
 fn fault_in_segment(segment: &str) -> Option<usize>
     ensures { MatchOption result (IsSegment segment.now) (FaultInSegment segment.now) }
 {
@@ -208,7 +207,7 @@ fn fault_in_segment(segment: &str) -> Option<usize>
     }
 }
 
-/// Where a path has its first fault.
+/// Where a path has its first error.
 fn fault_in_path(path: &str) -> Option<usize>
     requires { EmptyOrSlash path.now }
     ensures answer { MatchOption result (IsPath path.now) (FirstFault path.now) }
@@ -225,7 +224,7 @@ fn fault_in_path(path: &str) -> Option<usize>
     None
 }
 
-/// The trust domain name of an ID, or the first cause for which the text is none.
+/// The trust domain name of an ID, or the first cause for which the text is not an ID.
 fn check_id(text: &str) -> Result<&str, NameError>
     ensures answer { MatchResult result
         (λ domain. (path : List ℕ) × IsIdText text.now domain.now path)

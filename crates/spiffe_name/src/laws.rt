@@ -5,8 +5,8 @@ ghost use Rattle.spiffe_name.specs.TrustDomain.{IsDomainText, RefusesDomain};
 ghost use Rattle.spiffe_name.specs.SpiffeId.{Id, IsId, RefusesId};
 ghost use Rattle.spiffe_name.specs.declared.error.NameError.{NameError};
 
-/// A text is refused for one cause at most. Since lack of memory stands for a text that is a name,
-/// no name is refused for another cause.
+/// A text is refused for one cause at most. Since `NoMemory` is the cause only for a name, no name
+/// is refused for another cause.
 pub fn one_cause()
     ensures domain { (text : List ℕ) (one other : NameError) → RefusesDomain text one
         → RefusesDomain text other → one ≡ other }
@@ -19,8 +19,8 @@ pub fn one_reading()
     ensures { (one other : Id) → IsId one → IsId other → one.text ≡ other.text → one ≡ other }
 {}
 
-/// Names and IDs are printable ASCII with no quotation mark and no backslash, so that each stands
-/// in a JSON string as it is.
+/// Names and IDs are printable ASCII with no quotation mark and no backslash, so that each is
+/// written in a JSON string without an escape.
 pub fn plain_texts()
     ensures domain { (text : List ℕ) → IsDomainText text → IsPlainText text }
     ensures id { (id : Id) → IsId id → IsPlainText id.text }

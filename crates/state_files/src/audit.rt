@@ -10,7 +10,7 @@ use closure_core::Closure;
 use fedbundle::FileFault;
 use memchr::memrchr;
 use replica_core::SyncError;
-use state_steps::{AppendStep, Appending};
+use state_steps::{AppendStep, Appending, CutStep, Cutting, LastLine};
 use std::alloc::{AllocError, Global};
 use std::fs::{File, Files};
 use std::io::Write;
@@ -22,12 +22,11 @@ const READ_BYTES: usize = 65_536;
 /// The system's number for a file that was replaced (`ESTALE`).
 const REPLACED_FILE: i32 = 116;
 
-/// The audit file, to which lines are appended. After a fault nothing is appended any more.
+/// The audit file, to which lines are appended.
 #[derive(Drop)]
 pub struct AuditFile {
     file: File,
     name: String,
-    appending: Appending,
 }
 
 // The last line of the first bytes of the file, as far as it has one.
@@ -62,42 +61,37 @@ impl AuditFile {
         let mut audit = AuditFile {
             file,
             name: String::from_str(alloc, path)?,
-            appending: Appending::begin(),
         };
         audit.append(files, start_text(alloc, closure, moment)?.as_slice())?;
         sync_folder(files, path)?;
         Ok((audit, cut))
     }
 
-    /// Appends the lines, has the system write them to the disk, and looks whether the file still
-    /// has its name. Only then the journal may get the lines of their changes.
-    ///
-    /// # Errors
-    /// `NoMemory` if the system says that memory ran out, and else `Io`; `Io` also if an earlier
-    /// call failed, or if the name leads to another file.
-    pub fn append<R: Files>(&mut self, files: &R, lines: &[u8]) -> Result<(), FileFault> {
-        if lines.is_empty() {
-            return Ok(());
-        }
-        self.appending.add();
+    fn append<R: Files>(&mut self, files: &R, lines: &[u8]) -> Result<(), FileFault> {
+        let mut appending = Appending::begin();
+        appending.add();
         for _ in 0..STEPS {
-            let Some(step) = self.appending.next() else {
+            let Some(step) = appending.next() else {
                 break;
             };
-            if let Err(fault) = self.do_step(files, lines, step) {
-                self.appending.failed();
-                return Err(fault);
-            }
-            self.appending.done();
+            self.do_step(files, lines, step)?;
+            appending.done();
         }
-        if self.appending.is_done() {
+        if appending.is_done() {
             Ok(())
         } else {
             Err(FileFault::from(SyncError::Io))
         }
     }
 
-    fn do_step<R: Files>(
+    /// Does a step in which the lines are appended: they are written, or put on the disk, or it is
+    /// looked whether the file still has its name. [`Keeping`](state_steps::Keeping) says which
+    /// step comes next. After a fault what the disk holds is not known.
+    ///
+    /// # Errors
+    /// `NoMemory` if the system says that memory ran out, and else `Io`; `Io` also if the name
+    /// leads to another file.
+    pub fn do_step<R: Files>(
         &mut self,
         files: &R,
         lines: &[u8],
@@ -139,43 +133,65 @@ fn start_text<C: Closure>(alloc: Global, closure: &C, moment: u64) -> Result<Vec
     Ok(line)
 }
 
-// Cuts off the last lines whose changes are not held. Returns how many.
+// Cuts off the last lines whose changes are not held, in the order of `Cutting`. Returns how many.
 fn cut_unheld<C: Closure>(alloc: Global, closure: &C, file: &File) -> Result<u64, FileFault> {
+    let mut cutting = Cutting::begin();
+    // How many bytes are before the lines that were read and are cut off.
     let mut bytes = file.metadata()?.len();
-    let mut cut = 0u64;
     for _ in 0..u64::MAX {
-        let Some(line) = last_line(alloc, file, bytes)? else {
-            break;
-        };
-        if is_kept(alloc, closure, &line)? {
-            break;
+        match cutting.next() {
+            Some(CutStep::ReadLine) => {
+                let line = last_line(alloc, file, bytes)?;
+                let read = read_line(alloc, closure, line.as_ref())?;
+                if let Some(line) = &line
+                    && read == LastLine::Unheld
+                {
+                    bytes = line.begin;
+                }
+                cutting.read(read);
+            }
+            Some(CutStep::CutLines) => {
+                file.set_len(bytes)?;
+                cutting.done();
+            }
+            Some(CutStep::SyncCut) => {
+                file.sync_all()?;
+                cutting.done();
+            }
+            None => break,
         }
-        bytes = line.begin;
-        cut = cut.saturating_add(1);
     }
-    if cut > 0 {
-        file.set_len(bytes)?;
-        file.sync_all()?;
+    if cutting.is_done() {
+        Ok(cutting.cut())
+    } else {
+        Err(foreign_file())
     }
-    Ok(cut)
 }
 
-// Whether the line is of a change that is held, or of a start. What is no line of an audit file,
-// and no beginning of one, is refused.
-fn is_kept<C: Closure>(alloc: Global, closure: &C, line: &FoundLine) -> Result<bool, FileFault> {
+// What the line is. A part of one at the file's end is of a change that is not held, if a kill or a
+// cut of power may have left it.
+fn read_line<C: Closure>(
+    alloc: Global,
+    closure: &C,
+    line: Option<&FoundLine>,
+) -> Result<LastLine, AllocError> {
+    let Some(line) = line else {
+        return Ok(LastLine::Missing);
+    };
     let bytes = line.bytes.as_slice();
     if !line.is_whole {
-        return if is_torn(bytes) {
-            Ok(false)
+        return Ok(if is_torn(bytes) {
+            LastLine::Unheld
         } else {
-            Err(foreign_file())
-        };
+            LastLine::Foreign
+        });
     }
-    match read_audit_line(bytes) {
-        Some(AuditLine::Start) => Ok(true),
-        Some(AuditLine::Change(last)) => Ok(holds_line(alloc, closure, &last)?),
-        None => Err(foreign_file()),
-    }
+    Ok(match read_audit_line(bytes) {
+        Some(AuditLine::Start) => LastLine::Held,
+        Some(AuditLine::Change(last)) if holds_line(alloc, closure, &last)? => LastLine::Held,
+        Some(AuditLine::Change(_)) => LastLine::Unheld,
+        None => LastLine::Foreign,
+    })
 }
 
 // Whether a kill or a cut of power may have left this of a line.

@@ -39,4 +39,4 @@ pub use load::load_state;
 pub use lock::{StateLock, is_marked, try_lock_state};
 pub use save::{save_snapshot, save_state};
 pub use state::{SeenState, see_state, state_bytes};
-pub use state_steps::FoundFiles;
+pub use state_steps::{AppendStep, FoundFiles, KeepStep, Keeping};

@@ -5,3 +5,5 @@ mod SaveFacts
 mod BeginFacts
 mod AppendFacts
 mod ResumeFacts
+mod KeepFacts
+mod CutFacts

@@ -1,5 +1,5 @@
 -- Lemmas on the whole lines of a text that gets longer, and on what a stop leaves of files.
-use Rattle.std.proofs.Common.{◌≡◌, ℕ, ◌⊎◌, inl, inr, Bool, true, false, nat_eq, List, [], ◌∷◌, ◌++◌, take, sym, ap, subst, refl}
+use Rattle.std.proofs.Common.{◌≡◌, ℕ, inl, inr, Bool, true, false, List, [], ◌∷◌, ◌++◌, take, sym, ap, subst, refl}
 use Rattle.std.proofs.lemmas.List.{append-nil}
 use Rattle.std.proofs.lemmas.List.Elements.{Contains-append_left}
 use Rattle.std.specs.Prelude.{Contains, ◌==◌}
@@ -21,7 +21,7 @@ byte_more b true old new more is = (more, ap (λ l. [] ∷ l) is)
 byte_more b false old new more is = before_more b old.whole new.whole old.rest new.rest more is
 
 -- The whole lines of a text are the first ones of a longer text.
-lines_more : (text more : List ℕ) → (later : List (List ℕ)) × ((lines_of (text ++ more)).whole ≡ (lines_of text).whole ++ later)
+pub lines_more : (text more : List ℕ) → (later : List (List ℕ)) × ((lines_of (text ++ more)).whole ≡ (lines_of text).whole ++ later)
 lines_more [] more = ((lines_of more).whole, refl)
 lines_more (b ∷ text) more =
     let rest = lines_more text more in

@@ -5,3 +5,5 @@ pub mod Saves
 pub mod Begins
 pub mod Appends
 pub mod Resumes
+pub mod Audits
+pub mod Cuts

@@ -13,8 +13,8 @@ pub enum AppendStep {
     WriteLines,
     /// The system puts the journal on the disk.
     SyncLines,
-    /// It is looked whether the names of the lock, the journal and the state lead to the same files
-    /// as before. Else what was written may be in files that nobody reads.
+    /// Checks whether the names of the lock, the journal and the state lead to the same files as
+    /// before. If not, what was written may be in files that nobody reads.
     SeeNames,
 }
 
@@ -33,7 +33,8 @@ enum AppendStage {
 /// lines, when the step is done, or that it failed.
 ///
 /// A line may be acknowledged when all is on the disk (`is_done`), and is kept from then on. After
-/// a fault none is, and none may be appended: it would stand behind a part of a line.
+/// a failure no line may be acknowledged, and none may be appended: it would come after a part of a
+/// line.
 #[derive(Clone, Copy, Debug)]
 pub struct Appending {
     stage: AppendStage,
@@ -54,7 +55,7 @@ impl Appending {
         }
     }
 
-    /// The step that is due; none where all is on the disk, or after a fault.
+    /// The step that is due; none if all is on the disk, or after a failure.
     pub fn next(&self) -> Option<AppendStep>
         ensures { result ≡ append_step self.now.stage }
     {
@@ -97,7 +98,7 @@ impl Appending {
     /// Says that the step that was due is done.
     ///
     /// - `keeps`: no line is lost, and the journal is as it has to be for the next step.
-    /// - `next`: what is written is put on the disk next, then the names are looked at, and only
+    /// - `next`: what is written is put on the disk next, then the names are checked, and only
     ///   after that all is done.
     pub fn done(&mut self)
         ensures keeps { (written bytes : List ℕ) (disk : StateDisk) (line : List ℕ)
@@ -110,7 +111,7 @@ impl Appending {
     }
 
     /// Says that the step that was due failed: what it left is its work, or none or a part of it.
-    /// So it is also where a name leads to another file.
+    /// The same holds if a name leads to another file.
     ///
     /// - `keeps`: no line is lost that was kept before.
     /// - `over`: nothing is acknowledged, and nothing more may be appended.

@@ -1,4 +1,4 @@
-//! The steps in which a replica that stays begins, in their order.
+//! The steps in which a running replica begins, in their order.
 ghost use Rattle.std.specs.Prelude.{◌≡◌, ◌-◌, ◌↔◌, IsTrue, IsNone, IfSome, List, ℕ};
 ghost use Rattle.state_steps.specs.Begins.{BeginKeeps, IsBeginDueOn, HasBegun, IsFoundOn};
 ghost use Rattle.state_steps.specs.Begins.{IsWithoutState, begin_change, begin_step};
@@ -45,25 +45,25 @@ enum BeginStage {
     Failed,
 }
 
-/// The beginning of a replica that stays: what the files have is read. Where there was a journal,
-/// or no state, that is saved, so that the snapshot has all of it. Then an empty journal is begun.
+/// The beginning of a running replica: what the files have is read. If there was a journal, or no
+/// state, the state is saved, so that the snapshot has all of it. Then an empty journal is begun.
 /// It says which step is due. Its caller says when the step is done, or that it failed.
 ///
-/// At each moment each line that was kept is a whole line of what a stop leaves of the snapshot or
-/// of the journal, also where a step failed.
+/// At all times each line that was kept is a whole line of what a stop leaves of the snapshot or of
+/// the journal, also if a step failed.
 #[derive(Clone, Copy, Debug)]
 pub struct Beginning {
     stage: BeginStage,
 }
 
 impl Beginning {
-    /// The beginning with these files, or none where there is neither and the caller does not say
-    /// that it may begin without them.
+    /// The beginning with these files, or none if there is neither and the caller does not say that
+    /// it may begin without them.
     ///
-    /// - `refused`: where there is none.
-    /// - `keeps`: if there is no journal where none was found, each line that is kept goes on being
+    /// - `refused`: when there is none.
+    /// - `keeps`: unless there is a journal now and none was found, each line that is kept is still
     ///   kept.
-    /// - `stage`: what is read is saved where there is a journal, or no state.
+    /// - `stage`: what is read is saved if there is a journal, or no state.
     pub fn of(found: FoundFiles, may_be_new: bool) -> Option<Beginning>
         ensures refused { IsNone result ↔ IsWithoutState found may_be_new }
         ensures keeps { IfSome result (λ begin. (texts : StateTexts) (disk : StateDisk)
@@ -82,7 +82,7 @@ impl Beginning {
         }
     }
 
-    /// The step that is due; none where the beginning is over.
+    /// The step that is due; none if the beginning is over.
     pub fn next(&self) -> Option<BeginStep>
         ensures { result ≡ begin_step self.now.stage }
     {
@@ -106,12 +106,12 @@ impl Beginning {
     /// Says that the step that was due is done.
     ///
     /// - `due`: the files are as they have to be for the next step.
-    /// - `keeps`: no line is lost, where the snapshot is written with each line that is kept then.
-    /// - `begun`: after the last step the beginning is done: the journal has its first line alone,
+    /// - `keeps`: no line is lost, if the snapshot is written with each line that is kept then.
+    /// - `begun`: after the last step the beginning is done: the journal has only its first line,
     ///   and is on the disk.
     /// - `holds`: the snapshot has each line that was kept.
     /// - `steps`: each step is one fewer.
-    /// - `failed`: where a step failed, the beginning stays so.
+    /// - `failed`: if a step failed, the beginning has failed for good.
     pub fn done(&mut self)
         ensures due { (texts : StateTexts) (disk : StateDisk)
             → IsBeginDueOn texts self.old.stage disk
@@ -137,8 +137,8 @@ impl Beginning {
     /// It returns what is to be done.
     ///
     /// - `keeps`: no line is lost.
-    /// - `goes_on`: where the journal goes on, it is as it was found.
-    /// - `ends`: it goes on where the state was to be written.
+    /// - `goes_on`: if the journal is continued, it is as it was found.
+    /// - `ends`: it is continued if the state was to be written.
     /// - `over`: the beginning is over, and not done.
     pub fn failed(&mut self) -> FoldEnd
         ensures keeps { (texts : StateTexts) (disk left : StateDisk) (line : List ℕ)

@@ -15,15 +15,15 @@ pub enum FileStep {
     SyncFolder,
     /// The journal is removed.
     RemoveJournal,
-    /// A new file with a journal's first line alone is given the journal's name. Where the name has
-    /// no file for a moment, that is read as an empty one.
+    /// A new file with only a journal's first line is given the journal's name. While the name has
+    /// no file, a reader finds an empty journal.
     BeginJournal,
     /// The system puts the new journal, and the folder, on the disk.
     SyncJournal,
 }
 
 impl FileStep {
-    /// Whether a new snapshot may be left where this step failed. Nobody reads it, so it is to be
+    /// Whether a new snapshot may be left if this step failed. Nobody reads it, so it is to be
     /// removed; [`removals`](crate::laws::removals) says that this loses no line.
     pub fn leaves_new(self) -> bool
         ensures { result ≡ leaves_new self }

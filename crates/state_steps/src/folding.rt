@@ -10,21 +10,21 @@ ghost use Rattle.state_steps.specs.declared.folding.FoldEnd.TheVariants.{Journal
 
 use crate::file_step::FileStep;
 
-/// What is to be done where a step of a fold, or of a beginning, failed.
+/// What is to be done if a step of a fold, or of a beginning, failed.
 #[derive(Clone, Copy, Debug, PartialEq, Eq)]
 pub enum FoldEnd {
     /// The journal is as it was, and lines are appended to it as before.
     JournalGoesOn,
     /// The journal was being removed or emptied: what the disk has of it is not known. Nothing may
-    /// be appended to it before a journal is begun anew.
+    /// be appended to it before a new journal is begun.
     ReplicaEnds,
 }
 
 /// A journal that is being folded into a snapshot: it says which step is due. Its caller says when
 /// the step is done or that it failed, and when lines were appended to the journal meanwhile.
 ///
-/// At each moment each line that was kept is a whole line of what a stop leaves of the snapshot or
-/// of the journal. A journal that got lines since the snapshot was begun is not emptied.
+/// At all times each line that was kept is a whole line of what a stop leaves of the snapshot or of
+/// the journal. A journal that got lines since the snapshot was begun is not emptied.
 #[derive(Clone, Copy, Debug)]
 pub struct Folding {
     next: Option<FileStep>,
@@ -51,15 +51,15 @@ impl Folding {
         }
     }
 
-    /// The step that is due; none where the fold is over.
+    /// The step that is due; none if the fold is over.
     pub fn next(&self) -> Option<FileStep>
         ensures { result ≡ self.now.next }
     {
         self.next
     }
 
-    /// Whether the new snapshot has all lines. Where the fold is over, this says whether the
-    /// journal was emptied.
+    /// Whether the new snapshot has all lines. If the fold is over, this says whether the journal
+    /// was emptied.
     pub fn is_whole(&self) -> bool
         ensures { result ≡ self.now.is_whole }
     {
@@ -69,7 +69,7 @@ impl Folding {
     /// Says that the step that was due is done.
     ///
     /// - `due`: the files are as they have to be for the next step.
-    /// - `keeps`: no line is lost, where the snapshot is written with each line that is kept then.
+    /// - `keeps`: no line is lost, if the snapshot is written with each line that is kept then.
     /// - `folded`: after the last step the journal is empty, and the snapshot is the new one.
     /// - `holds`: that has each line.
     /// - `steps`: after six steps in which nothing is appended the journal is emptied.
@@ -104,8 +104,8 @@ impl Folding {
     /// It returns what is to be done.
     ///
     /// - `keeps`: no line is lost.
-    /// - `goes_on`: where the journal goes on, it is as it was.
-    /// - `ends`: the replica ends where the journal was being emptied.
+    /// - `goes_on`: if the journal is continued, it is as it was.
+    /// - `ends`: the replica ends if the journal was being emptied.
     /// - `over`: the fold is over, and not done.
     pub fn failed(&mut self) -> FoldEnd
         ensures keeps { (texts : StateTexts) (disk left : StateDisk) (line : List ℕ)
@@ -133,8 +133,8 @@ impl Folding {
     /// - `meanwhile`: before the lines are on the disk no other line is lost.
     /// - `keeps`: nor after that.
     /// - `new_lines`: what is a line of the journal now is not lost from now on.
-    /// - `goes_on`: a fold whose snapshot is not begun has the lines in it; where the journal would
-    ///   be emptied next, the fold is over; and else it goes on.
+    /// - `goes_on`: a fold whose snapshot is not begun has the lines in it; if the journal would be
+    ///   emptied next, the fold is over; and else it continues.
     pub fn append(&mut self)
         requires { steps_left self.old.next ≢ 1 }
         ensures due { (texts : StateTexts) (disk : StateDisk) (bytes : List ℕ)

@@ -1,10 +1,14 @@
-//! What follows from the definitions alone. A call that needs a law calls its function, which does
+//! What follows from the definitions. A call that needs a law calls its function, which does
 //! nothing, and cites what it ensures.
-ghost use Rattle.std.specs.Prelude.{List, ℕ, ◌⊎◌};
+ghost use Rattle.std.specs.Prelude.{◌≡◌, ◌++◌, ◌⊎◌, [], Bool, Contains, false, true, List, ℕ};
+ghost use Rattle.byte_lines.specs.Lines.{lines_of};
 ghost use Rattle.state_steps.specs.Appends.{AppendKeeps};
+ghost use Rattle.state_steps.specs.Audits.{AuditedFiles, AuditKeeps, AuditTexts, Change};
+ghost use Rattle.state_steps.specs.Audits.{IsAudited, IsAuditOn, IsHeldIn};
 ghost use Rattle.state_steps.specs.Begins.{BeginKeeps};
+ghost use Rattle.state_steps.specs.Cuts.{AreHeld, IsCutBehind, HeldComeFirst, IsSame, lines_found};
 ghost use Rattle.state_steps.specs.Files.{FileText, HasWholeLine, IsFirstFile, KeepsLine};
-ghost use Rattle.state_steps.specs.Files.{StateDisk, text_now};
+ghost use Rattle.state_steps.specs.Files.{IsFoundAt, IsLeftOf, StateDisk, text_now};
 ghost use Rattle.state_steps.specs.Folds.{FoldKeeps};
 ghost use Rattle.state_steps.specs.Saves.{SaveKeeps};
 ghost use Rattle.state_steps.specs.Resumes.{ResumeKeeps, ResumeTexts};
@@ -12,10 +16,11 @@ ghost use Rattle.state_steps.specs.Steps.{StateTexts, without_new};
 ghost use Rattle.state_steps.specs.declared.appending.Appending.{Appending};
 ghost use Rattle.state_steps.specs.declared.beginning.Beginning.{Beginning};
 ghost use Rattle.state_steps.specs.declared.folding.Folding.{Folding};
+ghost use Rattle.state_steps.specs.declared.keeping.Keeping.{Keeping};
 ghost use Rattle.state_steps.specs.declared.resuming.Resuming.{Resuming};
 ghost use Rattle.state_steps.specs.declared.saving.Saving.{Saving};
 
-/// Wherever a machine stands: whatever a stop leaves then, each line that was kept is a whole line
+/// At each step of a machine: whatever a stop leaves then, each line that was kept is a whole line
 /// of the snapshot or of the journal.
 pub fn stops()
     ensures fold { (texts : StateTexts) (fold : Folding) (disk : StateDisk) (line : List ℕ)
@@ -30,7 +35,7 @@ pub fn stops()
         (line : List ℕ) → ResumeKeeps texts resuming disk line → KeepsLine disk line }
 {}
 
-/// The removal of a new snapshot that never gets its name loses no line, at whatever moment.
+/// The removal of a new snapshot that never gets its name loses no line, at any time.
 pub fn removals()
     ensures { (disk : StateDisk) (line : List ℕ) → KeepsLine disk line
         → KeepsLine (without_new disk) line }
@@ -43,4 +48,36 @@ pub fn readings()
         → IsFirstFile snapshot disk.snapshot → IsFirstFile journal disk.journal
         → KeepsLine disk line
         → HasWholeLine (text_now snapshot) line ⊎ HasWholeLine (text_now journal) line }
+{}
+
+/// The audit file and the state's files.
+///
+/// - `stops`: whatever a stop leaves, each change that the state's files have has its line in the
+///   audit file.
+/// - `in_order`: whatever a stop leaves, the lines whose changes are held come first in it. So it
+///   is if the changes of the earlier turns are held, and of the last turn those that came first:
+///   the journal gets their lines in this order.
+/// - `stays`: then, after the cut, each change that the state's files have still has its line.
+/// - `same`: if the lines whose changes are held come first, then after the cut the file has the
+///   lines of exactly the changes that are held.
+pub fn audits()
+    ensures stops { (texts : AuditTexts) (keeping : Keeping) (files : AuditedFiles)
+        (change : Change) → AuditKeeps texts keeping files change
+        → IsAudited files.audit files.state change }
+    ensures in_order { (texts : AuditTexts) (keeping : Keeping) (audit : FileText) (text : List ℕ)
+        (held : List ℕ → Bool) → IsAuditOn texts keeping.stage audit → IsLeftOf audit text
+        → (lines_of texts.earlier).rest ≡ [] → AreHeld held (lines_of texts.earlier).whole
+        → HeldComeFirst held (lines_of texts.turn).whole → held (lines_of text).rest ≡ false
+        → HeldComeFirst held (lines_found text) }
+    ensures stays { (texts : AuditTexts) (keeping : Keeping) (files : AuditedFiles)
+        (change : Change) (text snapshot journal : List ℕ) (held : List ℕ → Bool)
+        (stay behind : List (List ℕ)) → AuditKeeps texts keeping files change
+        → IsLeftOf files.audit text → IsFoundAt files.state.snapshot snapshot
+        → IsFoundAt files.state.journal journal
+        → IsHeldIn snapshot journal change.last → held change.report ≡ true
+        → lines_found text ≡ stay ++ behind → IsCutBehind held stay behind
+        → Contains stay change.report }
+    ensures same { (held : List ℕ → Bool) (found stay behind : List (List ℕ))
+        → found ≡ stay ++ behind → IsCutBehind held stay behind → HeldComeFirst held found
+        → IsSame held found stay }
 {}

@@ -1,23 +1,31 @@
 //! The order in which the files of a state are changed, without a file: for each change a machine
 //! that says which step comes next, and what it means that the step is done, or that it failed.
 //!
-//! `saving` is what a command does at its end, `beginning` what a replica that stays does first,
-//! `appending` what it does with what comes, and `folding` where its journal is long. `resuming` is
-//! what it does where it could not write the state at its beginning. A stop at any moment loses no
+//! `saving` is what a command does at its end, `beginning` what a running replica does first,
+//! `appending` what it does with what comes, and `folding` when its journal is long. `resuming` is
+//! what it does if it could not write the state at its beginning. A stop at any time loses no
 //! line that was on the disk.
+//!
+//! With an audit file, `keeping` is the order of that file and the state's: whatever a stop leaves,
+//! each change that is held has its line there. `cutting` is how a replica begins with the file
+//! that it found: then it has the lines of exactly the changes that are held.
 #![tactic(auto)]
 
 mod appending;
 mod beginning;
+mod cutting;
 mod file_step;
 mod folding;
+mod keeping;
 pub mod laws;
 mod resuming;
 mod saving;
 
 pub use appending::{AppendStep, Appending};
 pub use beginning::{BeginStep, Beginning, FoundFiles};
+pub use cutting::{CutStep, Cutting, LastLine};
 pub use file_step::FileStep;
 pub use folding::{FoldEnd, Folding};
+pub use keeping::{KeepStep, Keeping};
 pub use resuming::{ResumeStep, Resuming};
 pub use saving::Saving;

@@ -30,11 +30,11 @@ enum ResumeStage {
 }
 
 /// A replica could not write the state at its beginning, and goes on with the journal that it
-/// found. A kill may have left a part of a line at its end, behind which no line may be appended.
-/// It says which step is due. Its caller says when the step is done, or that it failed.
+/// found. A kill may have left a part of a line at its end, after which no line may be appended. It
+/// says which step is due. Its caller says when the step is done, or that it failed.
 ///
-/// At each moment each line that was kept is a whole line of what a stop leaves of the snapshot or
-/// of the journal, also where a step failed.
+/// At all times each line that was kept is a whole line of what a stop leaves of the snapshot or of
+/// the journal, also if a step failed.
 #[derive(Clone, Copy, Debug)]
 pub struct Resuming {
     stage: ResumeStage,
@@ -56,7 +56,7 @@ impl Resuming {
         }
     }
 
-    /// The step that is due; none where all are done, or one failed.
+    /// The step that is due; none if all are done, or one failed.
     pub fn next(&self) -> Option<ResumeStep>
         ensures { result ≡ resume_step self.now.stage }
     {

@@ -22,8 +22,8 @@ enum SaveStage {
 /// A save: all that is held takes the place of the snapshot, and then the journal is removed. It
 /// says which step is due. Its caller says when the step is done, or that it failed.
 ///
-/// At each moment each line that was kept is a whole line of what a stop leaves of the snapshot or
-/// of the journal, also where a step failed.
+/// At all times each line that was kept is a whole line of what a stop leaves of the snapshot or of
+/// the journal, also if a step failed.
 #[derive(Clone, Copy, Debug)]
 pub struct Saving {
     stage: SaveStage,
@@ -45,7 +45,7 @@ impl Saving {
         }
     }
 
-    /// The step that is due; none where the save is over.
+    /// The step that is due; none if the save is over.
     pub fn next(&self) -> Option<FileStep>
         ensures { result ≡ save_step self.now.stage }
     {
@@ -68,12 +68,12 @@ impl Saving {
     /// Says that the step that was due is done.
     ///
     /// - `due`: the files are as they have to be for the next step.
-    /// - `keeps`: no line is lost, where the snapshot is written with each line that is kept then.
+    /// - `keeps`: no line is lost, if the snapshot is written with each line that is kept then.
     /// - `saved`: after the last step the save is done. The snapshot is the new one, and there is
     ///   no journal.
     /// - `holds`: the snapshot has each line that was kept.
     /// - `steps`: each step is one fewer.
-    /// - `failed`: where a step failed, the save stays so.
+    /// - `failed`: if a step failed, the save has failed for good.
     pub fn done(&mut self)
         ensures due { (texts : StateTexts) (disk : StateDisk)
             → IsSaveDueOn texts self.old.stage disk

@@ -28,7 +28,7 @@ some_passes p (y ∷ ys) x has e = elim (contains_cases y ys x has) [
   | inr later ↦ or_right (p y) (list_any p ys) (some_passes p ys x later e)
 ]
 
--- and where some item passes it, one of the list does
+-- and if some item passes it, one of the list does
 pub which_passes : {X : Type 0} (p : X → Bool) (xs : List X) → list_any p xs ≡ true → (x : X) × Contains xs x × (p x ≡ true)
 which_passes p [] e = absurd (let f : false ≡ true = e in cc)
 which_passes p (y ∷ ys) e = elim (cases_Bool (p y)) [
@@ -59,7 +59,7 @@ pub against_own : (domain : List ℕ) (key : KeyId) → is_against domain key (r
 against_own domain key = and_from (bytes_eq domain domain) (bytes_eq key.0 key.0) ((bytes_eq-Decides domain domain).1 refl)
     ((bytes_eq-Decides key.0 key.0).1 refl)
 
--- two tests of which each passes where the other does are one
+-- two tests of which each passes if the other does are one
 pub same_tests : (a b : Bool) → (a ≡ true → b ≡ true) → (b ≡ true → a ≡ true) → a ≡ b
 same_tests true b there back = sym (there refl)
 same_tests false true there back = back refl
@@ -88,7 +88,7 @@ reported_count domain (c ∷ clashes) =
     same_length (bytes_eq c.domain domain) (reported_by c) (filter (is_clash_of domain) (map reported_by clashes)) c
     (filter (λ (k : Conflict). bytes_eq k.domain domain) clashes) (reported_count domain clashes)
 
--- how the keys stand that a document can vouch by
+-- the statuses of the keys that a document can vouch by
 pub offer_statuses : (records : List Distrust) (p : Pair) (keys : List KeyId)
     → map (λ (t : Triple). key_status records p.domain t.key) (map (offer_of p) keys) ≡ map (key_status records p.domain) keys
 offer_statuses records p [] = refl

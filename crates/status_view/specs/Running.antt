@@ -1,5 +1,5 @@
--- What a running replica says of itself beside what it holds: as lines, as members of a JSON object
--- and as metrics
+-- What a running replica says of itself in addition to what it holds: as lines, as members of a
+-- JSON object and as metrics
 use Rattle.std.specs.Prelude.{ℕ, List, [], ◌++◌, false, codes, decimal, flat_map, string_bytes}
 use Rattle.std.specs.Prelude.{Option, Some, None}
 use Rattle.json_text.specs.JsonText.{number_or_null, parted_texts, string_member}
@@ -14,7 +14,7 @@ use Rattle.status_view.specs.declared.running.PeerFault.{PeerFault}
 use Rattle.status_view.specs.declared.running.PeerFault.TheVariants.{Session, TooManyBytes}
 use Rattle.status_view.specs.StatusMetrics.{gauge_head, help_line, label_value}
 
--- ---- the fault of a session, in short
+-- ---- why a session failed, in short
 
 abbrev pub fault_code : PeerFault → List ℕ
 fault_code TooManyBytes = codes "bytes"

@@ -1,4 +1,4 @@
--- How a replica stands: what an operator looks at to see whether it is well
+-- The status of a replica: what an operator looks at to see whether it is well
 use Rattle.std.specs.Prelude.{◌≡◌, ℕ, ◌*◌, Bool, false, ◌&&◌, ◌||◌, not, nat_lt}
 use Rattle.std.specs.Prelude.{List, map, filter, length, Contains}
 use Rattle.std.specs.Prelude.{Option, Some, None}
@@ -32,7 +32,7 @@ key_status records domain key =
     record { key = key; is_distrusted = list_any (is_against domain key) records }
 
 -- its id, its sequence number, its refresh hint, and the different keys of its X.509 authorities,
--- rising
+-- sorted
 pub record SaysCurrentBundle (m : Meaning) (domain : List ℕ) (d : Bundle) (s : CurrentStatus)
     : Type 0 where
   pub id : s.id.0 ≡ doc_id_of domain d
@@ -40,7 +40,7 @@ pub record SaysCurrentBundle (m : Meaning) (domain : List ℕ) (d : Bundle) (s :
   pub refresh_hint : s.refresh_hint ≡ d.hint
   pub keys : s.keys.items ≡ map (key_status m.records domain) (key_ids d.authorities)
 
--- the same where there is a current bundle
+-- the same if there is a current bundle
 abbrev pub SaysCurrent : Meaning → List ℕ → Option Bundle → Option CurrentStatus → Type 0
 SaysCurrent m domain None None = Unit {0}
 SaysCurrent m domain None (Some s) = ⊥
@@ -75,7 +75,7 @@ keyless_by s = record { domain = s.domain; id = record { 0 = doc_id_of s.domain 
 
 -- ---- the whole
 
--- The configuration's digest, what is held, each domain of the configuration, rising, and the
+-- The configuration's digest, what is held, each domain of the configuration, sorted, and the
 -- configured bundles without an X.509 authority, in the order of the configuration
 pub record IsStatus (m : Meaning) (s : Status) : Type 0 where
   pub config : s.config.0 ≡ config_id_of m.config

@@ -110,7 +110,7 @@ abbrev pub value_of_current : DomainGauge → Option CurrentStatus → Option �
 value_of_current gauge None = None
 value_of_current gauge (Some s) = current_value gauge s
 
--- the value for a domain, where it has one
+-- the value for a domain, if it has one
 abbrev pub domain_value : DomainGauge → DomainStatus → Option ℕ
 domain_value Accepted s = Some s.accepted
 domain_value Conflicts s = Some s.conflicts
@@ -120,7 +120,7 @@ abbrev pub id_label_of : Option CurrentStatus → List ℕ
 id_label_of None = []
 id_label_of (Some s) = codes "\",id=\"" ++ encode_lower s.id.0
 
--- the labels besides the domain
+-- the labels after the domain
 abbrev pub further_label : DomainGauge → Option CurrentStatus → List ℕ
 further_label Current current = id_label_of current
 further_label gauge current = []

@@ -1,4 +1,4 @@
--- What is written of how a replica stands
+-- What is written of the status of a replica
 use Rattle.std.specs.Prelude.{◌≡◌, ◌++◌, ℕ, List, Bool, codes}
 use Rattle.receipt_core.specs.Acceptance.{Meaning}
 use Rattle.status_view.specs.declared.status.Status.{Status}
@@ -17,7 +17,7 @@ status_in Text s = status_lines s
 status_in Json s = status_json s
 status_in Prometheus s = status_metrics s
 
--- the text of how the replica stands
+-- the text of the replica's status
 pub record IsStatusIn (m : Meaning) (format : StatusFormat) (text : List ℕ) : Type 0 where
   pub status : Status
   pub is_status : IsStatus m status
@@ -36,7 +36,7 @@ pub record IsRunningStatusIn (m : Meaning) (running : RunningStatus) (format : S
   pub is_status : IsStatus m status
   pub is : text ≡ running_status_in format running status
 
--- whether how it stands has a warning
+-- whether its status has a warning
 pub record IsWarned (m : Meaning) (warned : Bool) : Type 0 where
   pub status : Status
   pub is_status : IsStatus m status

@@ -1,4 +1,4 @@
-//! How the trust domains of a configuration stand.
+//! The statuses of the trust domains of a configuration.
 ghost use Rattle.std.specs.Prelude.{◌≡◌, IfOk, filter, length, map};
 ghost use Rattle.std.specs.Str.{bytes_eq};
 ghost use Rattle.closure_core.specs.AcceptedList.{IsAcceptedList};
@@ -29,7 +29,7 @@ impl<'a> Model for AcceptedDocument<'a> {
     ghost view = { λ a. a.document.now };
 }
 
-/// How each domain of the configuration stands, rising. The conflicts are those of all domains.
+/// The status of each domain of the configuration, sorted. The conflicts are those of all domains.
 pub(crate) fn domain_statuses<C: Closure>(
     alloc: Global,
     closure: &C,

@@ -36,7 +36,7 @@ pub fn status_json(alloc: Global, status: &Status) -> Result<Vec<u8>, AllocError
     Ok(out)
 }
 
-/// Adds the members of that object, without the braces, so that more may stand beside them.
+/// Adds the members of that object, without the braces, so that others can follow them.
 ///
 /// # Errors
 /// Memory ran out. Nothing is said then of what is there.

@@ -1,6 +1,6 @@
-//! How a replica stands, for operators: one value, and three texts of it. A running replica gives
-//! a second value, of its files and its peers, which stands in the same texts. The crate knows
-//! closures by their trait alone.
+//! The status of a replica, for operators: one value, and three texts of it. A running replica
+//! gives a second value, of its files and its peers, which is in the same texts. The crate knows
+//! closures only by their trait.
 //!
 //! `status` and `running` have the two values. `standing` makes the first, by `current_status`,
 //! `domain_standing` and `keyless`. `text_writer`, `json_writer` and `metrics_writer` write it, and

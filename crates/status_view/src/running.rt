@@ -1,16 +1,16 @@
-//! What a running replica knows of itself beside what it holds, as a value.
+//! What a running replica knows of itself in addition to what it holds, as a value.
 ghost use Rattle.std.specs.Prelude.{◌≡◌};
 ghost use Rattle.status_view.specs.Running.{fault_code};
 
 use replica_core::SyncError;
 
-/// What a running replica knows beside what it holds: how long its files are, how the sessions went
-/// in which it asked its peers, and the time of day.
+/// What a running replica knows in addition to what it holds: how long its files are, how the
+/// sessions went in which it asked its peers, and the time of day.
 #[derive(Clone, Copy, Debug)]
 pub struct RunningStatus<'a> {
     /// The bytes of the snapshot in the state file.
     pub snapshot_bytes: u64,
-    /// The bytes of the journal beside it.
+    /// How many bytes its journal has.
     pub journal_bytes: u64,
     /// Its peers, in the order in which they are asked.
     pub peers: &'a [PeerStatus],
@@ -49,7 +49,7 @@ pub enum PeerFault {
     TooManyBytes,
 }
 
-/// The short name of a fault: the code of its error, `S1` to `S10`, or `bytes`.
+/// The short name of why a session failed: the code of the error, `S1` to `S10`, or `bytes`.
 pub fn fault_code(fault: PeerFault) -> &'static str
     ensures { result.now ≡ fault_code fault }
 {

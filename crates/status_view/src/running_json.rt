@@ -10,7 +10,7 @@ use json_text::{push_comma, push_number_or_null, push_string};
 use std::alloc::{AllocError, Global};
 
 /// Adds the members `snapshot_bytes`, `journal_bytes` and `peers`, each after a comma. A peer is an
-/// object with `peer`, `ended_well`, `fault` and `receipts`, where what is absent is `null`.
+/// object with `peer`, `ended_well`, `fault` and `receipts`; what is absent is `null`.
 ///
 /// # Errors
 /// Memory ran out. Nothing is said then of what is there.

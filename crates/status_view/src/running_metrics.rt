@@ -15,7 +15,7 @@ use std::alloc::AllocError;
 /// Adds the gauges `fedbundle_snapshot_bytes` and `fedbundle_journal_bytes`, and for each peer, by
 /// the label `peer`, the counter `fedbundle_peer_receipts_total` and the gauges
 /// `fedbundle_peer_ended_well_timestamp_seconds`, if a session ended well, and
-/// `fedbundle_peer_fault_info`, if one failed, with the fault's code as its label `fault`.
+/// `fedbundle_peer_fault_info`, if one failed, with the error's code as its label `fault`.
 ///
 /// # Errors
 /// Memory ran out. Nothing is said then of what is there.

@@ -11,8 +11,8 @@ use bundle_view::conflicts;
 use closure_core::{Closure, MOST_RECEIPTS, MOST_RECORDS, NoMemory};
 use std::alloc::Global;
 
-/// How a replica stands: the digest of its configuration, what it holds, and for each trust domain
-/// the current document, the accepted ones and the conflicts.
+/// The status of a replica: the digest of its configuration, what it holds, and for each trust
+/// domain the current document, the accepted ones and the conflicts.
 ///
 /// The work grows with the number of accepted documents, and with the product of the numbers of
 /// domains and conflicts.
@@ -35,7 +35,7 @@ pub fn read_status<C: Closure>(alloc: Global, closure: &C) -> Result<Status, NoM
 
 /// Whether an operator has to do something: a configured document has no X.509 authority, a current
 /// one lists a key that is distrusted in its domain, or more than nine tenths of the receipts or of
-/// the records of distrust are held that may be.
+/// the records of distrust that may be held are held.
 pub fn has_warning(status: &Status) -> bool
     ensures { result ≡ has_warning status.now }
 {

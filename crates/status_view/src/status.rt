@@ -1,10 +1,10 @@
-//! How a replica stands, as a value.
+//! The status of a replica, as a value.
 use bundle_doc::DocId;
 use fed_config::ConfigId;
 use jwk_set::KeyId;
 use spiffe_name::TrustDomain;
 
-/// How a replica stands.
+/// The status of a replica.
 #[derive(Debug, Drop)]
 pub struct Status {
     /// The configuration's digest.
@@ -15,19 +15,19 @@ pub struct Status {
     pub pending: u64,
     /// How many records of distrust are held, of 4,096 at most.
     pub records: u64,
-    /// Each trust domain of the configuration, rising.
+    /// Each trust domain of the configuration, sorted.
     pub domains: Vec<DomainStatus>,
     /// The configured documents that have no X.509 authority, in the order of the configuration: no
     /// endpoint can be authenticated by one.
     pub keyless_seeds: Vec<KeylessSeed>,
 }
 
-/// How a trust domain stands.
+/// The status of a trust domain.
 #[derive(Debug, Drop)]
 pub struct DomainStatus {
     /// Its name.
     pub domain: TrustDomain,
-    /// Its current document, where it has one.
+    /// Its current document, if it has one.
     pub current: Option<CurrentStatus>,
     /// How many documents are accepted.
     pub accepted: u64,
@@ -40,11 +40,11 @@ pub struct DomainStatus {
 pub struct CurrentStatus {
     /// Its id.
     pub id: DocId,
-    /// Its sequence number, where it has one.
+    /// Its sequence number, if it has one.
     pub sequence: Option<u64>,
-    /// Its refresh hint in seconds, where it has one.
+    /// Its refresh hint in seconds, if it has one.
     pub refresh_hint: Option<u64>,
-    /// The different keys of its X.509 authorities, rising.
+    /// The different keys of its X.509 authorities, sorted.
     pub keys: Vec<KeyStatus>,
 }
 

@@ -32,7 +32,8 @@ pub enum StatusFormat {
     Prometheus,
 }
 
-/// Writes how the replica stands, and returns whether there is a warning ([`crate::has_warning`]).
+/// Writes the status of the replica, and returns whether there is a warning
+/// ([`crate::has_warning`]).
 ///
 /// All memory is taken before the first byte is written.
 ///
@@ -70,7 +71,7 @@ fn status_in(alloc: Global, status: &Status, format: StatusFormat) -> Result<Vec
     }
 }
 
-/// Writes how a running replica stands, with its files and its peers at the end, and returns
+/// Writes the status of a running replica, with its files and its peers at the end, and returns
 /// whether there is a warning ([`crate::has_warning`]); its files and its peers are never one.
 ///
 /// | Format | What is added |

@@ -24,7 +24,7 @@ begun_all Gives xs k old now high begun =
     let whole = begun [] (subst (λ l. AreParts Gives l []) (sym (drop_all k xs high)) refl) in
     (whole.0, whole.1, sym (append-nil now) ∙ whole.2)
 
--- the same where nothing was there before
+-- the same if nothing was there before
 pub all_begun : {X Y : Type 0} (Gives : X → List Y → Type 0) (xs : List X) (k : ℕ) (now : List Y)
     → length xs ≤ k → IsBegun Gives xs (drop k xs) [] now → AreParts Gives xs now
 all_begun Gives xs k now high begun =

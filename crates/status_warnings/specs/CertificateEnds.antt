@@ -25,7 +25,7 @@ pub record IsEnd (domain der : List ℕ) (e : CertificateEnd) : Type 0 where
   pub spelled : IsSpelled certificate der
   pub not_after : e.not_after ≡ unix_seconds (moment_of certificate.not_after)
 
--- Bytes that are no certificate have no end.
+-- Bytes that are not a certificate have no end.
 abbrev pub IsEndOf : (domain der : List ℕ) → List CertificateEnd → Type 0
 IsEndOf domain der [] = (c : Certificate) → IsSpelled c der → ⊥
 IsEndOf domain der (e ∷ []) = IsEnd domain der e
@@ -45,7 +45,7 @@ pub record AreEndsOf (m : Meaning) (domain : List ℕ) (ends : List CertificateE
   pub is_current : IsCurrent m domain current
   pub are : AreEndsOfCurrent domain current ends
 
--- those of the domains of the configuration, rising
+-- those of the domains of the configuration, sorted
 pub record AreAllEnds (m : Meaning) (ends : List CertificateEnd) : Type 0 where
   pub domains : List (List ℕ)
   pub are_domains : AreDomains m.config domains

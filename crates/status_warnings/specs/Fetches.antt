@@ -7,7 +7,7 @@ use Rattle.poll_log.specs.Polling.{PollStatus, interval_of, success_in}
 use Rattle.poll_view.specs.NextPolls.{IsHint}
 use Rattle.status_warnings.specs.declared.seen.Fetch.{Fetch}
 
--- the second of a moment in nanoseconds, rounded toward zero
+-- the second of a time in nanoseconds, rounded toward zero
 abbrev pub second_of : ℤ → ℤ
 second_of nanos = int_div nanos (pos 1000000000)
 
@@ -21,6 +21,6 @@ pub record IsFetch (m : Meaning) (log : List PollStatus) (domain : List ℕ)
   pub is_hint : IsHint m domain hint
   pub wait : f.wait ≡ interval_of hint
 
--- one for each relationship, rising by domain
+-- one for each relationship, sorted by domain
 abbrev pub AreFetches : Meaning → List PollStatus → List Fetch → Type 0
 AreFetches m log fetches = AllZip (λ r f. IsFetch m log r.domain f) m.config.relationships fetches

@@ -17,7 +17,7 @@ pub record AreSameKeysIn (m : Meaning) (domain : List ℕ) (found : List SamePub
   pub are : AreSameKeys m domain keys
   pub is : found ≡ map (same_key_of domain) keys
 
--- those of the domains of the configuration, rising
+-- those of the domains of the configuration, sorted
 pub record AreAllSameKeys (m : Meaning) (found : List SamePublicKey) : Type 0 where
   pub domains : List (List ℕ)
   pub are_domains : AreDomains m.config domains

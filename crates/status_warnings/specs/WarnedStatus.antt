@@ -1,4 +1,4 @@
--- What is written of how a replica stands, with what is wrong with it at the end
+-- What is written of the status of a replica, with what is wrong with it at the end
 use Rattle.std.specs.Prelude.{◌≡◌, ℕ, List, [], ◌++◌, codes, Option, Some, None, option_map}
 use Rattle.receipt_core.specs.Acceptance.{Meaning}
 use Rattle.status_view.specs.declared.running.PeerStatus.{PeerStatus}
@@ -25,7 +25,7 @@ use Rattle.status_warnings.specs.WarningLines.{lines_of_warnings}
 use Rattle.status_warnings.specs.WarningJson.{warning_member}
 use Rattle.status_warnings.specs.WarningMetrics.{certificate_gauge, warning_gauge}
 
--- ---- what is known beside what is held
+-- ---- what is known in addition to what is held
 
 -- when the replica is looked at, and how long things may take; what it says of itself, if it runs;
 -- and how domains are fetched, if a log of polls is known
@@ -64,7 +64,7 @@ abbrev pub found_in : Watching → Status → List CertificateEnd → List SameP
 found_in w s certificates same_keys =
     warnings_of w.limits (sight_with w s certificates same_keys)
 
--- ---- the texts: what was written without warnings stands first
+-- ---- the texts: what was written without warnings comes first
 
 abbrev pub lines_of_running : Option RunningStatus → List ℕ
 lines_of_running None = []
@@ -103,7 +103,7 @@ abbrev pub seen_text : StatusFormat → Watching → Status → List Certificate
 seen_text format w s certificates same_keys = warned_text format w.running
     (sight_with w s certificates same_keys) (found_in w s certificates same_keys)
 
--- the text of how the replica stands
+-- the text of the replica's status
 pub record IsWarnedStatusIn (m : Meaning) (w : Watching) (format : StatusFormat)
     (text : List ℕ) : Type 0 where
   pub status : Status

@@ -55,7 +55,7 @@ expiry_words domain key at = domain
     ++ (codes " has a certificate that ends at "
     ++ (signed_decimal at ++ (codes ", of key " ++ encode_lower key)))
 
--- the second, or that there is none
+-- the second, or `never`
 abbrev pub second_or_never : Option ℤ → List ℕ
 second_or_never None = codes "never"
 second_or_never (Some second) = signed_decimal second

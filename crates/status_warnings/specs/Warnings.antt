@@ -74,7 +74,7 @@ same_key_warning s = SameKey s.domain s.key ∷ []
 
 -- ---- a certificate
 
--- it ends within so many days, or has ended
+-- it ends within this many days, or has ended
 abbrev pub ends_soon : WarnLimits → CertificateEnd → Bool
 ends_soon limits c = int_le c.not_after (limits.moment +ℤ pos (limits.expires_within * 86400))
 
@@ -121,10 +121,9 @@ full_warnings s =
 
 -- ---- the whole
 
--- what is looked at: how the replica stands, the certificates of current bundles, the keys that
+-- what is looked at: the status of the replica, the certificates of current bundles, the keys that
 -- have the public key of a distrusted one, how domains are fetched, the peers, and when the replica
--- began
--- that has them
+-- that has them began
 pub record Sight : Type 0 where
   pub status : Status
   pub certificates : List CertificateEnd

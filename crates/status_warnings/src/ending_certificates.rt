@@ -14,9 +14,9 @@ use sha2::{Digest, Sha256};
 use spiffe_name::TrustDomain;
 use std::alloc::{AllocError, Global};
 
-/// When the certificates end that the current bundles have as X.509 authorities: domains rise, and
-/// those of a bundle stand in the order of its authorities. An authority whose bytes are no
-/// certificate, as far as [`read_certificate`] reads one, is left out.
+/// When the certificates end that the current bundles have as X.509 authorities: sorted by domain,
+/// and those of a bundle in the order of its authorities. An authority whose bytes
+/// [`read_certificate`] does not read is left out.
 ///
 /// # Errors
 /// Memory ran out.

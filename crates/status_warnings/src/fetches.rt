@@ -11,10 +11,10 @@ use poll_view::current_hint;
 use spiffe_name::TrustDomain;
 use std::alloc::{AllocError, Global};
 
-/// How the domain of each relationship of the configuration is fetched, rising: the second of its
-/// last poll that succeeded, rounded toward zero, and the seconds from one poll to the next if none
-/// fails. These follow from the refresh hint of its current document (SPIFFE Trust Domain and
-/// Bundle, section 4.1.2). No poll of a domain that the log lacks has succeeded.
+/// How the domain of each relationship of the configuration is fetched, sorted by domain: the
+/// second of its last poll that succeeded, rounded toward zero, and the seconds from one poll to
+/// the next if none fails. These follow from the refresh hint of its current document (SPIFFE Trust
+/// Domain and Bundle, section 4.1.2). No poll of a domain that the log lacks has succeeded.
 ///
 /// # Errors
 /// Memory ran out.

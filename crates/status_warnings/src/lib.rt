@@ -1,10 +1,10 @@
-//! What is wrong with a replica, for operators: a list of warnings, and what of it stands at the
-//! end of the three texts of a status. It reads no clock: the moment is handed in.
+//! What is wrong with a replica, for operators: a list of warnings, and what of it is at the end of
+//! the three texts of a status. It reads no clock: the caller gives the time.
 //!
 //! `seen` has what is looked at: `ending_certificates` finds the certificates, `same_keys` the keys
 //! of distrusted public keys, and `fetches` says how the domains are fetched. `warning_kinds` has
 //! what is found, and `warning_search` finds it. `warning_lines`, `warning_json` and
-//! `warning_metrics` write it, as functions of the list alone. `warned_text` puts that after the
+//! `warning_metrics` write it, as functions of only the list. `warned_text` puts that after the
 //! texts of a status, and `warned_writer` writes the whole.
 #![tactic(auto)]
 

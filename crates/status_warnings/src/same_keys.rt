@@ -10,7 +10,7 @@ use key_view::same_keys;
 use spiffe_name::TrustDomain;
 use std::alloc::{AllocError, Global};
 
-/// The keys that [`key_view::same_keys`] finds: domains rise, and those of a domain stand in its
+/// The keys that [`key_view::same_keys`] finds: sorted by domain, and those of a domain in its
 /// order. Only the documents of domains with a record of distrust are looked at.
 ///
 /// # Errors

@@ -14,35 +14,35 @@ pub struct WarnLimits {
     pub peer_quiet: u64,
 }
 
-/// What is known beside what is held.
+/// What is known in addition to what is held.
 #[derive(Clone, Copy, Debug)]
 pub struct Watch<'a> {
     /// When the replica is looked at, and how long things may take.
     pub limits: WarnLimits,
     /// What a running replica says of itself; `None` if what is held was read from a state file.
     pub running: Option<&'a RunningStatus<'a>>,
-    /// How the domains are fetched, rising; empty if no log of polls is known.
+    /// How the domains are fetched, sorted by domain; empty if no log of polls is known.
     pub fetches: &'a [Fetch],
 }
 
 /// What is looked at.
 #[derive(Clone, Copy, Debug)]
 pub struct Seen<'a> {
-    /// How the replica stands.
+    /// The status of the replica.
     pub status: &'a Status,
-    /// The certificates of current bundles, domains rising.
+    /// The certificates of current bundles, sorted by domain.
     pub certificates: &'a [CertificateEnd],
-    /// The keys that have the public key of a distrusted one, domains rising.
+    /// The keys that have the public key of a distrusted one, sorted by domain.
     pub same_keys: &'a [SamePublicKey],
-    /// How the domains are fetched, rising; empty if no log of polls is known.
+    /// How the domains are fetched, sorted by domain; empty if no log of polls is known.
     pub fetches: &'a [Fetch],
     /// The peers, in the order in which they are asked; empty if the replica does not run.
     pub peers: &'a [PeerStatus],
-    /// The Unix second at which the replica began that has these peers.
+    /// The Unix second at which the replica that has these peers began.
     pub began: u64,
 }
 
-/// When a certificate ends that is an X.509 authority of a current bundle.
+/// When a certificate of an X.509 authority of a current bundle ends.
 #[derive(Debug, Drop)]
 pub struct CertificateEnd {
     /// The bundle's trust domain.

@@ -18,7 +18,7 @@ use status_view::{
 use std::alloc::{AllocError, Global};
 
 /// The text of the status in this format, then what a running replica says of itself, then the
-/// certificates where the format is that of metrics, and then the warnings.
+/// certificates if the format is that of metrics, and then the warnings.
 pub(crate) fn warned_text(
     alloc: Global,
     running: Option<&RunningStatus<'_>>,

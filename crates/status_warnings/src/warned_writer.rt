@@ -16,7 +16,7 @@ use closure_core::Closure;
 use status_view::{Status, StatusFormat, has_warning, read_status};
 use std::alloc::{AllocError, Global};
 
-/// Writes how the replica stands, then what it says of itself if it runs, and then the warnings
+/// Writes the status of the replica, then what it says of itself if it runs, and then the warnings
 /// ([`crate::find_warnings`]). Returns what [`status_view::has_warning`] returns, whatever these
 /// are.
 ///

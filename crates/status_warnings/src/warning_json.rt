@@ -27,7 +27,7 @@ use std::alloc::{AllocError, Global};
 /// | `quiet-peer` | `peer` and `since` |
 /// | `nearly-full` | `what`, which is `receipts` or `records`, and `held` |
 ///
-/// Moments are Unix seconds.
+/// Times are Unix seconds.
 ///
 /// # Errors
 /// Memory ran out. Nothing is said then of what is there.

@@ -6,7 +6,7 @@ use spiffe_name::TrustDomain;
 /// What is wrong with a replica.
 #[derive(Debug, Drop)]
 pub enum Warning {
-    /// The trust domain has this fault.
+    /// The trust domain has this problem.
     Domain(DomainFault, TrustDomain),
     /// An accepted bundle of the domain has this key, which is not distrusted, though a distrusted
     /// key of the domain has its public key.
@@ -18,7 +18,7 @@ pub enum Warning {
     NotFetched(TrustDomain, Option<i64>),
     /// No session with the peer ended well since this Unix second.
     QuietPeer(PeerAddress, u64),
-    /// So many are held.
+    /// This many are held.
     NearlyFull(Stock, u64),
 }
 

@@ -15,7 +15,7 @@ use jwk_set::KeyId;
 use spiffe_name::TrustDomain;
 use std::alloc::AllocError;
 
-/// Adds a line for each: `warning: <kind>: `, and then what is wrong with what. Moments are Unix
+/// Adds a line for each: `warning: <kind>: `, and then what is wrong with what. Times are Unix
 /// seconds. Without a warning nothing is added.
 ///
 /// # Errors

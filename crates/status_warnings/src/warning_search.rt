@@ -43,7 +43,7 @@ const MOST_RECORDS: u64 = 4_096;
 /// replica began |
 /// | `nearly-full` | more than nine tenths of the receipts or of the records are held |
 ///
-/// Within a kind, what is looked at stands in its own order: domains rise.
+/// Within a kind, what is looked at is in its own order: domains are sorted.
 ///
 /// # Errors
 /// Memory ran out.

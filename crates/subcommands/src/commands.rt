@@ -19,7 +19,7 @@ use fed_config::Config;
 use fedbundle::{Call, CommandName, Exit, OptionName, given, is_flag_given};
 
 /// Carries out the command, which is any but `replica`, with files and streams of this process.
-/// Returns the exit status: 0, or 1 where an input was refused and the rest is done.
+/// Returns the exit status: 0, or 1 if an input was refused and the rest is done.
 ///
 /// # Errors
 /// Each [`Exit`] with which the command ends before it is done.

@@ -17,7 +17,7 @@ const MAX_SESSION_SECONDS: u64 = 600;
 /// goes on, or a debugger was attached.
 const MAX_INTERRUPTIONS: u32 = 1_000_000;
 
-/// How long a failed accept waits, so that faults that come one after another take no processor.
+/// How long a failed accept waits, so that errors that come one after another take no processor.
 const PAUSE_MILLIS: u64 = 100;
 
 /// A connection with another replica, for one session.
@@ -25,6 +25,7 @@ const PAUSE_MILLIS: u64 = 100;
 pub(crate) struct Connection {
     stream: TcpStream,
     peer: SocketAddr,
+    begun: Instant,
     deadline: Instant,
 }
 
@@ -35,7 +36,7 @@ pub(crate) struct Direction<'a> {
     connection: &'a Connection,
 }
 
-/// Waits at the address. It is at fault where another program does so already.
+/// Waits at the address. It fails if another program does so already.
 pub(crate) fn listen(rt: &HostRuntime, address: SocketAddr) -> Result<TcpListener, Exit> {
     match TcpListener::bind(rt, address) {
         Ok(listener) => Ok(listener),
@@ -43,7 +44,7 @@ pub(crate) fn listen(rt: &HostRuntime, address: SocketAddr) -> Result<TcpListene
     }
 }
 
-/// The connection that the next client makes. How long it is waited for has no limit. A fault is
+/// The connection that the next client makes. How long it is waited for has no limit. An error is
 /// returned after a pause.
 pub(crate) fn accept(rt: &HostRuntime, listener: &TcpListener) -> Result<Connection, Exit> {
     match accept_stream(rt, listener) {
@@ -67,6 +68,14 @@ impl Connection {
     /// The address of the other side.
     pub(crate) fn peer(&self) -> SocketAddr {
         self.peer
+    }
+
+    /// Whether it began so lately that nothing on it can have failed because no byte moved.
+    pub(crate) fn is_young(&self, rt: &HostRuntime) -> bool {
+        match Instant::now(rt) {
+            Ok(now) => now.duration_since(self.begun) < Duration::from_secs(MAX_IDLE_SECONDS),
+            Err(_) => false,
+        }
     }
 
     /// A direction of the connection; either serves for both.
@@ -133,7 +142,7 @@ fn fault_at(step: Step, error: &io::Error) -> Exit {
     })
 }
 
-// Of all faults of the system lack of memory alone has a name of its own.
+// Of all errors of the system, only lack of memory has a name of its own.
 fn fault_of(error: &io::Error) -> CommandError {
     match error.kind() {
         ErrorKind::OutOfMemory => CommandError::Sync(SyncError::NoMemory),
@@ -152,16 +161,19 @@ fn connect_stream(rt: &HostRuntime, address: SocketAddr) -> io::Result<Connectio
     with_timeouts(rt, stream, address)
 }
 
-// A session whose time begins now. Each write goes out at once, since the other side waits for it.
+// A session whose time begins now. Each write goes out immediately, since the other side waits for
+// it.
 fn with_timeouts(rt: &HostRuntime, stream: TcpStream, peer: SocketAddr) -> io::Result<Connection> {
     let idle = Duration::from_secs(MAX_IDLE_SECONDS);
     stream.set_nodelay(true)?;
     stream.set_read_timeout(Some(idle))?;
     stream.set_write_timeout(Some(idle))?;
-    match Instant::now(rt)?.checked_add(Duration::from_secs(MAX_SESSION_SECONDS)) {
+    let begun = Instant::now(rt)?;
+    match begun.checked_add(Duration::from_secs(MAX_SESSION_SECONDS)) {
         Some(deadline) => Ok(Connection {
             stream,
             peer,
+            begun,
             deadline,
         }),
         None => Err(io::Error::from(ErrorKind::TimedOut)),

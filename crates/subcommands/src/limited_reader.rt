@@ -2,12 +2,13 @@
 use std::io;
 use std::io::{ErrorKind, Read};
 
-/// A reader that gives at most so many bytes. Where there are more it fails, after it has given
+/// A reader that gives at most this many bytes. If there are more it fails, after it has given
 /// those.
 #[derive(Drop)]
 pub(crate) struct LimitedReader<R> {
     reader: R,
     left: u64,
+    has_given: bool,
     has_passed: bool,
 }
 
@@ -16,8 +17,14 @@ impl<R: Read> LimitedReader<R> {
         LimitedReader {
             reader,
             left: most,
+            has_given: false,
             has_passed: false,
         }
+    }
+
+    /// Whether it gave a byte.
+    pub(crate) fn has_given(&self) -> bool {
+        self.has_given
     }
 
     /// Whether it failed because there were more bytes.
@@ -46,6 +53,7 @@ impl<R: Read> Read for LimitedReader<R> {
         let room = left.min(buffer.len());
         let read = self.reader.read(&mut buffer[..room])?;
         self.left = self.left.saturating_sub(read as u64);
+        self.has_given |= read > 0;
         Ok(read)
     }
 }

@@ -29,7 +29,7 @@ pub(crate) struct StateAccess<'a> {
     pub(crate) missing: MissingState,
 }
 
-/// What a command does where there is neither a state file nor a journal.
+/// What a command does if there is neither a state file nor a journal.
 #[derive(Clone, Copy, PartialEq, Eq)]
 pub(crate) enum MissingState {
     /// It takes the state for one that holds nothing.
@@ -46,9 +46,9 @@ pub(crate) fn state_access_of<'a>(call: &Call<'a>) -> Result<StateAccess<'a>, Ex
     })
 }
 
-// A command that only looks at what a state holds is mistaken where there is none, unless its words
-// say that there may be none. The commands of the exchange format take it for one that holds
-// nothing (D-439).
+// A command that only looks at what a state holds is mistaken if there is none, unless its
+// arguments say that there may be none. The commands of the exchange format take it for one that
+// holds nothing (D-439).
 fn missing_of(call: &Call<'_>) -> MissingState {
     if is_flag_given(given(call, OptionName::New)) {
         return MissingState::HoldsNothing;
@@ -77,7 +77,7 @@ pub(crate) fn has_state(rt: &HostRuntime, path: &str) -> Result<bool, Exit> {
     }
 }
 
-/// Takes the lock of the state file, where another command has it as soon as that is done.
+/// Takes the lock of the state file. If another command has it, it waits until that is done.
 pub(crate) fn lock(rt: &HostRuntime, state: StateAccess<'_>) -> Result<StateLock, Exit> {
     if let Some(lock) = try_lock(rt, state.path)? {
         return Ok(lock);
@@ -130,8 +130,8 @@ fn try_lock(rt: &HostRuntime, path: &str) -> Result<Option<StateLock>, Exit> {
     }
 }
 
-/// What the state file holds. Where there is none that is said, if more is wanted, or the command
-/// refuses it.
+/// What the state file holds. If there is none, the command refuses it, or says so if more is
+/// wanted.
 pub(crate) fn load<C: Closure>(
     rt: &HostRuntime,
     config: &Config,
@@ -162,8 +162,8 @@ fn say_missing(rt: &HostRuntime, state: StateAccess<'_>) {
     }
 }
 
-/// Leaves to the system what the command held: the process ends, and its memory is taken back at
-/// once, and not piece by piece.
+/// Leaves to the system what the command held: the process ends, and its memory is taken back as a
+/// whole, and not piece by piece.
 pub(crate) fn leave<T: Drop>(held: T) {
     mem::forget(held);
 }
@@ -175,7 +175,7 @@ pub(crate) fn save<C: Closure>(rt: &HostRuntime, closure: &C, path: &str) -> Res
     }
 }
 
-/// How many bytes may come to those that the state file has. Where the system does not say how many
+/// How many bytes may come to those that the state file has. If the system does not say how many
 /// these are, the command finds out when it loads them.
 pub(crate) fn room_left(rt: &HostRuntime, state: StateAccess<'_>) -> u64 {
     match state_bytes(rt, state.path) {

@@ -5,7 +5,7 @@ ghost use Rattle.text_lines.specs.TextLines.{number_or_none};
 use byte_lines::push_number;
 use std::alloc::AllocError;
 
-/// Writes a number in decimal after what is there, or `none` where there is no number.
+/// Writes a number in decimal after what is there, or `none` if there is no number.
 ///
 /// # Errors
 /// Memory ran out. Nothing is said then of what is there.

@@ -1,4 +1,4 @@
--- The edges of a net and what stands at its nodes
+-- The edges of a net and what is at its nodes
 use Rattle.std.proofs.Common.{◌≡◌, ℕ, ◌+◌, inl, inr, true, false, List, [], length}
 use Rattle.std.proofs.Common.{get_or, map, Option, Some, None, arith, sym, ap, ◌∙◌, subst}
 use Rattle.std.specs.Prelude.{Contains, slice_get}
@@ -148,7 +148,7 @@ module _ {A : Type 0} (spots : List (NodeSpec A)) (labels : List A) (IsShut : A 
         named = ap (λ (a : LabelledEdge A). a.label) f.2;
       }
 
-  -- A node is a root exactly where its spot says so.
+  -- A node is a root exactly if its spot says so.
   pub root-of_spot : (n : ℕ) (spot : NodeSpec A) → slice_get spots n ≡ Some spot → is_root net n ≡ spot.rooted
   root-of_spot n spot at =
       ap (λ rs. get_or rs n false) h.roots ∙ get_or_from_slice_get (map (λ (s : NodeSpec A). s.rooted) spots) n spot.rooted

@@ -68,7 +68,7 @@ module _ (h : HeldReceipts) (p : DocumentTableView) (w : LabelIndexView) (b : Is
   fits : (r : Receipt) → Contains h.arrived r → IsFitting h.config r
   fits r c = each_has (IsFitting h.config) h.held r b.valid.fitting ((b.same r).1 c)
 
-  -- What stands at a reached node is accepted.
+  -- What is at a reached node is accepted.
   pub node-accepted : (n : ℕ) → IsReached w.net n → IsAccepted (meaning_of h) h.arrived n
   node-accepted n r = accepted-from_reached (meaning_of h) h.arrived b.same fits (map (triple_by b.domains) w.labels) w.net b.wired.mirrors n r
 
@@ -94,7 +94,7 @@ module _ (h : HeldReceipts) (p : DocumentTableView) (w : LabelIndexView) (b : Is
         b.pairing.counted,
       )
 
-  -- Where the raised flags are those of marked nodes, they say what is accepted.
+  -- If the raised flags are those of marked nodes, they say what is accepted.
   tells-flags : ((number : ℕ) → (is_raised (flags_of p.counts) number ≡ true) ↔ IsFirstOf p.heads
       w.marked number) → TellsMembers (meaning_of h) (pairs_of h.config.seeds h.arrived) p.numbers
       (flags_of p.counts)
@@ -115,13 +115,13 @@ module _ (h : HeldReceipts) (p : DocumentTableView) (w : LabelIndexView) (b : Is
     once = λ one other q. pairing-once (pairs_of h.config.seeds h.arrived) p b.pairing one other q;
   }
 
-  -- Where the counts are those of marked nodes, their flags say what is accepted.
+  -- If the counts are those of marked nodes, their flags say what is accepted.
   pub tells : AreCounts p.heads w.marked p.counts
       → TellsMembers (meaning_of h) (pairs_of h.config.seeds h.arrived) p.numbers
       (flags_of p.counts)
   tells are = tells-flags (flags-counted p.heads w.marked p.counts marked-within are)
 
--- A pair's flag is raised exactly where its document is accepted.
+-- A pair's flag is raised exactly if its document is accepted.
 pub raised-member : (h : HeldReceipts) (p : DocumentTableView) (w : LabelIndexView) → IsIndexed h p w → (q : Pair)
     → HasRaised (pairs_of h.config.seeds h.arrived) p q ↔ IsMember (meaning_of h) q
 raised-member h p w i q =
@@ -195,7 +195,7 @@ gain-more h new p q w v r nodes n i j is adds count =
 
 -- ---- more records of distrust
 
--- Labels are closed by these records exactly where they were before, or are meant.
+-- Labels are closed by these records exactly if they were before, or are meant.
 abbrev pub Shuts : List (List ℕ) → List Distrust → List Distrust → (Label → Type 0) → Type 0
 Shuts domains old new IsMeant = (label : Label) → label.domain < length domains
     → IsShutBy new (triple_by domains label) ↔
@@ -344,7 +344,7 @@ was-counted h p w v i IsMeant work is c marked last = record {
   counts = is.counts;
 }
 
--- A close of the labels that records shut closes them at once, in the caller's words.
+-- A close of the labels that records shut closes them together, as the caller states it.
 pub closes-at_once : (old new : HeldReceipts) (p : DocumentTableView) (w v : LabelIndexView) (was after : FreeRoom)
     (before work : ℕ) (records : List Distrust) (IsMeant : Label → Type 0) → IsBuilt old p w
     → Closes w IsMeant v work
@@ -476,7 +476,7 @@ room-kept h new p q w v spare r is held heads pairs wired = record {
   few = omega (arith, r.few, ap length heads);
 }
 
--- What reserving did, where the new room is known.
+-- What reserving did, given the new room.
 pub reserves-from : (h new : HeldReceipts) (p q : DocumentTableView) (w v : LabelIndexView) (spare more : FreeRoom)
     → IsIndexedClosure h p w spare → new ≡ record h { capacity = new.capacity } → q.numbers ≡ p.numbers
     → q.heads ≡ p.heads → q.counts ≡ p.counts → IsRoomierWired w v → HasRoom new q v more
@@ -541,19 +541,19 @@ index-parts h p w b =
     get_or_seed (s ∷ seeds) zero l = (s, refl)
     get_or_seed (s ∷ seeds) (suc n) l = get_or_seed seeds n (omega (arith, l))
 
--- What is built is an index in the caller's words.
+-- What is built is an index as the caller states it.
 pub index-of_built : (h : HeldReceipts) (p : DocumentTableView) (w : LabelIndexView) (spare : FreeRoom) (work : ℕ)
     → IsBuilt h p w → length h.arrived ≡ length h.held → IsIndexOf (indexed_of h w spare work)
 index-of_built h p w spare work b once =
     let parts = index-parts h p w b in
     record { labels = map (triple_by b.domains) w.labels; net = b.wired.mirrors; held = b.same; once = once; seeds = parts.0; receipts = parts.1 }
 
--- All that a closure keeps is an index in the caller's words.
+-- All that a closure keeps is an index as the caller states it.
 pub index-of_kept : (h : HeldReceipts) (p : DocumentTableView) (w : LabelIndexView) (spare : FreeRoom) (work : ℕ)
     → IsIndexedClosure h p w spare → length h.arrived ≡ length h.held → IsIndexOf (indexed_of h w spare work)
 index-of_kept h p w spare work k once = index-of_built h p w spare work k.indexed.built once
 
--- A close of all labels of distrusted keys is the work of the records that are held besides.
+-- A close of all labels of distrusted keys is the work of the records that are added.
 pub work-of : (old new : HeldReceipts) (more : List Distrust) (p q : DocumentTableView) (w v : LabelIndexView) (spare : FreeRoom)
     (before work : ℕ) → IsBefore old more new → IsBuilt old p w → IsBuilt new q v
     → length new.arrived ≡ length new.held → Closes w (IsDistrusted new) v work
@@ -569,7 +569,7 @@ work-of old new more p q w v spare before work was b built once c = record {
   work = refl;
 }
 
--- more room is no other work
+-- more room leaves the work as it was
 pub same-work : (old new : Indexed) → new.state.meaning ≡ old.state.meaning
     → new.arrived ≡ old.arrived → new.wired.net ≡ old.wired.net
     → new.wired.marked ≡ old.wired.marked

@@ -30,7 +30,7 @@ use Rattle.closure_core.proofs.RisingFacts.{each_has}
 
 -- ---- domains are different
 
--- No item of a rising list stands at two places.
+-- No item of a sorted list is at two places.
 pub rising-one_place : (xs : List (List ℕ)) → IsStrictlySortedBy domain_cmp xs → (i j : ℕ) (x : List ℕ) → i < j
     → slice_get xs i ≡ Some x → slice_get xs j ≡ Some x → ⊥
 unfolding IsStrictlySortedBy
@@ -61,7 +61,7 @@ domain-one_number domains rising i j k l e =
     ]
 
 module _ (domains : List (List ℕ)) (rising : IsStrictlySortedBy domain_cmp domains) where
-  -- Labels that stand for one triple are one label.
+  -- Labels that mean one triple are one label.
   triple-one_label : (a b : Label) → a.domain < length domains → b.domain < length domains → triple_by domains a ≡ triple_by domains b → a ≡ b
   triple-one_label a b k l e =
       let domain : a.domain ≡ b.domain = domain-one_number domains rising a.domain b.domain k l (ap (λ (t : Triple). t.domain) e) in
@@ -185,7 +185,7 @@ pub label-within : (c : Configuration) (domains : List (List ℕ)) (t : Triple) 
     → IsLabelOf c t label → label.domain < length domains
 label-within c domains t label d h = slice_get_within domains label.domain t.domain (h.domain domains d)
 
--- A triple's label stands for it.
+-- A triple's label means it.
 pub label-triple : (c : Configuration) (domains : List (List ℕ)) (t : Triple) (label : Label) → AreDomains c domains
     → IsLabelOf c t label → triple_by domains label ≡ t
 label-triple c domains t label d h =
@@ -242,7 +242,7 @@ module _ (domains : List (List ℕ)) (records : List Distrust) (spots : List (No
       → IsLabelIndexOf domains records (spots ++ record spot { offers = after } ∷ []) w
   other-offers before after e h = subst (λ (os : List Triple). IsLabelIndexOf domains records (spots ++ record spot { offers = os } ∷ []) w) e h
 
-  -- Before the first offer the spot has its own offers alone: the loop's beginning.
+  -- Before the first offer the spot has only its own offers: the loop's beginning.
   pub offers-none : IsLabelIndexOf domains records (spots ++ spot ∷ []) w
       → IsLabelIndexOf domains records (spots ++ record spot { offers = spot.offers ++ take 0 triples } ∷ []) w
   offers-none h = other-offers spot.offers (spot.offers ++ []) (sym (append-nil spot.offers)) h

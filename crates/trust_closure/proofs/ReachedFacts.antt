@@ -123,7 +123,7 @@ module _ (m : Meaning) (arrivals : List Receipt) (same : (r : Receipt)
     leads = leads_more m.config m.records (pair_of_seed a.seed) a.chain p r a.leads fit v;
   }
 
-  -- What stands at a reached node is accepted: the index accepts no more than the meaning does.
+  -- What is at a reached node is accepted: the index accepts no more than the meaning does.
   pub accepted-from_reached : (n : ℕ) → IsReached net n → IsAccepted m arrivals n
   accepted-from_reached n (root e) =
       let spot = spot-of_root (node_specs_of m.config.seeds arrivals) labels (IsShutBy m.records) net h n e in

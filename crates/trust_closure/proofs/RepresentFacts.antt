@@ -78,7 +78,7 @@ IsUsed-last spots spot label uses = record {
   uses = uses;
 }
 
--- What is used stays so where the last spot is replaced by one that uses what it does.
+-- What is used stays so if the last spot is replaced by one that uses what it does.
 IsUsed-other : {A : Type 0} (spots : List (NodeSpec A)) (spot other : NodeSpec A) (label : A)
     → (Contains spot.offers label → Contains other.offers label)
     → (spot.awaits ≡ Some label → other.awaits ≡ Some label)
@@ -165,7 +165,7 @@ module _ {A : Type 0} (spots : List (NodeSpec A)) (labels : List A) (IsShut : A 
         ];
   }
 
-  -- A net with other flags mirrors the spots where these flags say what is shut.
+  -- A net with other flags mirrors the spots if these flags say what is shut.
   pub Represents-shut : (IsShut' : A → Type 0) (flags : List Bool) → length flags ≡ length net.closed
       → ((number : ℕ) (label : A) → slice_get labels number ≡ Some label
       → (get_or flags number false ≡ true) ↔ IsShut' label)
@@ -215,7 +215,7 @@ module _ {A : Type 0} (spots : List (NodeSpec A)) (spot : NodeSpec A) (labels : 
 module _ {A : Type 0} (spots : List (NodeSpec A)) (spot : NodeSpec A) (labels : List A)
     (IsShut : A → Type 0) (net : Net) (label : A)
     (h : MirrorsBut (λ other. label ≡ other) (spots ++ spot ∷ []) labels IsShut net) where
-  -- The roots stay where the last spot is replaced by one that is a root exactly if it is.
+  -- The roots do not change if the last spot is replaced by one that is a root exactly if it is.
   same-roots : (other : NodeSpec A) → spot.rooted ≡ other.rooted → net.roots ≡ map (λ (s : NodeSpec A). s.rooted) (spots ++ other ∷ [])
   same-roots other e =
       h.roots ∙ map_push (λ (s : NodeSpec A). s.rooted) spots spot ∙ ap (λ b. map (λ (s : NodeSpec A). s.rooted) spots ++ b ∷ []) e

@@ -1,3 +1,3 @@
--- What a caller cites stands in the first; `Inside` has what the closures keep.
+-- What a caller cites is in the first; `Inside` has what the closures keep.
 pub mod Work
 pub mod Inside

@@ -16,9 +16,9 @@ use Rattle.closure_core.specs.declared.error.TakeError.{TakeError}
 use Rattle.closure_core.specs.declared.outcome.Distrusted.{Distrusted}
 use Rattle.closure_core.specs.declared.outcome.Distrusted.TheVariants.{New, Already}
 
--- All labels of the keys that these records distrust are closed at once, with so much work: so
--- many times an edge was looked at. There are no more visits than before. What that bounds the work
--- by, says the law `twice_the_edges`.
+-- All labels of the keys that these records distrust are closed together. The work is the number of
+-- times that an edge was looked at. There are no more visits than before. The law `twice_the_edges`
+-- says how this bounds the work.
 pub record ClosesAtOnce (old : Indexed) (records : List Distrust) (new : Indexed) : Type 0 where
   pub labels : List Triple
   pub net : IsNetOf old.state.meaning.config.seeds old.arrived old.state.meaning.records labels
@@ -32,7 +32,7 @@ pub record ClosesAtOnce (old : Indexed) (records : List Distrust) (new : Indexed
   pub fewer : visits_of new.wired.net new.wired.marked
       ≤ visits_of old.wired.net old.wired.marked
 
--- A record that is new has the labels of its key closed, and no other record is any work.
+-- A new record closes the labels of its key, and no other record takes any work.
 abbrev pub Worked : Indexed → Distrust → Indexed → Distrusted → Type 0
 Worked old x new (New lost) = ClosesAtOnce old (x ∷ []) new
 Worked old x new Already = new.work ≡ old.work
@@ -40,8 +40,8 @@ Worked old x new Already = new.work ≡ old.work
 abbrev pub Works : Indexed → Distrust → Indexed → Result Distrusted TakeError → Type 0
 Works old x new result = MatchResult result (Worked old x new) (λ why. new.work ≡ old.work)
 
--- Where these records are held besides, all labels of distrusted keys are closed at once, and that
--- is so much work.
+-- If these records are held as well, all labels of distrusted keys are closed together, and the
+-- work is `count`.
 pub record IsWorkOf (old : Indexed) (records : List Distrust) (count : ℕ) : Type 0 where
   pub after : Indexed
   pub is : IsIndexOf after
@@ -52,8 +52,8 @@ pub record IsWorkOf (old : Indexed) (records : List Distrust) (count : ℕ) : Ty
   pub closes : ClosesAtOnce old after.state.meaning.records after
   pub work : after.work ≡ count
 
--- Where all records were held nothing is closed. Where one of them is new all labels of distrusted
--- keys are closed, at once.
+-- If all records were held, nothing is closed. If one of them is new, all labels of distrusted keys
+-- are closed together.
 abbrev pub WorksOnce : Indexed → List Distrust → Indexed → Type 0
 WorksOnce old records new = (AreOld old.state.meaning records → new.work ≡ old.work)
     × (HasNewRecord old.state.meaning records → IsWorkOf old records new.work)

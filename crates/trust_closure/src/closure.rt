@@ -60,8 +60,8 @@ impl IndexedClosure {
         IndexedClosure::begin(alloc, config, None)
     }
 
-    /// The same, which keeps the ids of its receipts and their order by bucket besides, so that
-    /// [`crate::Closure::receipts_of`] looks at the receipts of the bucket alone.
+    /// The same, which also keeps the ids of its receipts and their order by bucket, so that
+    /// [`crate::Closure::receipts_of`] looks only at the receipts of the bucket.
     pub(crate) fn for_exchange(alloc: Global, config: &Config) -> Result<Self, NoMemory>
         ensures empty { IfOk result (λ c. c.state.meaning ≡ empty_of config.now) }
         ensures work { IfOk result (λ c. c.work ≡ 0) }
@@ -69,7 +69,7 @@ impl IndexedClosure {
         IndexedClosure::begin(alloc, config, Some(Order::new(alloc)))
     }
 
-    /// Holds the configured documents alone. The order of buckets is this, if it is to be kept.
+    /// Holds only the configured documents. The order of buckets is this, if it is to be kept.
     fn begin(alloc: Global, config: &Config, buckets: Option<Order>) -> Result<Self, NoMemory>
         requires { IfSome buckets (λ order. order.items ≡ []) }
         ensures empty { IfOk result (λ c. c.state.meaning ≡ empty_of config.now) }
@@ -101,7 +101,7 @@ impl IndexedClosure {
 
     /// Takes a receipt: it is held from now on, whether or not an accepted document vouches for it.
     /// A receipt that was not held comes last, and what was marked stays marked, in its place: the
-    /// index is not built anew.
+    /// index is not rebuilt.
     pub fn take(&mut self, receipt: Receipt) -> Result<Taken, Refused>
         ensures takes { Takes self.old.state receipt self.new.state result }
         ensures grows { GrowsAtItsEnd self.old receipt self.new result }
@@ -120,19 +120,20 @@ impl IndexedClosure {
     /// many receipts were not held.
     ///
     /// # Errors
-    /// What is held stays. The causes and their order are those of [`crate::Closure::merge`].
+    /// What is held is as before. The causes and their order are those of
+    /// [`crate::Closure::merge`].
     pub fn merge(&mut self, other: &Self) -> Result<usize, TakeError>
         ensures merges { Merges self.old.state other.now.state.meaning self.new.state result }
 
-        // However many the records are, their labels are closed at once.
+        // However many the records are, their labels are closed together.
         ensures work { MergesOnce self.old other.now.state.meaning self.new result }
     {
         merge_into(self, other)
     }
 
     /// Distrusts a key in a domain: it vouches for nothing there any more. It takes no memory. All
-    /// labels of the key are closed at once, and [`work`](IndexedClosure::work) says how many
-    /// edges that looked at.
+    /// labels of the key are closed together, and [`work`](IndexedClosure::work) says how many
+    /// edges were looked at.
     pub fn distrust(&mut self, domain: &TrustDomain, key: KeyId) -> Result<Distrusted, TakeError>
         ensures meaning { TakesDistrust self.old.state.meaning
             (record { domain = domain.now; key = key }) self.new.state.meaning result }
@@ -173,8 +174,8 @@ impl IndexedClosure {
     }
 
     /// How many edges the last `distrust` or `merge` that held a new record of distrust looked at.
-    /// It is 0 where there was none yet, or no label of the distrusted keys was open. An edge that
-    /// was looked at twice counts twice.
+    /// It is 0 if there was none yet, or no label of the distrusted keys was open. An edge that was
+    /// looked at twice counts twice.
     pub fn work(&self) -> usize
         ensures { result ≡ self.now.work }
     {

@@ -4,7 +4,7 @@ ghost use Rattle.std.specs.Prelude.{◌≡◌};
 use closure_parts::Held;
 use label_index::{Label, LabelTest};
 
-/// Meant are the labels of keys that are distrusted in what is held.
+/// A label is meant if its key is distrusted in what is held.
 #[derive(Drop)]
 pub(crate) struct DistrustedLabels<'a> {
     held: &'a Held,

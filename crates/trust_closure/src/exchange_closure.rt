@@ -1,5 +1,5 @@
-//! The closure of a replica that exchanges receipts: one over an index, which besides keeps the ids
-//! of its receipts and their order by bucket.
+//! The closure of a replica that exchanges receipts: one over an index, which also keeps the ids of
+//! its receipts and their order by bucket.
 ghost use Rattle.std.specs.Prelude.{◌≡◌, IsOk, OnOk, IfOk};
 ghost use Rattle.closure_core.specs.Changes.{empty_of, Takes, TakesDistrust, Merges};
 ghost use Rattle.closure_core.specs.Refusals.{IsRoomier};
@@ -53,7 +53,7 @@ impl ExchangeClosure {
     }
 
     /// Takes a receipt, as [`IndexedClosure::take`] does: one that was not held comes last, and the
-    /// index is not built anew.
+    /// index is not rebuilt.
     pub fn take(&mut self, receipt: Receipt) -> Result<Taken, Refused>
         ensures takes { Takes self.old.state receipt self.new.state result }
         ensures grows { GrowsAtItsEnd self.old receipt self.new result }
@@ -63,10 +63,10 @@ impl ExchangeClosure {
     }
 
     /// Takes all receipts and all records of distrust of another closure, or none, and returns how
-    /// many receipts were not held. The labels of all records are closed at once.
+    /// many receipts were not held. The labels of all records are closed together.
     ///
     /// # Errors
-    /// What is held stays. The causes and their order are those of [`Closure::merge`].
+    /// What is held is as before. The causes and their order are those of [`Closure::merge`].
     pub fn merge(&mut self, other: &Self) -> Result<usize, TakeError>
         ensures merges { Merges self.old.state other.now.state.meaning self.new.state result }
         ensures work { MergesOnce self.old other.now.state.meaning self.new result }
@@ -74,8 +74,8 @@ impl ExchangeClosure {
         self.closure.merge(&other.closure)
     }
 
-    /// Distrusts a key in a domain. It takes no memory, all labels of the key are closed at once,
-    /// and [`work`](ExchangeClosure::work) says how many edges that looked at.
+    /// Distrusts a key in a domain. It takes no memory. All labels of the key are closed together,
+    /// and [`work`](ExchangeClosure::work) says how many edges were looked at.
     pub fn distrust(&mut self, domain: &TrustDomain, key: KeyId) -> Result<Distrusted, TakeError>
         ensures meaning { TakesDistrust self.old.state.meaning
             (record { domain = domain.now; key = key }) self.new.state.meaning result }

@@ -114,12 +114,12 @@ struct Fall {
     work: usize,
 }
 
-/// Distrusts a key in a domain, and notes the work where the record is new. It takes no memory:
-/// the labels of the key are closed at once, and of the counts only those of documents whose nodes
-/// fell are looked at.
+/// Distrusts a key in a domain, and notes the work if the record is new. It takes no memory: the
+/// labels of the key are closed together, and only the counts of documents whose nodes fell are
+/// looked at.
 ///
 /// # Errors
-/// The domain is none of the configuration, or there are as many records as there may be.
+/// The domain is not one of the configuration, or there are as many records as there may be.
 pub(crate) fn retract(
     held: &mut Held,
     pairs: &mut Pairs,
@@ -186,8 +186,8 @@ fn close(
     Fall { lost, work }
 }
 
-/// Distrusts keys in domains of the configuration, as many as there may be. It takes no memory.
-/// Where one of the records is new, all their labels are closed at once, and the work is noted.
+/// Distrusts keys in domains of the configuration, as many as there may be. It takes no memory. If
+/// one of the records is new, all their labels are closed together, and the work is noted.
 pub(crate) fn retract_all(
     held: &mut Held,
     pairs: &mut Pairs,
@@ -215,7 +215,7 @@ pub(crate) fn retract_all(
     }
 }
 
-/// Closes the labels of all keys that are distrusted, and returns how many edges that looked at.
+/// Closes the labels of all keys that are distrusted, and returns how many edges were looked at.
 fn close_all(held: &Held, pairs: &mut Pairs, label_index: &mut LabelIndex) -> usize
     requires before { (more : List Distrust) × WasIndexed held.now more pairs.old label_index.old }
     ensures indexed { IsIndexed held.now pairs.new label_index.new }

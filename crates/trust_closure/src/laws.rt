@@ -11,7 +11,7 @@ pub use closure_core::laws::{larger_and_smaller, least, one_list, one_number};
 /// labels are. This bounds the number of all looks together.
 ///
 /// - `near`: at most twice the number of edges at the labels to which those of the keys lead.
-/// - `distrust`, `merge`: so at most twice the number of edges, also where records are many.
+/// - `distrust`, `merge`: so at most twice the number of edges, also for many records.
 pub fn twice_the_edges()
     ensures near { (old new : Indexed) (records : List Distrust)
         → (close : ClosesAtOnce old records new) → (reach : ℕ → Bool)

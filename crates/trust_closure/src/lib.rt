@@ -4,9 +4,9 @@
 //!
 //! `wire` gives a receipt its node and edges in the index, and `seeds` a configured document its
 //! node. `grow` changes what is held, the different documents and the index together, and after a
-//! close `recount` counts those documents anew whose nodes fell or came back. `distrusted_labels`
+//! close `recount` counts again the documents whose nodes fell or came back. `distrusted_labels`
 //! says which labels a merge closes. `changes` makes room before the first change, `closure` is the
-//! public type, and `exchange_closure` the one that keeps the ids of its receipts besides.
+//! public type, and `exchange_closure` the one that also keeps the ids of its receipts.
 //!
 //! `specs/Inside/NodeSpecs` says what ties a net to what its nodes are to be (`Represents`): one
 //! node for each, and just the edges that its offers and its need ask for. The lemma of each call

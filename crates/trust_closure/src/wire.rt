@@ -107,7 +107,7 @@ fn offer_triple(label_index: &mut LabelIndex, held: &Held, node: NodeNo, triple:
     label_index.add_offer(node, label, distrusted);
 }
 
-/// The label that stands for the triple.
+/// The label of the triple.
 fn label_of(config: &Config, triple: &Triple) -> Label
     requires { HasDomain config.now triple.now.domain }
     ensures { IsLabelOf config.now triple.now result }

@@ -86,7 +86,7 @@ taken-few net closing taken labels a h =
           (λ i b e. taken-near net closing labels h (from_at net.waits i) (a.only (from_at net.waits i) e)),
     )
 
--- where none of the labels is open nothing is taken back
+-- if none of the labels is open nothing is taken back
 pub none-taken : (net : Net) (closing : List ℕ) → ((l : ℕ) → Contains closing l → IsOpen net l → ⊥) → AreTakenBack net closing (λ l. false)
 none-taken net closing shut = record {
   only = λ l e. absurd (both_ways false refl e);
@@ -97,7 +97,7 @@ none-taken net closing shut = record {
     none l (itself c o) = shut l c o
     none l (beyond {here = here} b w r e c) = none here b
 
--- Where no label is taken back, no edge is.
+-- If no label is taken back, no edge is.
 pub none-edges : (net : Net) → edges_taken_back net (λ l. false) ≡ 0
 none-edges net =
     omega (
@@ -154,7 +154,7 @@ module _ (net : Net) (closing : List ℕ) (now : Tally) (f : HasFallen net closi
       let b = offered_now l o in
       record { not_closed = f.open_not_closed l o; offered = (b.0, b.1, b.2, f.sound b.1 b.3) }
 
--- The fall with some labels is that with others, where the same ones of them are open.
+-- The fall with some labels is that with others, if the same ones of them are open.
 pub HasFallen-alike : (net : Net) (closing others : List ℕ) (now : Tally)
     → ((l : ℕ) → Contains closing l → IsOpen net l → Contains others l)
     → ((l : ℕ) → Contains others l → IsOpen net l → Contains closing l) → HasFallen net closing now
@@ -330,7 +330,7 @@ module _ (net : Net) (t : Tally) (h : IsSettled net t) (queue : IsListing t.touc
         let b = offered_now net closing now f l o in
         open-from_offer net t h queue b.0 b.1 l b.2 (marked-from_reached b.1 (f.sound b.1 b.3)) (open_within net closing now f l o) (f.open_not_closed l o)
 
-    -- an open label stays so or is touched, and no other is either
+    -- an open label is still open or is touched, and no other label is either
     open_bit : (l : ℕ) → l < length net.closed → bit (is_open_in t l) ≡ bit (is_open_in now l) + bit (is_touched_in now l)
     open_bit l within =
         elim (cases_Bool (is_touched_in now l)) [
@@ -379,7 +379,7 @@ module _ (net : Net) (t : Tally) (h : IsSettled net t) (queue : IsListing t.touc
           (and_from (eqb (to_at net.waits i) (to_at net.waits i)) (is_touched_in now (from_at net.waits i))
           (eq-eqb (to_at net.waits i) (to_at net.waits i) refl) a))
 
-      -- A node that falls is no root and awaits a touched label.
+      -- A node that falls is not a root and awaits a touched label.
       falls-wait : (n : ℕ) → falls_with net (is_touched_in now) n ≡ true
           → (is_root net n ≡ false) × ((i : ℕ) × (i < length net.waits) × (to_at net.waits i ≡ n)
           × (is_touched_in now (from_at net.waits i) ≡ true))
@@ -392,7 +392,7 @@ module _ (net : Net) (t : Tally) (h : IsSettled net t) (queue : IsListing t.touc
             (a.0, a.2, ap (λ (x : Edge). x.to) item ∙ eqb-true a.1.to n tests.0, ap (λ (x : Edge). is_touched_in now x.from) item ∙ tests.1),
           )
 
-      -- a marked node stays so or falls, and no other does either
+      -- a marked node is still marked or falls, and no other node is or does
       marked_bit : (n : ℕ) → bit (is_marked_in t n) ≡ bit (is_marked_in now n) + bit (falls_with net (is_touched_in now) n)
       marked_bit n =
           elim (cases_Bool (falls_with net (is_touched_in now) n)) [
@@ -492,7 +492,7 @@ module _ (net : Net) (t : Tally) (h : IsSettled net t) (queue : IsListing t.touc
 -- The net with labels closed
 
 module _ (net : Net) (closing : List ℕ) where
-  -- A label that is not closed, and not among those to be closed, stays so.
+  -- A label that is not closed, and not among those to be closed, is not closed afterwards.
   pub closed-other : (k : ℕ) → (Contains closing k → ⊥) → is_closed net k ≡ false → is_closed (with_all_closed net closing) k ≡ false
   closed-other k ne c =
       false_from_ne_true (is_closed (with_all_closed net closing) k) (λ e.
@@ -643,7 +643,7 @@ visits_after net t h queue labels closing new k =
 
 -- How much work a close is
 
--- Closing labels of which none is open is no work.
+-- Closing labels none of which is open takes no work.
 pub ClosesIn-shut : (net : Net) (closing : List ℕ) (visits : ℕ) → ((l : ℕ) → Contains closing l → IsOpen net l → ⊥) → ClosesIn net closing visits visits 0
 ClosesIn-shut net closing visits shut = record {
   labels = λ l. false;
@@ -671,7 +671,7 @@ module _ (net : Net) (t : Tally) (h : IsSettled net t) (queue : IsListing t.touc
     work = omega (arith, l, visits_taken net t h queue labels closing now f once waits);
   }
 
--- no more work than twice for each edge at labels of the reach, where the visits do not grow
+-- no more work than twice for each edge at labels of the reach, if the visits do not grow
 pub ClosesIn-near : (net : Net) (closing : List ℕ) (before after work : ℕ) (labels : ℕ → Bool)
     → ClosesIn net closing before after work → after ≤ before → HasReachOf net closing labels
     → work ≤ 2 * edges_at net labels

@@ -19,7 +19,7 @@ bit-true b h = ap bit h
 pub bit-false : (b : Bool) → b ≡ false → bit b ≡ 0
 bit-false b h = ap bit h
 
--- One number more adds 1 where it passes.
+-- One number more adds 1 if it passes.
 pub count_below-more : (p : ℕ → Bool) (n : ℕ) → count_below p (n + 1) ≡ count_below p n + bit (p n)
 count_below-more p n = rw add-one
 
@@ -28,7 +28,7 @@ pub count_below-le : (p : ℕ → Bool) (n : ℕ) → count_below p n ≤ n
 count_below-le p zero = omega arith
 count_below-le p (suc n) = omega (arith, count_below-le p n, bit-le (p n))
 
--- Where a test is split into two that never both pass, their counts add up to its count.
+-- If a test is split into two that never both pass, their counts add up to its count.
 pub count_below-add : (p q r : ℕ → Bool) (n : ℕ) → ((k : ℕ) → k < n → bit (p k) ≡ bit (q k) + bit (r k)) → count_below p n ≡ count_below q n + count_below r n
 count_below-add p q r zero h = omega arith
 count_below-add p q r (suc n) h = omega (arith, count_below-add p q r n (λ k l. h k (omega arith)), h n (omega arith))
@@ -62,7 +62,7 @@ count_below-gap p m n l h =
     let e : n ≡ m + (n - m) = omega arith in
     ap (count_below p) e ∙ gap_add p m (n - m) (λ k a b. h k a (omega arith))
 
--- Where one number passes that failed, the count is one more.
+-- If one number passes that failed, the count is one more.
 pub count_below-change : (p q : ℕ → Bool) (i n : ℕ) → i < n → p i ≡ false → q i ≡ true
     → ((k : ℕ) → k < n → k ≢ i → p k ≡ q k) → count_below q n ≡ count_below p n + 1
 count_below-change p q i zero l a b h = absurd (omega arith)
@@ -76,7 +76,7 @@ count_below-change p q i (suc n) l a b h =
           omega (arith, below, ap bit (h n (omega arith) (λ f. e (sym f))))
     ]
 
--- Where the count is not 0, some number passes.
+-- If the count is not 0, some number passes.
 pub count_below-some : (p : ℕ → Bool) (n : ℕ) → 0 < count_below p n → (k : ℕ) × (k < n) × (p k ≡ true)
 count_below-some p zero h = absurd (omega arith)
 count_below-some p (suc n) h =
@@ -87,7 +87,7 @@ count_below-some p (suc n) h =
           (below.0, omega (arith, below.1), below.2)
     ]
 
--- Where a number passes, the count is not 0.
+-- If a number passes, the count is not 0.
 pub count_below-at : (p : ℕ → Bool) (i n : ℕ) → i < n → p i ≡ true → 0 < count_below p n
 count_below-at p i zero l e = absurd (omega arith)
 count_below-at p i (suc n) l e =
@@ -96,7 +96,7 @@ count_below-at p i (suc n) l e =
       | inr s ↦ omega (arith, count_below-at p i n (omega arith) e)
     ]
 
--- Where a number fails, the count is below the bound.
+-- If a number fails, the count is below the bound.
 pub count_below-less : (p : ℕ → Bool) (i n : ℕ) → i < n → p i ≡ false → count_below p n < n
 count_below-less p i zero l e = absurd (omega arith)
 count_below-less p i (suc n) l e =

@@ -1,4 +1,4 @@
--- How what a label alone reaches is taken back
+-- How what only a label reaches is taken back
 use Rattle.std.proofs.Common.{◌≡◌, ◌≢◌, ℕ, ◌+◌, ◌-◌, ◌<◌, ◌≤◌, ◌⊎◌, inl, inr, Bool, true, false, ◌&&◌, List, length}
 use Rattle.std.proofs.Common.{get_or, set, take, eqb, arith, refl, sym, ap, ◌∙◌, subst}
 use Rattle.std.specs.Prelude.{not}
@@ -69,7 +69,7 @@ module _ (net : Net) (closing : List ℕ) (t : Tally) (index label link : ℕ) (
   shut_here : get_or (set t.opened label false) label false ≡ false
   shut_here = flag-here t.opened label false (omega (arith, within, h.sizes.opened))
 
-  -- Each other flag stays.
+  -- Each other flag is as it was.
   shut_other : (k : ℕ) → k ≢ label → get_or (set t.opened label false) k false ≡ is_open_in t k
   shut_other k ne = flag-other t.opened label k false ne
 
@@ -269,7 +269,7 @@ module _ (net : Net) (once : WaitsOnce net) (closing : List ℕ) (index label ed
   node_can = CanFall-marked net closing now (index + 1) label link (to_at net.waits edge) h.falling node_marked
       (now.visits - 1) visits_some (omega (arith, one_less))
 
-  -- A root stays, and the fall goes on.
+  -- A root is still marked, and the fall goes on.
   falling_root : is_root net (to_at net.waits edge) ≡ true → IsFalling net closing (record now { visits = now.visits - 1 }) (index + 1) label next
   falling_root r =
       let f = h.falling in
@@ -318,7 +318,7 @@ module _ (net : Net) (once : WaitsOnce net) (closing : List ℕ) (index label ed
         let parts = and_parts (is_marked_in now n) (not (eqb n (to_at net.waits edge))) (sym (held n) ∙ a) in
         (parts.0, λ s. both_ways (eqb n (to_at net.waits edge)) (not-true (eqb n (to_at net.waits edge)) parts.1) (eq-eqb n (to_at net.waits edge) s))
 
-    -- Each other marked node stays marked.
+    -- Each other marked node is still marked.
     held_from : (n : ℕ) → is_marked_in now n ≡ true → n ≢ to_at net.waits edge → is_marked_in new n ≡ true
     held_from n a ne = held n ∙ and_from (is_marked_in now n) (not (eqb n (to_at net.waits edge))) a (ap not (ne_eqb n (to_at net.waits edge) ne))
 
@@ -357,11 +357,11 @@ module _ (net : Net) (once : WaitsOnce net) (closing : List ℕ) (index label ed
         and_yes true = refl
         and_yes false = refl
 
-    -- The flags of open labels stay.
+    -- The flags of open labels do not change.
     open_same : (l : ℕ) → is_open_in new l ≡ is_open_in now l
     open_same l = ap (λ flags. get_or flags l false) (w.opened ∙ u.opened)
 
-    -- What was touched stays so.
+    -- What was touched is still touched.
     touched_kept : (l : ℕ) → is_touched_in now l ≡ true → is_touched_in new l ≡ true
     touched_kept l a = w.kept l (ap (λ ps. holds ps l) u.touched_places ∙ a)
 
@@ -430,7 +430,7 @@ module _ (net : Net) (once : WaitsOnce net) (closing : List ℕ) (index label ed
               ]
         ]
 
-    -- The fall goes on after a node that is no root.
+    -- The fall goes on after a node that is not a root.
     falling_node : IsFalling net closing new (index + 1) label next
     falling_node =
         let f = h.falling in
@@ -551,7 +551,7 @@ module _ (net : Net) (once : WaitsOnce net) (closing : List ℕ) (index label ed
               | inr a ↦ absurd (both_ways (is_open_in now l) (get_or_past now.opened l false a) o)
             ]
 
-  -- The fall goes on after each wait edge, whether its node falls or stays as a root.
+  -- The fall goes on after each wait edge, whether its node falls or is a root.
   pub TakesBackFrom-step : (new : Tally) → Falls net (to_at net.waits edge) (record now { visits = now.visits - 1 }) new
       → IsListing new.marked new.places → IsListing new.touched new.touched_places
       → TakesBackFrom net closing index label next old new

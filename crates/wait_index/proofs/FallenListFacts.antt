@@ -73,7 +73,7 @@ module _ (net : Net) (node : ℕ) (now : Tally) (visits : ℕ) (between new : Ta
       and_yes true = refl
       and_yes false = refl
 
--- One step keeps the list of what fell right, whether the node falls or stays as a root.
+-- One step keeps the list of what fell right, whether the node falls or is a root.
 pub ListsFallen-step : (net : Net) (node : ℕ) (now : Tally) (visits : ℕ) (new : Tally) (fallen : List ℕ)
     → Falls net node (record now { visits = visits }) new → is_marked_in now node ≡ true → IsReached net node
     → ListsFallen net now fallen → ListsFallen net new (with_fallen net node fallen)
@@ -87,7 +87,7 @@ ListsFallen-step net node now visits new fallen falls m r h =
           (fallen_node net node now visits a.1.0 new a.1.1 a.1.2 m fallen r h)
     ]
 
--- as many more fell as fewer are marked
+-- the number of the fallen grew by what that of the marked lost
 pub fallen-many : (net : Net) (node : ℕ) (now : Tally) (visits : ℕ) (new : Tally) (fallen : List ℕ)
     → Falls net node (record now { visits = visits }) new → is_marked_in now node ≡ true
     → IsListing now.marked now.places → IsListing new.marked new.places

@@ -15,11 +15,11 @@ use Rattle.wait_index.proofs.LinkFacts.{IsLink-last, count_owned, count_owned-st
 use Rattle.wait_index.proofs.ListingFacts.{placed-from_holds, holds-from_placed}
 use Rattle.wait_index.proofs.ReleaseFacts.{front-trans}
 
--- Where marks stay at the front, nodes keep their places.
+-- If the first marks do not change, nodes keep their places.
 
 module _ (items places newer_items newer_places : List ℕ) (a : IsListing items places)
     (b : IsListing newer_items newer_places) (front : take (length items) newer_items ≡ items) where
-  -- The newer list is no shorter.
+  -- The newer list is not shorter.
   longer : length items ≤ length newer_items
   longer = omega (arith, length-take (length items) newer_items, ap length front)
 
@@ -53,7 +53,7 @@ module _ (items places newer_items newer_places : List ℕ) (a : IsListing items
             ]
       ]
 
--- the first marked nodes stay the first
+-- the first marked nodes are still the first
 pub before_kept : (old new : Tally) (cursor : ℕ) → IsListing old.marked old.places → IsListing new.marked new.places
     → take (length old.marked) new.marked ≡ old.marked → cursor ≤ length old.marked → (n : ℕ)
     → is_before new cursor n ≡ is_before old cursor n
@@ -80,7 +80,7 @@ before_kept old new cursor a b front l n =
 pub flag-here : (flags : List Bool) (l : ℕ) (v : Bool) → l < length flags → get_or (set flags l v) l false ≡ v
 flag-here flags l v h = get_or-set_same flags l v false h
 
--- Each other flag stays.
+-- Each other flag is as it was.
 pub flag-other : (flags : List Bool) (l k : ℕ) (v : Bool) → k ≢ l → get_or (set flags l v) k false ≡ get_or flags k false
 flag-other flags l k v h = get_or-set_other flags l k v false h
 
@@ -100,7 +100,7 @@ module _ (net : Net) (label : ℕ) (t new : Tally) (within : label < length net.
   open_other : (k : ℕ) → k ≢ label → is_open_in new k ≡ is_open_in t k
   open_other k ne = ap (λ flags. get_or flags k false) opened_is ∙ flag-other t.opened label k true ne
 
-  -- What was open stays so.
+  -- What was open is still open.
   open_kept : (k : ℕ) → is_open_in t k ≡ true → is_open_in new k ≡ true
   open_kept k e = elim (cases_eq k label) [ inl s ↦ ap (is_open_in new) s ∙ open_here | inr s ↦ open_other k s ∙ e ]
 
@@ -235,11 +235,11 @@ Settles-follows net label cursor node link t new within l h c listing offered ot
           }
     ]
 
--- Where nothing changes nothing is taken back.
+-- If nothing changes nothing is taken back.
 pub Spreads-refl : (t : Tally) → Spreads t t
 Spreads-refl t = record { front = take_all (length t.marked) t.marked (omega arith); touched = refl; touched_places = refl; visits = omega arith }
 
--- Where nothing is taken back twice, nothing is taken back in all.
+-- If neither of two steps takes anything back, nothing is taken back in all.
 pub Spreads-trans : (a b c : Tally) → Spreads a b → Spreads b c → Spreads a c
 Spreads-trans a b c h k = record {
   front = front-trans a.marked b.marked c.marked h.front k.front;
@@ -266,14 +266,14 @@ Settles-spreads net label t new s =
 pub Spreads-longer : (a b : Tally) → Spreads a b → length a.marked ≤ length b.marked
 Spreads-longer a b h = omega (arith, length-take (length a.marked) b.marked, ap length h.front)
 
--- While nothing is taken back each mark stays.
+-- While nothing is taken back each mark is kept.
 pub Spreads-held : (a b : Tally) → IsListing a.marked a.places → IsListing b.marked b.places → Spreads a b → (n : ℕ)
     → is_marked_in a n ≡ true → is_marked_in b n ≡ true
 Spreads-held a b h k s n e =
     let place = placed-from_holds a.places n e in
     holds-from_placed b.places n (omega (arith, place, place_kept a.marked a.places b.marked b.places h k s.front n place))
 
--- Where a test is split into two that never both pass, it stays so together with another test.
+-- If a test is split into two that never both pass, it is still so together with another test.
 pub bit-and-add : (a b c x : Bool) → bit a ≡ bit b + bit c → bit (a && x) ≡ bit (b && x) + bit (c && x)
 bit-and-add a b c true e = omega (arith, e, ap bit (and_true a), ap bit (and_true b), ap bit (and_true c))
   where
@@ -286,7 +286,7 @@ bit-and-add a b c false e = omega (arith, ap bit (and_false a), ap bit (and_fals
     and_false true = refl
     and_false false = refl
 
--- the node at the cursor, and no other, comes to those before it
+-- the node at the cursor, and no other, joins those before it
 pub before_more : (t : Tally) (cursor node : ℕ) → IsListing t.marked t.places → cursor < length t.marked
     → node ≡ get_or t.marked cursor 0 → (n : ℕ)
     → bit (is_before t (cursor + 1) n) ≡ bit (is_before t cursor n) + bit (eqb n node)
@@ -379,7 +379,7 @@ module _ (net : Net) (t : Tally) (label : ℕ) (within : label < length net.clos
   pub with_support-here : support_in (with_support t label) label ≡ support_in t label + 1
   with_support-here = get_or-set_same t.support label (support_in t label + 1) 0 (omega (arith, within, h.sizes.support))
 
-  -- Each other label's support stays.
+  -- Each other label's support is as it was.
   pub with_support-other : (k : ℕ) → k ≢ label → support_in (with_support t label) k ≡ support_in t k
   with_support-other k ne = get_or-set_other t.support label k (support_in t label + 1) 0 ne
 

@@ -121,7 +121,7 @@ module _ (net : Net) (label node : ℕ) where
     waits = λ i k n e. let o = IsEdge-old net.waits (record { from = label; to = node }) i k n e in (i, record { within = o.within; from = o.from; to = o.to });
   }
 
-  -- one more wait edge is counted where its label is open
+  -- one more wait edge is counted if its label is open
   wait_counted : (flags : List Bool)
       → count_below (λ i. get_or flags (from_at (net.waits ++ record { from = label; to = node } ∷ []) i) false)
       (length (net.waits ++ record { from = label; to = node } ∷ []))
@@ -273,7 +273,7 @@ module _ (net : Net) (node label : ℕ) where
     waits = λ i k n e. (i, record { within = e.within; from = e.from; to = e.to });
   }
 
-  -- one more offer edge is counted where its node passes
+  -- one more offer edge is counted if its node passes
   offer_counted : (test : ℕ → Bool)
       → count_below (λ i. test (from_at (net.offers ++ record { from = node; to = label } ∷ []) i))
       (length (net.offers ++ record { from = node; to = label } ∷ []))
@@ -289,7 +289,7 @@ module _ (net : Net) (node label : ℕ) where
             (λ i a. ap test (from_at-old net.offers (record { from = node; to = label }) i a)),
       )
 
-  -- One more offer edge is counted where its node passes and it leads to the label.
+  -- One more offer edge is counted if its node passes and it leads to the label.
   offer_counted_to : (test : ℕ → Bool) (k : ℕ)
       → count_below (λ i. test (from_at (net.offers ++ record { from = node; to = label } ∷ []) i) && eqb
       (to_at (net.offers ++ record { from = node; to = label } ∷ []) i) k)
@@ -408,7 +408,7 @@ push_default xs d n =
           ]
     ]
 
--- a flag that is set stands within the list
+-- a flag that is set is within the list
 pub within-from_flag : (flags : List Bool) (k : ℕ) → get_or flags k false ≡ true → k < length flags
 within-from_flag flags k e =
     elim (cases_lt k (length flags)) [ inl l ↦ l | inr l ↦ absurd (both_ways (get_or flags k false) (get_or_past flags k false l) e) ]
@@ -424,7 +424,7 @@ IsMore-node net = record {
   waits = λ i k n e. (i, record { within = e.within; from = e.from; to = e.to });
 }
 
--- An index stays settled with one node more, which is not marked.
+-- An index is still settled with one node more, which is not marked.
 pub IsSettled-node : (net : Net) (t : Tally) → IsSettled net t → IsSettled (with_node net) (record t { places = t.places ++ 0 ∷ [] })
 IsSettled-node net t h =
     let steady = h.follows.steady in
@@ -490,7 +490,7 @@ module _ (net : Net) (closed : Bool) (labels : (i : ℕ) → i < length net.offe
       step (reached-label m r) (record { within = e.within; from = e.from; to = e.to }) (closed-old l within ∙ c)
       (record { within = w.within; from = w.from; to = w.to })
 
-  -- An index stays settled with one label more, which is not open.
+  -- An index is still settled with one label more, which is not open.
   pub IsSettled-label : (t : Tally) → IsSettled net t
       → IsSettled (with_label net closed) (record t {
         support = t.support ++ 0 ∷ [];

@@ -53,7 +53,7 @@ module _ (es : List Edge) (e : Edge) where
   edge_at-old : (i : ℕ) → i < length es → edge_at (es ++ e ∷ []) i ≡ edge_at es i
   edge_at-old i l = get_or_append_left es (e ∷ []) (record { from = 0; to = 0 }) i l
 
-  -- The new edge stands at the end.
+  -- The new edge is at the end.
   edge_at-new : edge_at (es ++ e ∷ []) (length es) ≡ e
   edge_at-new = get_or_push es e (record { from = 0; to = 0 }) (length es) refl
 
@@ -95,7 +95,7 @@ module _ (es : List Edge) (e : Edge) where
             inr (at, sym from_at-new ∙ ap (from_at (es ++ e ∷ [])) (sym at) ∙ h.from, sym to_at-new ∙ ap (to_at (es ++ e ∷ [])) (sym at) ∙ h.to)
       ]
 
-  -- The last edge among the old ones stays the last of them.
+  -- The last edge among the old ones is still the last of them.
   IsLast-old : (owner n link : ℕ) → n ≤ length es → IsLast es owner n link → IsLast (es ++ e ∷ []) owner n link
   IsLast-old owner n link l h = record {
     below = h.below;
@@ -111,7 +111,7 @@ module _ (es : List Edge) (e : Edge) where
     none_later = λ i a b c. absurd (omega arith);
   }
 
-  -- The last edge of another owner stays its last.
+  -- The last edge of another owner is still its last.
   IsLast-other : (owner link : ℕ) → owner ≢ e.from → IsLast es owner (length es) link → IsLast (es ++ e ∷ []) owner (length es + 1) link
   IsLast-other owner link ne h =
       let old = IsLast-old owner (length es) link (omega arith) h in
@@ -177,7 +177,7 @@ module _ (es : List Edge) (e : Edge) where
 
 -- what is read of the lists of edges
 
--- Where an edge that was read leads to, in the words of the net.
+-- Where an edge that was read leads to, in terms of the net.
 pub read_to : (es : List Edge) (i : ℕ) (e : Edge) → i < length es → e ≡ get_or es i e → e.to ≡ to_at es i
 read_to es i e l r = ap (λ (x : Edge). x.to) (get_or_read es i e l r (record { from = 0; to = 0 }))
 

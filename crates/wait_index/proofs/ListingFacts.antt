@@ -45,7 +45,7 @@ module _ (items places : List ℕ) (h : IsListing items places) where
       let within = h.placed_within n (get_or places n 0 - 1) at in
       (get_or places n 0 - 1, within, get_or_default items (get_or places n 0 - 1) n 0 within ∙ h.placed n (get_or places n 0 - 1) at)
 
-  -- Where a number is held, the list is not empty.
+  -- If a number is held, the list is not empty.
   pub some-from_holds : (n : ℕ) → holds places n ≡ true → 0 < length items
   some-from_holds n e = let c = contains-from_holds n e in omega (arith, c.1)
 
@@ -92,11 +92,11 @@ holds-remove places n l m =
     and-true true = refl
     and-true false = refl
 
--- The list is shorter than the places where a number is not listed, so there is room for it.
+-- If a number is not listed, the list is shorter than the places, so there is room for it.
 pub fewer : (items places : List ℕ) (n : ℕ) → IsListing items places → n < length places → holds places n ≡ false → length items < length places
 fewer items places n h l e = omega (arith, h.many, count_below-less (λ m. holds places m) n (length places) l e)
 
--- With a new number at its end the list and its places stay right.
+-- With a new number at its end the list and its places are still right.
 pub IsListing-insert : (items places : List ℕ) (n : ℕ) → IsListing items places → n < length places
     → holds places n ≡ false → IsListing (items ++ n ∷ []) (set places n (length items + 1))
 IsListing-insert items places n h l e =
@@ -146,7 +146,7 @@ IsListing-insert items places n h l e =
           ap (count_below (λ m. holds (set places n v) m)) size ∙ omega (arith, change, h.many, more);
     }
 
--- With one number more, which is not listed, the list and its places stay right.
+-- With one number more, which is not listed, the list and its places are still right.
 pub IsListing-grow : (items places : List ℕ) → IsListing items places → IsListing items (places ++ 0 ∷ [])
 IsListing-grow items places h =
     let more : length (places ++ 0 ∷ []) ≡ length places + 1 = length_push places 0 in
@@ -176,7 +176,7 @@ IsListing-grow items places h =
           ap (count_below (λ m. holds (places ++ 0 ∷ []) m)) more ∙ step;
     }
 
--- Without the last number the list and its places stay right.
+-- Without the last number the list and its places are still right.
 pub IsListing-pop : (items places : List ℕ) (n : ℕ) → IsListing (items ++ n ∷ []) places → IsListing items (set places n 0)
 IsListing-pop items places n h =
     let more : length (items ++ n ∷ []) ≡ length items + 1 = length_push items n in
@@ -220,7 +220,7 @@ module _ (items places : List ℕ) (n index last : ℕ) (h : IsListing items pla
   in_list : index < length items
   in_list = h.placed_within n index at
 
-  -- The number stands at its place.
+  -- The number is at its place.
   item_n : get_or items index 0 ≡ n
   item_n = h.placed n index at
 
@@ -261,7 +261,7 @@ module _ (items places : List ℕ) (n index last : ℕ) (h : IsListing items pla
   place_n : get_or (set (set places last (index + 1)) n 0) n 0 ≡ 0
   place_n = get-here (set places last (index + 1)) n 0 (omega (arith, n_within, length-set places last (index + 1)))
 
-  -- Each number besides these two has its old place.
+  -- Each number but these two has its old place.
   place_other : (m : ℕ) → m ≢ n → m ≢ last → get_or (set (set places last (index + 1)) n 0) m 0 ≡ get_or places m 0
   place_other m a b = get-other (set places last (index + 1)) n 0
       (omega (arith, n_within, length-set places last (index + 1))) m a
@@ -273,7 +273,7 @@ module _ (items places : List ℕ) (n index last : ℕ) (h : IsListing items pla
       (omega (arith, n_within, length-set places last (index + 1))) last a
       ∙ get-here places last (index + 1) last_within
 
-  -- the last is taken out exactly where it is the one
+  -- the last is taken out exactly if it is the one
   last_is : last ≡ n → index + 1 ≡ length items
   last_is e = omega (arith, at, last_place, ap (λ k. get_or places k 0) e)
 
@@ -319,7 +319,7 @@ module _ (items places : List ℕ) (n index last : ℕ) (h : IsListing items pla
             ]
       ]
 
-  -- Without the number the list and its places stay right: the last one has taken its place.
+  -- Without the number the list and its places are still right: the last one has taken its place.
   pub IsListing-swap : (d : ℕ) → IsListing (swap_remove items index d) (set (set places last (index + 1)) n 0)
   IsListing-swap d =
       let size : length (set (set places last (index + 1)) n 0) ≡ length places =

@@ -22,7 +22,7 @@ pub length-all_set : (labels : List ℕ) (flags : List Bool) → length (all_set
 length-all_set [] flags = refl
 length-all_set (l ∷ ls) flags = length-all_set ls (set flags l true) ∙ length-set flags l true
 
--- What a list contains is its first item or stands in the rest.
+-- What a list contains is its first item or is in the rest.
 pub contains-cons : (l : ℕ) (ls : List ℕ) (k : ℕ) → Contains (l ∷ ls) k → (k ≡ l) ⊎ Contains ls k
 contains-cons l ls k c =
     elim (cases_eq c.0 0) [
@@ -103,7 +103,7 @@ closed-order net labels others h =
     in
     ap (λ closed. record net { closed = closed }) same
 
--- The visits are at most as many as the edges: the law `no_edge_twice`.
+-- The visits are at most the edges: the law `no_edge_twice`.
 pub visits-few : (net : Net) (nodes : List ℕ) → visits_of net nodes ≤ length net.offers + length net.waits
 visits-few net nodes =
     omega (

@@ -10,7 +10,7 @@ use Rattle.wait_index.specs.Inside.Tally.{Tally, HasSizes, is_marked_in, waits_o
 use Rattle.wait_index.proofs.CountBelowFacts.{count_below-le, count_below-at}
 use Rattle.wait_index.proofs.LinkFacts.{IsLink-last, count_owned, count_owned-step}
 
--- the front of a list stays where more is put at its end
+-- the front of a list does not change if more is put at its end
 pub front-trans : {X : Type 0} (a b c : List X) → take (length a) b ≡ a → take (length b) c ≡ b → take (length a) c ≡ a
 front-trans a b c h k =
     let short : length a ≤ length b = omega (arith, length-take (length a) b, ap length h) in
@@ -108,7 +108,7 @@ ReleasesFrom-step net label edge link next old now then new h e is last m =
       );
     }
 
--- The visits stay within the number of wait edges, so one can be added.
+-- The visits are within the number of wait edges, so one can be added.
 pub ReleasesFrom-fits : (net : Net) (label edge link : ℕ) (old now : Tally) → ReleasesFrom net label link old now
     → link ≡ edge + 1 → now.visits + 1 ≤ old.visits + length net.waits
 ReleasesFrom-fits net label edge link old now h e =

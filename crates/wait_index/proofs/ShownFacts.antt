@@ -21,7 +21,7 @@ use Rattle.wait_index.proofs.CloseFacts.{before_all, open-from_offer, marked-fro
 use Rattle.wait_index.proofs.GrowthFacts.{within-from_flag}
 
 module _ (items places : List ℕ) (h : IsListing items places) where
-  -- A number is in the list exactly where it is held.
+  -- A number is in the list exactly if it is held.
   pub is_among-holds : (n : ℕ) → is_among items n ≡ holds places n
   is_among-holds n =
       elim (cases_Bool (holds places n)) [
@@ -48,11 +48,11 @@ module _ (net : Net) (t : Tally) (h : IsSettled net t) (queue : IsListing t.touc
         once = listed-once t.marked t.places listing;
       }
 
-  -- A node is in the list of marked nodes exactly where it is marked.
+  -- A node is in the list of marked nodes exactly if it is marked.
   among : (n : ℕ) → is_among t.marked n ≡ is_marked_in t n
   among = is_among-holds t.marked t.places h.follows.steady.listing
 
-  -- A label is open by the list of marked nodes exactly where its flag is raised.
+  -- A label is open by the list of marked nodes exactly if its flag is set.
   open_among : (l : ℕ) → is_open_among net t.marked l ≡ is_open_in t l
   open_among l =
       elim (cases_Bool (is_open_in t l)) [

@@ -112,7 +112,7 @@ visits_before = refl
 pub visits_after : visits_of less (0 ∷ 2 ∷ 3 ∷ []) ≡ 5
 visits_after = refl
 
--- Where nothing is marked nothing is visited.
+-- If nothing is marked nothing is visited.
 pub none_marked : visits_of net [] ≡ 0
 none_marked = refl
 
@@ -155,7 +155,7 @@ open_0 = record { not_closed = refl; offered = (0, 0, record { within = omega ar
 taken_0 : IsTakenBack net (0 ∷ []) 0
 taken_0 = itself (0, omega arith, refl) open_0
 
--- Label 2 is taken back where label 0 is.
+-- Label 2 is taken back if label 0 is.
 taken_2 : (closing : List ℕ) → IsTakenBack net closing 0 → IsTakenBack net closing 2
 taken_2 closing b = beyond {here = 0} {node = 1} {i = 0} {j =
     2} b (record { within = omega arith; from = refl; to = refl }) refl
@@ -184,7 +184,7 @@ five_near = refl
 pub work_of_four : ClosesIn net (0 ∷ []) 7 5 4
 work_of_four = record { labels = lost; taken_back = taken; again = 1; visits = refl; work = refl }
 
--- The close is not the work 2, which would be the fall of the visits alone.
+-- The close is not the work 2, which would be only the fall of the visits.
 pub not_two : ClosesIn net (0 ∷ []) 7 5 2 → ⊥
 not_two c = omega (arith, ClosesIn-one net (0 ∷ []) (0 ∷ []) 7 5 4 2 (λ l. (λ a. a, λ a. a)) work_of_four c)
 
@@ -224,7 +224,7 @@ not_told kept marked h =
 pub not_kept : (fallen : List ℕ) → TellsFallen net (0 ∷ []) fallen 3 (0 ∷ 2 ∷ 3 ∷ []) → ⊥
 not_kept fallen h = ((h.front 3).0 (2, omega arith, refl)).1 fallen_3
 
--- What closing the labels 0 and 1 at once takes back: the three wait edges, and the offer edges of
+-- What closing the labels 0 and 1 together takes back: the three wait edges, and the offer edges of
 -- the nodes 1 and 2. None is followed again, so it is the work 5; one label after the other is 4
 -- and 3.
 
@@ -286,6 +286,6 @@ visits_after_both = refl
 pub work_of_five : ClosesIn net (0 ∷ 1 ∷ []) 7 2 5
 work_of_five = record { labels = all_lost; taken_back = both_taken; again = 0; visits = refl; work = refl }
 
--- It is not as much work as two closes, one after the other.
+-- It is less work than two closes, one after the other.
 pub not_seven : ClosesIn net (0 ∷ 1 ∷ []) 7 2 7 → ⊥
 not_seven c = omega (arith, ClosesIn-one net (0 ∷ 1 ∷ []) (0 ∷ 1 ∷ []) 7 2 5 7 (λ l. (λ a. a, λ a. a)) work_of_five c)

@@ -8,7 +8,7 @@ use Rattle.wait_index.specs.Inside.Listing.{IsListing}
 use Rattle.wait_index.proofs.ListingFacts.{contains-from_holds, holds-from_placed}
 use Rattle.wait_index.specs.Inside.Tally.{Tally, is_touched_in, is_open_in, Touches, TouchesAll}
 
--- One label more is touched where it is open: the step of the loop.
+-- One label more is touched if it is open: the step of the loop.
 pub TouchesAll-more : (labels : List ℕ) (i label : ℕ) (old now new : Tally) → i < length labels
     → label ≡ get_or labels i 0 → TouchesAll (take i labels) old now → Touches label now new
     → TouchesAll (take (i + 1) labels) old new
@@ -41,9 +41,9 @@ TouchesAll-more labels i label old now new l at h s =
       size = s.size ∙ h.size;
     })
 
--- Where none is touched after all, none of the labels is open, and nothing has changed.
+-- If none is touched after all, none of the labels is open, and nothing has changed.
 
--- Where none is touched in the end, none of the labels was open.
+-- If none is touched in the end, none of the labels was open.
 pub TouchesAll-shut : (labels : List ℕ) (old new : Tally) → IsListing new.touched new.touched_places → new.touched ≡ []
     → TouchesAll labels old new → (l : ℕ) → Contains labels l → is_open_in old l ≡ false
 TouchesAll-shut labels old new queue none h l c =
@@ -51,7 +51,7 @@ TouchesAll-shut labels old new queue none h l c =
     let listed = contains-from_holds new.touched new.touched_places queue l (h.all l c o) in
     omega (arith, listed.1, ap length none))
 
--- Where none was touched and none is, nothing has changed.
+-- If none was touched and none is, nothing has changed.
 pub TouchesAll-same : (labels : List ℕ) (old new : Tally) → IsListing old.touched old.touched_places
     → IsListing new.touched new.touched_places → old.touched ≡ [] → new.touched ≡ [] → TouchesAll labels old new
     → new ≡ old
@@ -71,7 +71,7 @@ TouchesAll-same labels old new queue queue_new none none_new h =
           | inr a ↦ omega (arith, a)
         ]
 
--- Where none of the labels is open, none is touched.
+-- If none of the labels is open, none is touched.
 pub TouchesAll-untouched : (labels : List ℕ) (old new : Tally) → IsListing old.touched old.touched_places
     → IsListing new.touched new.touched_places → old.touched ≡ []
     → ((l : ℕ) → Contains labels l → is_open_in old l ≡ false) → TouchesAll labels old new → length new.touched ≡ 0

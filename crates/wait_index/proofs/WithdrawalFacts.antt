@@ -52,7 +52,7 @@ WithdrawsFrom-start net node link t c h = record {
   visits = ap (λ n. t.visits + n) (count_owned net.offers node (length net.offers) link h);
 }
 
--- Where an offer edge is left, neither the visits nor its label's support are 0, so both can be
+-- If an offer edge is left, neither the visits nor its label's support are 0, so both can be
 -- lowered.
 pub WithdrawsFrom-some : (net : Net) (node edge link : ℕ) (old now : Tally) → WithdrawsFrom net node link old now
     → link ≡ edge + 1 → to_at net.offers edge < length net.closed

@@ -39,7 +39,7 @@ module _ (net : Net) (xs ys : List ℕ) (more : (n : ℕ) → Contains xs n → 
       and_from (not (is_closed net l)) (list_any (λ (w : Edge). eqb w.to l && is_among ys w.from) net.offers) parts.0
       (list_any_at (λ (w : Edge). eqb w.to l && is_among ys w.from) net.offers a.0 (record { from = 0; to = 0 }) a.2 test)
 
-  -- so with more nodes there are no fewer visits
+  -- so with more nodes there are not fewer visits
   pub visits-more : visits_of net xs ≤ visits_of net ys
   visits-more =
       omega (
@@ -71,7 +71,7 @@ pub work-near : (old new : Index) (labels : List ℕ) (work : ℕ) → ClosesWit
 work-near old new labels work is reach h =
     ClosesIn-near old.net labels (visits_of old.net old.marked) (visits_of new.net new.marked) work reach is.work_is is.fewer h
 
--- The clause `unopened`: where no label is open there is no work.
+-- The clause `unopened`: if no label is open there is no work.
 pub work-unopened : (old new : Index) (labels : List ℕ) (work : ℕ) → ClosesWithWork old labels new work → AreUnopened old labels → work ≡ 0
 work-unopened old new labels work is none =
     omega (
@@ -86,7 +86,7 @@ work-unopened old new labels work is none =
       count_below-gap (λ i. false) 0 (length old.net.waits) (omega arith) (λ i a b. refl),
     )
 
--- The clause `one`: the work is one number, since both closes come to the same reached nodes.
+-- The clause `one`: the work is one number, since both closes leave the same reached nodes.
 pub work-one : (old new other : Index) (labels others : List ℕ) (work more : ℕ)
     → ((l : ℕ) → (Contains labels l ↔ Contains others l)) → ClosesWithWork old labels new work
     → ClosesWithWork old others other more → work ≡ more

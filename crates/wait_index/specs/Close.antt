@@ -8,9 +8,9 @@ use Rattle.wait_index.specs.Net.{TellsFallen}
 abbrev pub AreUnopened : Index → List ℕ → Type 0
 AreUnopened index labels = (label : ℕ) → Contains labels label → IsOpen index.net label → ⊥
 
--- The labels are closed from now on, with this much work: so many times an edge was looked at. The
--- reached nodes are marked, in their old order where no label was open. There is the same room, and
--- no more visits than before. The index says what fell.
+-- The labels are closed from now on, with this much work: the number of times that an edge was
+-- looked at. The reached nodes are marked, in their old order if no label was open. There is the
+-- same room, and no more visits than before. The index says what fell.
 pub record ClosesWithWork (old : Index) (labels : List ℕ) (new : Index) (work : ℕ) : Type 0 where
   pub net : new.net ≡ with_all_closed old.net labels
   pub marked : ListsReached new.net new.marked

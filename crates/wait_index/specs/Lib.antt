@@ -1,5 +1,4 @@
--- What a caller cites stands in the first four; `Inside` has what the index keeps and its
--- invariants.
+-- What a caller cites is in the first four; `Inside` has what the index keeps and its invariants.
 pub mod Net
 pub mod Index
 pub mod Close

@@ -21,14 +21,14 @@ is_root net node = slice_index_or net.roots node false
 abbrev pub is_closed : Net → ℕ → Bool
 is_closed net label = slice_index_or net.closed label false
 
--- Reached are the roots and, where a reached node offers a label that is not closed, each node that
--- awaits the label.
+-- The reached nodes are the roots and, if a reached node offers a label that is not closed, each
+-- node that awaits the label.
 pub data IsReached (net : Net) : ℕ → Type 0 where
   root : {node : ℕ} → is_root net node ≡ true → IsReached net node
   step : {node label next i j : ℕ} → IsReached net node → IsEdge net.offers i node label
       → is_closed net label ≡ false → IsEdge net.waits j label next → IsReached net next
 
--- A label is open where it is not closed and a reached node offers it.
+-- A label is open if it is not closed and a reached node offers it.
 pub record IsOpen (net : Net) (label : ℕ) : Type 0 where
   pub not_closed : is_closed net label ≡ false
   pub offered : (i : ℕ) × (node : ℕ) × IsEdge net.offers i node label × IsReached net node
@@ -46,7 +46,7 @@ pub record IsClosedUnder (net : Net) (nodes : ℕ → Type 0) : Type 0 where
   pub steps : (node label next i j : ℕ) → nodes node → IsEdge net.offers i node label
       → is_closed net label ≡ false → IsEdge net.waits j label next → nodes next
 
--- The new net has at least the roots and edges of the old one, and of its labels none is closed
+-- The new net has at least the roots and edges of the old one, and none of its labels is closed
 -- that was not.
 pub record IsMore (old new : Net) : Type 0 where
   pub roots : (node : ℕ) → is_root old node ≡ true → is_root new node ≡ true
@@ -104,8 +104,8 @@ abbrev pub visits_of : Net → List ℕ → ℕ
 visits_of net nodes = count_by (λ edge. is_among nodes edge.from) net.offers
     + count_by (λ edge. is_open_among net nodes edge.from) net.waits
 
--- Taken back with labels that are to be closed are those of them that are open, and with each of
--- them the labels that are not closed and that a node offers which awaits it and is no root.
+-- The labels that are taken back: those to be closed that are open and, with each that is taken
+-- back, the labels that are not closed and that a node offers which awaits it and is not a root.
 pub data IsTakenBack (net : Net) (closing : List ℕ) : ℕ → Type 0 where
   itself : {label : ℕ} → Contains closing label → IsOpen net label → IsTakenBack net closing label
   beyond : {here node there i j : ℕ} → IsTakenBack net closing here → IsEdge net.waits i here node
@@ -117,7 +117,7 @@ pub record AreTakenBack (net : Net) (closing : List ℕ) (labels : ℕ → Bool)
   pub only : (label : ℕ) → labels label ≡ true → IsTakenBack net closing label
   pub all : (label : ℕ) → IsTakenBack net closing label → labels label ≡ true
 
--- whether the node is no root and awaits a label of the set
+-- whether the node is not a root and awaits a label of the set
 abbrev pub falls_with : Net → (ℕ → Bool) → ℕ → Bool
 falls_with net labels node = not (is_root net node)
     && list_any (λ edge. (edge.to == node) && labels edge.from) net.waits
@@ -128,7 +128,7 @@ abbrev pub edges_taken_back : Net → (ℕ → Bool) → ℕ
 edges_taken_back net labels = count_by (λ edge. falls_with net labels edge.from) net.offers
     + count_by (λ edge. labels edge.from) net.waits
 
--- Closing the labels is so much work: one for each edge that is taken back, and one for each that
+-- Closing the labels is this much work: one for each edge that is taken back, and one for each that
 -- is followed again, which brings the visits from what they were before to what they are after.
 pub record ClosesIn (net : Net) (closing : List ℕ) (before after count : ℕ) : Type 0 where
   pub labels : ℕ → Bool
@@ -151,14 +151,14 @@ edges_at net labels = count_by (λ edge. labels edge.to) net.offers
 
 -- What falls
 
--- A node falls with labels that are to be closed where it is no root and awaits a label that is
+-- A node falls with labels that are to be closed if it is not a root and awaits a label that is
 -- taken back with them.
 pub record IsFallen (net : Net) (closing : List ℕ) (node : ℕ) : Type 0 where
   pub not_root : is_root net node ≡ false
   pub awaits : (i : ℕ) × (label : ℕ) × IsEdge net.waits i label node × IsTakenBack net closing label
 
--- The list has each node that falls once. First of the marked nodes, as many as `kept`, are the
--- reached ones that do not fall, and after them those that fell and were marked again.
+-- The list has each node that falls once. The first `kept` marked nodes are the reached ones that
+-- do not fall, and after them come those that fell and were marked again.
 pub record TellsFallen (net : Net) (closing fallen : List ℕ) (kept : ℕ)
     (marked : List ℕ) : Type 0 where
   pub fell : (node : ℕ) → Contains fallen node ↔ IsFallen net closing node

@@ -52,7 +52,7 @@ impl Marks {
         self.follow_all(graph, cursor);
     }
 
-    /// Follows an offer edge of the node to the label, where the node is marked.
+    /// Follows an offer edge of the node to the label, if the node is marked.
     fn follow_new_offer(&mut self, graph: &Graph, node: usize, label: usize)
         requires sizes { HasSizes (net_of graph.now) (tally_of self.old) }
         requires node { node < length graph.now.roots.items }
@@ -92,7 +92,7 @@ impl Marks {
         self.follow_all(graph, cursor);
     }
 
-    /// Follows a wait edge from the label to the node, where the label is open.
+    /// Follows a wait edge from the label to the node, if the label is open.
     fn follow_new_wait(&mut self, label: usize, node: usize)
         requires label { label < length self.old.opened.items }
         requires node { node < length self.old.marked.places.items }

@@ -1,5 +1,5 @@
-//! How labels are closed: what they alone reach is taken back, and what is reached otherwise
-//! follows again.
+//! How labels are closed: what only they reach is taken back, and what is reached otherwise is
+//! followed again.
 ghost use Rattle.std.specs.Prelude.{◌≡◌, ℕ, ◌+◌, ◌*◌, ◌^◌, ◌<◌, ◌≤◌, true, false, [], Bool, List};
 ghost use Rattle.std.specs.Prelude.{length, slice_index, take, vec_capacity, All, Contains};
 ghost use Rattle.wait_index.specs.Inside.Capacity.{graph_capacity};
@@ -72,7 +72,7 @@ impl Marks {
         }
     }
 
-    /// Touches the label where it is open: its wait edges are to be looked at.
+    /// Touches the label if it is open: its wait edges are to be looked at.
     fn touch(&mut self, label: usize)
         requires label { label < length self.old.opened.items }
         requires places { length self.old.touched.places.items ≡ length self.old.opened.items }
@@ -123,7 +123,7 @@ impl Marks {
     }
 
     /// Takes the wait edges of the touched label at the index back. Each node that awaits it falls,
-    /// but for a root.
+    /// except a root.
     fn take_back_waits(&mut self, graph: &Graph, last: &mut LastClose, index: usize)
         ghost closing: { List ℕ }
         requires falling { IsFalling (net_of graph.now) closing (tally_of self.old) index 0 0 }
@@ -186,8 +186,8 @@ impl Marks {
         }
     }
 
-    /// Takes an offer edge to the label back. Where the label is open its wait edges are to be
-    /// looked at.
+    /// Takes an offer edge to the label back. If the label is open its wait edges are to be looked
+    /// at.
     fn withdraw(&mut self, label: usize)
         requires visits { 0 < self.old.visits }
         requires support { 0 < slice_index self.old.support.items label }
@@ -202,7 +202,7 @@ impl Marks {
         self.touch(label);
     }
 
-    /// Opens each touched label again to which a followed edge still leads.
+    /// Opens each touched label again if a followed edge still leads to it.
     pub(crate) fn restore(&mut self, graph: &Graph)
         requires follows { Follows (net_of graph.now) (tally_of self.old)
             (length self.old.marked.items.items) 0 0 }

@@ -15,7 +15,7 @@ pub(crate) struct Edge {
     pub(crate) to: u32,
 }
 
-/// A link is the number of an edge plus 1, or 0 where no edge is left.
+/// A link is the number of an edge plus 1, or 0 if no edge is left.
 #[derive(Drop)]
 pub(crate) struct Edges {
     pub(crate) edges: Vec<Edge>,

@@ -39,7 +39,7 @@ impl Graph {
     }
 
     /// Makes room for this many more nodes, labels and edges of each kind. There are at most `MOST`
-    /// nodes, at most as many labels, and at most as many edges of both kinds together.
+    /// nodes, at most `MOST` labels, and at most `MOST` edges of both kinds together.
     pub(crate) fn try_reserve(
         &mut self,
         nodes: usize,
@@ -79,7 +79,7 @@ impl Graph {
         Ok(())
     }
 
-    /// Adds a node that is no root and has no edge.
+    /// Adds a node that is not a root and has no edge.
     pub(crate) fn add_node(&mut self)
         requires { length self.old.roots.items < (graph_capacity self.old).nodes }
         ensures net { net_of self.new ≡ with_node (net_of self.old) }

@@ -6,7 +6,7 @@ ghost use Rattle.wait_index.specs.Inside.Listing.{IsListing, holds};
 use crate::number::LabelNo;
 use std::alloc::{AllocError, Global};
 
-/// The place of a label is its index in the list plus 1, or 0 where it is not in the set. There is
+/// The place of a label is its index in the list plus 1, or 0 if it is not in the set. There is
 /// room in the list for each label.
 #[derive(Drop)]
 pub(crate) struct LabelSet {

@@ -138,7 +138,7 @@ impl Marks {
         self.settle(graph, label);
     }
 
-    /// Opens the label where a followed edge leads to it and it is neither closed nor open.
+    /// Opens the label if a followed edge leads to it and it is neither closed nor open.
     pub(crate) fn settle(&mut self, graph: &Graph, label: usize)
         requires sizes { HasSizes (net_of graph.now) (tally_of self.old) }
         requires label { label < length graph.now.closed.items }

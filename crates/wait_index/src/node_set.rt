@@ -6,8 +6,8 @@ ghost use Rattle.wait_index.specs.Inside.Listing.{IsListing, holds};
 use crate::number::NodeNo;
 use std::alloc::{AllocError, Global};
 
-/// The place of a node is its index in the list plus 1, or 0 where it is not in the set. There is
-/// room in the list for each node.
+/// The place of a node is its index in the list plus 1, or 0 if it is not in the set. There is room
+/// in the list for each node.
 #[derive(Drop)]
 pub(crate) struct NodeSet {
     pub(crate) items: Vec<NodeNo>,

@@ -16,9 +16,9 @@ pub type NoMemory = AllocError;
 
 /// An index of nodes and labels that says which nodes are reached.
 ///
-/// A node offers labels and awaits at most one. Reached are the roots and, where a reached node
-/// offers a label that is not closed, each node that awaits the label. The reached nodes are marked
-/// at all times.
+/// A node offers labels and awaits at most one. The reached nodes are the roots and, if a reached
+/// node offers a label that is not closed, each node that awaits the label. The reached nodes are
+/// marked at all times.
 #[derive(Drop)]
 pub struct Reach {
     graph: Graph,
@@ -68,8 +68,8 @@ impl Reach {
     ///
     /// # Errors
     ///
-    /// [`NoMemory`] where there was not so much room already and a growth was refused, or where
-    /// there would be 2 to the power of 32 nodes, labels or edges, or more. All is left as it was.
+    /// [`NoMemory`] if the room was not there already and a growth was refused, or if there would
+    /// be 2 to the power of 32 nodes, labels or edges, or more. Nothing changes then.
     pub fn try_reserve(&mut self, nodes: usize, labels: usize, edges: usize) -> Result<(), NoMemory>
         ensures net { self.new.net ≡ self.old.net }
         ensures marked { self.new.marked ≡ self.old.marked }
@@ -82,7 +82,7 @@ impl Reach {
         ensures err { OnErr result (self.new.room ≡ self.old.room) }
         ensures last { self.new.last ≡ self.old.last }
 
-        // It is refused only where there was not so much room already.
+        // It is refused only if the room was not there already.
         ensures within { nodes ≤ self.old.room.nodes → labels ≤ self.old.room.labels
             → edges ≤ self.old.room.edges → IsOk result }
     {
@@ -105,7 +105,7 @@ impl Reach {
         (self.room.nodes, self.room.labels, self.room.edges)
     }
 
-    /// Adds a node that is no root and has no edge. There is room for it (`room`).
+    /// Adds a node that is not a root and has no edge. There is room for it (`room`).
     pub fn add_node(&mut self) -> NodeNo
         requires { 0 < self.old.room.nodes }
         ensures number { result ≡ length self.old.net.roots }
@@ -207,8 +207,8 @@ impl Reach {
 
     /// Closes the labels for good, and returns how much work that was, by the number of times that
     /// it looked at an edge: once for each edge that rests on the labels, which is taken back, and
-    /// once for each that is followed again, since it is reached otherwise. Where none of them was
-    /// open that is 0, and the marked nodes stay as they are. Else their order may change. The
+    /// once for each that is followed again, since it is reached otherwise. If none of them was
+    /// open that is 0, and the marked nodes are as they were. Else their order may change. The
     /// labels may repeat, and may be closed already. [`fallen`](Reach::fallen) and
     /// [`kept`](Reach::kept) then say what fell. What bounds the work is in
     /// [`work_of_a_close`](crate::laws::work_of_a_close).

@@ -14,7 +14,7 @@ pub record IsGroup (group : List Bundle) : Type 0 where
   pub some : 0 < length group
   pub alike : (d e : Bundle) → Contains group d → Contains group e → d.rank ≡ e.rank
 
--- so many at the front have one rank, and the next has another
+-- this many at the front have one rank, and the next has another
 pub record IsGroupLength (documents : List Bundle) (len : ℕ) : Type 0 where
   pub some : 0 < len
   pub within : len ≤ length documents

@@ -27,8 +27,8 @@ pub record AreWaiting (m : Meaning) (waiting : List Receipt) : Type 0 where
 
 -- ---- steps
 
--- a receipt that was come to, the place of the step that led to it, which a configured document has
--- none of, and how many receipts the chain to it has
+-- a receipt that was visited, the place of the step that led to it, or none after a configured
+-- document, and how many receipts the chain to it has
 pub record Stride : Type 0 where
   pub receipt : Receipt
   pub before : Option ℕ
@@ -60,7 +60,7 @@ pub record AreStrides (seeds : List Seed) (waiting : List Receipt)
   pub stands : (place : ℕ) (s : Stride) → slice_get strides place ≡ Some s
       → IsStride seeds strides s s.before
 
--- The receipt was come to by at most so many.
+-- The receipt was visited by a chain of at most this many.
 pub record HasStride (strides : List Stride) (r : Receipt) (most : ℕ) : Type 0 where
   pub place : ℕ
   pub stride : Stride
@@ -68,12 +68,12 @@ pub record HasStride (strides : List Stride) (r : Receipt) (most : ℕ) : Type 0
   pub is : stride.receipt ≡ r
   pub short : stride.length ≤ most
 
--- Each receipt that needs one of these was come to by at most so many.
+-- Each receipt that needs one of these was visited by a chain of at most this many.
 abbrev pub AreFollowed : List Receipt → List Stride → List Triple → ℕ → Type 0
 AreFollowed waiting strides offers most = (r : Receipt) → Contains waiting r
     → Contains offers (need_of r) → HasStride strides r most
 
--- The flags tell which receipts were come to, and the lengths of their chains rise, up to at most
+-- The flags tell which receipts were visited, and the lengths of their chains rise, up to at most
 -- this.
 pub record AreMarked (waiting : List Receipt) (visited : List Bool) (strides : List Stride)
     (most : ℕ) : Type 0 where
@@ -86,7 +86,7 @@ pub record AreMarked (waiting : List Receipt) (visited : List Bool) (strides : L
   pub short : (i : ℕ) (s : Stride) → slice_get strides i ≡ Some s → s.length ≤ most
   pub early : (i : ℕ) (s : Stride) → slice_get strides i ≡ Some s → s.length ≤ i + 1
 
--- Besides, receipts that need the same were come to together.
+-- In addition, receipts that need the same were visited together.
 pub record AreVisited (waiting : List Receipt) (visited : List Bool) (strides : List Stride)
     (most : ℕ) : Type 0 where
   pub marks : AreMarked waiting visited strides most
@@ -103,7 +103,7 @@ pub record IsAddedStep (waiting : List Receipt) (offers : List Triple) (before :
   pub led : s.before ≡ before
   pub long : s.length ≡ most
 
--- The steps there were are still there, and each other one is of a receipt that needs one of these.
+-- The old steps are still there, and each other one is of a receipt that needs one of these.
 pub record AppendsSteps (waiting : List Receipt) (offers : List Triple) (before : Option ℕ)
     (most : ℕ) (old new : List Stride) : Type 0 where
   pub longer : length old ≤ length new
@@ -111,14 +111,14 @@ pub record AppendsSteps (waiting : List Receipt) (offers : List Triple) (before 
   pub each : (i : ℕ) (s : Stride) → slice_get new i ≡ Some s
       → (slice_get old i ≡ Some s) ⊎ IsAddedStep waiting offers before most s
 
--- What is offered was followed: each receipt that needs it was come to.
+-- What is offered was followed: each receipt that needs it was visited.
 pub record FollowsOffers (waiting : List Receipt) (offers : List Triple) (before : Option ℕ)
     (most : ℕ) (old : List Stride) (visited : List Bool) (new : List Stride) : Type 0 where
   pub visits : AreVisited waiting visited new most
   pub adds : AppendsSteps waiting offers before most old new
   pub reached : AreFollowed waiting new offers most
 
--- The receipt at the place needs this, and was not come to before.
+-- The receipt at the place needs this, and was not visited before.
 pub record IsEdgeDue (waiting : List Receipt) (visited : List Bool) (offer : Triple)
     (place : ℕ) : Type 0 where
   pub receipt : Receipt
@@ -136,7 +136,7 @@ pub record IsSearchBegun (seeds : List Seed) (waiting : List Receipt) (visited :
   pub started : (s : Seed) → Contains seeds s
       → AreFollowed waiting strides (offers_of (pair_of_seed s)) 1
 
--- What the configured documents and the first so many steps offer was followed, and none of these
+-- What the configured documents and the first this many steps offer was followed, and none of these
 -- steps is of the document.
 pub record IsSearched (seeds : List Seed) (waiting : List Receipt) (strides : List Stride)
     (p : Pair) (place : ℕ) : Type 0 where

@@ -15,7 +15,7 @@ use Rattle.byte_lines.specs.declared.error.DeviceError.{DeviceError}
 use Rattle.byte_lines.specs.declared.error.DeviceError.TheVariants.{NoMemory}
 use Rattle.byte_lines.specs.Limits.{line_limit}
 
--- what was found, where `given` is the line that the buffer then holds
+-- what was found; `given` is the line that the buffer then holds
 abbrev pub FindsIn : Option (List ℕ) → Option (List ℕ) → List ℕ → Found → Type 0
 FindsIn old new given Text = HasLine old new given × (length given ≤ line_limit)
 FindsIn old new given TooLong = (text : List ℕ)
@@ -23,7 +23,7 @@ FindsIn old new given TooLong = (text : List ℕ)
 FindsIn old new given Cut = HasNoLine old × HasMore old × IsAtEnd new
 FindsIn old new given End = IsAtEnd old × IsAtEnd new
 
--- what `advance` does to the stream, where `given` is the line that the buffer then holds
+-- what `advance` does to the stream; `given` is the line that the buffer then holds
 pub record TakesFound (old new : StreamState) (given : List ℕ)
     (result : Result Found DeviceError) : Type 0 where
   pub finds : IfOk result (FindsIn old.bytes new.bytes given)

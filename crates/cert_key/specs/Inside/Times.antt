@@ -17,7 +17,7 @@ two_digits_at (a ∷ []) = None
 two_digits_at (a ∷ b ∷ rest) =
     if is_decimal a && is_decimal b then Some ((a - 48) * 10 + (b - 48), rest) else None
 
--- a moment as the program keeps it
+-- a date and time as the program keeps it
 abbrev pub moment_view : Clock → Moment
 moment_view c =
     record {
@@ -50,7 +50,7 @@ pub record IsShown (m : Moment) : Type 0 where
   pub minute : m.minute < 100
   pub second : m.second < 100
 
--- the moment of a date and a second of its day
+-- the `Moment` of a date and a second of its day
 abbrev pub moment_on : Date → ℕ → Moment
 moment_on d second =
     record {

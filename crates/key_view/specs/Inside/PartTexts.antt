@@ -6,7 +6,7 @@ use Rattle.cert_key.specs.Moment.{IsMomentOf, Moment, moment_text}
 use Rattle.cert_key.specs.Name.{IsNameText}
 use Rattle.key_view.specs.declared.known_entry.KeyParts.{KeyParts}
 
--- the text of the moment of these seconds
+-- the text of the date and time of these seconds
 abbrev pub IsTextAt : ℤ → List ℕ → Type 0
 IsTextAt seconds text = (m : Moment) → IsMomentOf seconds m → text ≡ moment_text m
 

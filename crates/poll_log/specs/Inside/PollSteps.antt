@@ -13,7 +13,7 @@ use Rattle.poll_log.specs.declared.error.PollError.TheVariants.{BadLine, BadMome
 abbrev pub is_no_space : ℕ → Bool
 is_no_space b = not (b == 32)
 
--- the word stands before the first space of the text, and the rest after it
+-- the word comes before the first space of the text, and the rest after it
 pub record IsWord (text word rest : List ℕ) : Type 0 where
   pub whole : text ≡ word ++ (32 ∷ rest)
   pub plain : AllPass is_no_space word
@@ -57,7 +57,7 @@ ReadTo domains (Some xs) None polls number = ⊥
 ReadTo domains (Some xs) (Some ys) polls number = ReadLines domains (lines_of xs) (lines_of ys)
     polls number
 
--- the log is that of the polls so far, which so many lines said
+-- the log is that of the polls so far, which this many lines said
 pub record HasRead (domains : List (List ℕ)) (old new : Option (List ℕ)) (log : List PollStatus)
     (number : ℕ) : Type 0 where
   pub polls : List Poll

@@ -26,11 +26,11 @@ after s moment ok = record {
 abbrev pub AreNames : List (List ℕ) → Type 0
 AreNames domains = (domain : List ℕ) → Contains domains domain → IsDomainText domain
 
--- where the domain stands among these, if it is one of them
+-- the place of the domain among these, if it is one of them
 abbrev pub IsIn : List (List ℕ) → List ℕ → Option ℕ → Type 0
 IsIn domains domain None = Contains domains domain → ⊥
 IsIn domains domain (Some place) = slice_get domains place ≡ Some domain
 
--- where the log keeps the domain, if it does
+-- the place of the domain in the log, if it is there
 abbrev pub IsPlaceOf : List PollStatus → List ℕ → Option ℕ → Type 0
 IsPlaceOf log domain place = IsIn (polled_domains log) domain place

@@ -19,8 +19,8 @@ passed front = take front.count front.items
 abbrev pub has_equal : {T : Type 0} → (T → T → Ordering) → List T → T → Bool
 has_equal cmp items sought = list_any (λ item. eq_by_cmp cmp item sought) items
 
--- The numbers are of items that rise, and an item is equal to one of these exactly where it is
--- equal to one of those that came before.
+-- The numbers are of items that rise, and an item is equal to one of these exactly if it is equal
+-- to one of those that came before.
 pub record AreNoted {T : Type 0} (cmp : T → T → Ordering) (items : List T) (count : ℕ)
     (numbers : List ℕ) : Type 0 where
   pub within : All (λ number. number < length items) numbers

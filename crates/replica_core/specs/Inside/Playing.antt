@@ -16,7 +16,7 @@ use Rattle.replica_core.specs.declared.message.Message.TheVariants.{Have, Give}
 use Rattle.replica_core.specs.declared.playing.Playing.{Playing}
 use Rattle.receipt_core.specs.Limits.{receipt_limit, record_limit}
 
--- all this is gained, or nothing where that would be too much
+-- all this is gained, or nothing if it would be too much
 abbrev pub grown : State → State → State
 grown state gain = cond (is_within_limits (joined state gain)) (joined state gain) state
 
@@ -68,7 +68,7 @@ pub record Plays {A : Type 0} (meaning : A → Meaning) (config : Configuration)
   pub sent : map message_of playing.sent.items ≡ w.sent
   pub sound : AllByRecursion (IsSound config) w.sent
 
--- after the event it stands for what the world is then
+-- after the event it represents what the world is then
 abbrev pub StandsForEvent : {A : Type 0} → (A → Meaning) → Configuration → Playing A → Playing A
     → Event → Type 0
 StandsForEvent meaning config old new event = (n : ℕ) (w : World) → Plays meaning config n old w

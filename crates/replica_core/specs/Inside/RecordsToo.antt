@@ -16,7 +16,7 @@ only_records c records = record {
   records = with_items distrust_cmp records [];
 }
 
--- These records are held besides, and the room is kept or has grown.
+-- These records are held as well, and the room is kept or has grown.
 pub record HasRecordsToo (old : HeldAndRoom) (records : List Distrust)
     (new : HeldAndRoom) : Type 0 where
   pub meaning : new.meaning

@@ -23,7 +23,7 @@ abbrev pub FindsStart : Configuration → Option (List ℕ) → Option (List ℕ
 FindsStart config old new true = HasLine old new (written_header config)
 FindsStart config old new false = HasNoLine old
 
--- It is whole, and has this fault.
+-- It is whole, and has this error.
 pub record StartsBadly (config : Configuration) (stream : Option (List ℕ))
     (e : SyncError) : Type 0 where
   pub text : List ℕ
@@ -55,7 +55,7 @@ abbrev pub StepsThroughJournal : Meaning → Option (List ℕ) → Meaning → O
 StepsThroughJournal old before new after true = StepsOn old before new after
 StepsThroughJournal old before new after false = (new ≡ old) × HasNoLine before
 
--- The next line is whole, and has this fault.
+-- The next line is whole, and has this error.
 pub record HasBadSoleLine (m : Meaning) (number : ℕ) (stream : Option (List ℕ))
     (e : SyncError) : Type 0 where
   pub text : List ℕ
@@ -88,7 +88,7 @@ pub record HasReadAll (m : Meaning) (stream : Option (List ℕ)) (now : Meaning)
   pub ends : HasNoLine left
   pub valid : IsMeaning now
 
--- After so many the next one has this fault; so many lines were read before the first of them.
+-- After this many the next one has this error; this many lines were read before the first of them.
 pub record FailsBehindLines (m : Meaning) (read : ℕ) (stream : Option (List ℕ))
     (e : SyncError) : Type 0 where
   pub entries : List Entry

@@ -1,6 +1,6 @@
 -- How one line of an answer, and one piece of a session that pulls, is taken.
-use Rattle.std.specs.Prelude.{◌≡◌, ℕ, ◌+◌, ◌<◌, ◌⊎◌, ◌++◌, List, [], length}
-use Rattle.std.specs.Prelude.{Bool, true, false, Some}
+use Rattle.std.specs.Prelude.{◌≡◌, ℕ, ◌+◌, ◌<◌, ◌≤◌, ◌⊎◌, ◌++◌, List, [], length}
+use Rattle.std.specs.Prelude.{Bool, true, false, Option, Some}
 use Rattle.receipt_core.specs.Acceptance.{Meaning}
 use Rattle.byte_lines.specs.Limits.{line_limit}
 use Rattle.replica_core.specs.Absorbing.{with_entry}
@@ -16,7 +16,9 @@ use Rattle.replica_texts.specs.Messages.{have_text}
 use Rattle.replica_sync.specs.Inside.NextLines.{IsNextOf, RefusesHere}
 use Rattle.replica_texts.specs.declared.entry_line.Wanted.{Wanted}
 use Rattle.replica_sync.specs.Pieces.{EndsLine, GoesOn, IsOverlong, piece_run}
+use Rattle.replica_sync.specs.Plans.{answered_of, bucket_at, asked_count, plan_of}
 use Rattle.replica_sync.specs.declared.answer_lines.AnswerLines.{AnswerLines}
+use Rattle.replica_sync.specs.declared.bucket_plan.BucketPlan.{BucketPlan}
 
 -- ---- a line
 
@@ -30,6 +32,14 @@ pub record HasNoLines (lines : AnswerLines) : Type 0 where
 pub record HasSameCounts (old new : AnswerLines) : Type 0 where
   pub bucket : new.bucket ≡ old.bucket
   pub begun : new.is_begun ≡ old.is_begun
+  pub read : new.read ≡ old.read
+  pub taken : new.taken ≡ old.taken
+
+-- The same lines were counted, whichever answer is next.
+pub record HasSameCountsBut (old new : AnswerLines) : Type 0 where
+  pub begun : new.is_begun ≡ old.is_begun
+  pub due : new.due ≡ old.due
+  pub last : new.last ≡ old.last
   pub read : new.read ≡ old.read
   pub taken : new.taken ≡ old.taken
 
@@ -110,10 +120,11 @@ pub record TakesAnswerLine (m : Meaning) (old : AnswerLines) (text : List ℕ) (
 
 -- ---- a piece
 
--- what is held, how far the answers came, and what is kept of a line
+-- what is held, how far the answers came, about which buckets is asked, and what is kept of a line
 pub record PullState : Type 0 where
   pub held : Meaning
   pub lines : AnswerLines
+  pub asked : BucketPlan
   pub kept : List ℕ
 
 -- No line ended.
@@ -123,7 +134,26 @@ pub record StaysWithin (old : PullState) (piece : List ℕ) (used : ℕ) (new : 
   pub all : used ≡ length piece
   pub held : new.held ≡ old.held
   pub lines : new.lines ≡ old.lines
+  pub asked : new.asked ≡ old.asked
   pub none : due ≡ []
+
+-- the answer in this place of the plan is next, or none is
+abbrev pub IsNextAt : Option (List ℕ) → ℕ → AnswerLines → Type 0
+IsNextAt plan place lines = ((asked_count plan ≤ place) × (lines.bucket ≡ 256))
+    ⊎ ((place < asked_count plan) × ((lines.bucket < 256) × (lines.bucket ≡ bucket_at plan place)))
+
+-- An answer ended, and the next one of the plan is waited for.
+pub record PassesOn (old : PullState) (lines : AnswerLines) (new : PullState) : Type 0 where
+  pub plan : plan_of new.asked ≡ plan_of old.asked
+  pub more : answered_of old.asked < asked_count (plan_of old.asked)
+      → answered_of new.asked ≡ answered_of old.asked + 1
+  pub counts : HasSameCountsBut lines new.lines
+  pub next : IsNextAt (plan_of new.asked) (answered_of new.asked) new.lines
+
+-- what is next after a line, which left the lines like this
+abbrev pub GoesOnAfter : Bool → PullState → AnswerLines → PullState → Type 0
+GoesOnAfter false old lines new = (new.lines ≡ lines) × (new.asked ≡ old.asked)
+GoesOnAfter true old lines new = PassesOn old lines new
 
 -- what is asked after the line: about the next bucket where an answer ended that is not the last
 abbrev pub Asks : Meaning → AnswerLines → Bool → List ℕ → Type 0
@@ -138,7 +168,9 @@ pub record EndsAnswerLine (old : PullState) (piece : List ℕ) (used : ℕ) (new
   pub ends : EndsLine (piece_run line_limit old.kept piece) used text
   pub kept : new.kept ≡ []
   pub whole : Bool
-  pub takes : TakesAnswerLine old.held old.lines text new.held new.lines whole
+  pub lines : AnswerLines
+  pub takes : TakesAnswerLine old.held old.lines text new.held lines whole
+  pub passes : GoesOnAfter whole old lines new
   pub asks : Asks new.held new.lines whole due
 
 abbrev pub TakesPulled : PullState → List ℕ → ℕ → PullState → List ℕ → Type 0
@@ -175,7 +207,9 @@ pub record RefusesAsking (old : PullState) (piece : List ℕ) (new : PullState)
   pub used : ℕ
   pub text : List ℕ
   pub ends : EndsLine (piece_run line_limit old.kept piece) used text
-  pub takes : TakesAnswerLine old.held old.lines text new.held new.lines true
+  pub lines : AnswerLines
+  pub takes : TakesAnswerLine old.held old.lines text new.held lines true
+  pub passes : PassesOn old lines new
   pub few : new.lines.bucket < 256
 
 abbrev pub FailsPulled : PullState → List ℕ → PullState → SyncError → Type 0

@@ -49,7 +49,7 @@ ServesNext m stream left old new (Ok false) = ServesNone stream old new
 ServesNext m stream left old new (Err e) = FailsReading m stream old new e
     ⊎ FailsWriting m stream left old new e
 
--- So many haves were read and answered.
+-- This many haves were read and answered.
 pub record Served (m : Meaning) (stream left old new : Option (List ℕ)) (count : ℕ) : Type 0 where
   pub haves : List HaveMessage
   pub asks : BeginsWithHaves m.config stream haves left

@@ -34,7 +34,7 @@ pub record EndsHave (m : Meaning) (old piece : List ℕ) (used : ℕ)
   pub kept : new ≡ []
   pub is : answer ≡ give_text (give_of m have)
 
--- what is taken of a piece where `old` was kept
+-- what is taken of a piece after `old` was kept
 abbrev pub TakesHave : Meaning → List ℕ → List ℕ → ℕ → List ℕ → List ℕ → Type 0
 TakesHave m old piece used new answer = GoesOnWithHave old piece used new answer
     ⊎ EndsHave m old piece used new answer

@@ -35,7 +35,7 @@ pub record TakesNextLine (old new : TakingPlace) (whole : Bool) : Type 0 where
   pub is : HasLine old.left new.left text
   pub takes : TakesAnswerLine old.held old.lines text new.held new.lines whole
 
--- The stream's next line has this fault.
+-- The stream's next line has this error.
 pub record HasFaultyLine (place : TakingPlace) (e : SyncError) : Type 0 where
   pub text : List ℕ
   pub after : Option (List ℕ)
@@ -43,7 +43,7 @@ pub record HasFaultyLine (place : TakingPlace) (e : SyncError) : Type 0 where
   pub cause : ((line_limit < length text) × IsLongFault place.lines e)
       ⊎ ((length text ≤ line_limit) × RefusesAnswerLine place.held place.lines text e)
 
--- why no line is taken: the source failed or memory ran out, or no line comes, or it has a fault
+-- why no line is taken: the source failed or memory ran out, or no line comes, or it has an error
 abbrev pub RefusesNextLine : TakingPlace → SyncError → Type 0
 RefusesNextLine place e = ((e ≡ Io) ⊎ (e ≡ NoMemory))
     ⊎ (((e ≡ Truncated) × HasNoLine place.left) ⊎ HasFaultyLine place e)
@@ -57,7 +57,7 @@ pub record HasNoneTaken (start now : TakingPlace) : Type 0 where
   pub held : now.held ≡ start.held
   pub left : now.left ≡ start.left
 
--- Its first line is taken, and so much of what it has.
+-- Its first line is taken, and this much of what it has.
 pub record HasSomeTaken (start now : TakingPlace) : Type 0 where
   pub begun : now.lines.is_begun ≡ true
   pub count : ℕ
@@ -93,7 +93,7 @@ pub record TakesGive (old : Meaning) (bucket : ℕ) (stream : Option (List ℕ))
   pub meaning : new ≡ meaning_gained old give.content
   pub read_is : read ≡ before + 1 + length give.content.records + length give.content.held
 
--- It is not taken to its end; what the lines before the fault have is held.
+-- It is not taken to its end; what the lines before the error have is held.
 pub record StopsGive (old : Meaning) (bucket first : ℕ) (stream : Option (List ℕ)) (new : Meaning)
     (e : SyncError) : Type 0 where
   pub content : State

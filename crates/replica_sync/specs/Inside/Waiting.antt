@@ -27,7 +27,7 @@ pub record IsEmptyNews (news : News) : Type 0 where
   pub none : news.later.items ≡ []
   pub free : news.free ≡ 0
 
--- They wait: each will be taken, they rise, and so many more have a place.
+-- They wait: each will be taken, they rise, and this many more have a place.
 pub record Waits (m : Meaning) (news : News) : Type 0 where
   pub welcome : AreWelcome m (of_records news.later.items)
   pub rising : IsStrictlySortedBy distrust_cmp news.later.items

@@ -14,7 +14,7 @@ use Rattle.receipt_core.specs.declared.line_error.LineError.TheVariants.{NoMemor
 use Rattle.byte_lines.specs.Limits.{line_limit}
 use Rattle.receipt_core.specs.Limits.{receipt_line_limit}
 
--- It is held, and so many receipts are that were not.
+-- It is held, and this many receipts are that were not.
 pub record TakesEntry (old : Meaning) (entry : Entry) (new : Meaning) (count : ℕ) : Type 0 where
   pub meaning : new ≡ with_entry entry old
   pub more : length new.held ≡ length old.held + count
@@ -38,7 +38,7 @@ pub record TakesEntryText (wanted : Wanted) (old : Meaning) (last text : List �
   pub next : IsNextEntry wanted last text entry
   pub taken : TakesEntry old entry new count
 
--- The line has this fault, and nothing has changed.
+-- The line has this error, and nothing has changed.
 pub record HasRefusedLine (wanted : Wanted) (old : Meaning) (last : List ℕ) (number : ℕ)
     (text : List ℕ) (new : Meaning) (why : SyncError) : Type 0 where
   pub cause : RefusesEntryLine old (placed_line wanted last number text) why

@@ -35,7 +35,7 @@ pub record IsNextGiveLine (count distrusts : ℕ) (old : State) (before : Option
   pub is : HasLine before after text
   pub pushes : Pushes wanted old text new
 
--- So many receipts and records are there.
+-- This many receipts and records are there.
 pub record IsWhole (count distrusts : ℕ) (content : State) : Type 0 where
   pub receipts : length content.held ≡ count
   pub records : length content.records ≡ distrusts
@@ -55,7 +55,7 @@ StepsThroughGive count distrusts old before new after true = IsNextGiveLine coun
 StepsThroughGive count distrusts old before new after false = IsDone count distrusts old before
     new after
 
--- The stream begins with the lines of so much of the answer, and `left` is what follows.
+-- The stream begins with the lines of this much of the answer, and `left` is what follows.
 pub record Gathers (count distrusts : ℕ) (stream : Option (List ℕ)) (content : State)
     (left : Option (List ℕ)) : Type 0 where
   pub begun : IsBegun count distrusts content
@@ -67,7 +67,7 @@ pub record GathersAll (count distrusts : ℕ) (stream : Option (List ℕ)) (cont
   pub gathers : Gathers count distrusts stream content left
   pub whole : IsWhole count distrusts content
 
--- A good beginning, and after it this fault.
+-- A good beginning, and after it this error.
 pub record StopsGathering (count distrusts : ℕ) (old new : Option (List ℕ))
     (e : SyncError) : Type 0 where
   pub content : State

@@ -43,7 +43,7 @@ pub record IsOfParts (p : HaveFields) (listed : List (List ℕ)) (a : VersionedH
   pub ids : a.have.ids ≡ listed
   pub buckets : a.buckets ≡ p.buckets
 
--- the text is no have's line; or else memory ran out
+-- the text is not a have's line; or else memory ran out
 abbrev pub RefusesAnyHave : List ℕ → SyncError → Type 0
 RefusesAnyHave text e = ((e ≡ BadHeader) × ((asked : AnyHave) → IsAnyHaveLine text asked → ⊥))
     ⊎ (e ≡ NoMemory)

@@ -9,7 +9,7 @@ use Rattle.replica_texts.specs.Messages.{quoted}
 abbrev pub is_inside : ℕ → Bool
 is_inside byte = not (byte == 93)
 
--- of these ids the first is taken, and the others stand after it
+-- of these ids the first is taken, and the others come after it
 abbrev pub TakesId : List (List ℕ) → Option (ReceiptId × Bor (List ℕ)) → Type 0
 TakesId [] found = found ≡ None
 TakesId (id ∷ later) None = ⊥

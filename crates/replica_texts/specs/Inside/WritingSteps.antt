@@ -2,7 +2,7 @@
 use Rattle.std.specs.Prelude.{◌++◌, List, Option, ℕ, ◌≡◌}
 use Rattle.std.specs.Io.KnownBytes.{Appends}
 
--- Of the whole text all but the rest was written.
+-- All of the whole text but the rest was written.
 pub record WrittenSoFar (old now : Option (List ℕ)) (rest whole : List ℕ) : Type 0 where
   pub done : List ℕ
   pub appended : Appends old now done

@@ -35,7 +35,7 @@ abbrev pub is_current_voucher : BTreeSet DocId → List ℕ → Option Bundle �
 is_current_voucher vouchers domain None = false
 is_current_voucher vouchers domain (Some d) = is_voucher vouchers domain d
 
--- another domain is chosen, and the document is none of them
+-- another domain is chosen, and the document is not one of them
 abbrev pub is_passed : Option (List ℕ) → BTreeSet DocId → List ℕ → Bundle → Bool
 is_passed chosen vouchers domain d =
     is_left_aside chosen domain && not (is_voucher vouchers domain d)

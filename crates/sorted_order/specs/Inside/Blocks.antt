@@ -19,7 +19,7 @@ AreFilled (block ∷ blocks) = AreHalfFull blocks
 abbrev pub block_at : List (List ℕ) → ℕ → List ℕ
 block_at blocks i = slice_index_or blocks i []
 
--- how many numbers stand before the block at a place
+-- how many numbers come before the block at a place
 abbrev pub length_before : List (List ℕ) → ℕ → ℕ
 length_before blocks i = length (concat (take i blocks))
 
@@ -41,7 +41,7 @@ pub record IsSpot (blocks : List (List ℕ)) (at block place : ℕ) : Type 0 whe
   pub within : place ≤ length (block_at blocks block)
   pub whole : length_before blocks block + place ≡ at
 
--- What stands just before the place stands before what is sought, and what stands there doesn't.
+-- The number just before the place comes before what is sought, and the number there doesn't.
 pub record IsBoundary (compared : ℕ → Ordering) (numbers : List ℕ) (place : ℕ) : Type 0 where
   pub within : place ≤ length numbers
   pub before : 0 < place → compared (slice_index numbers (place - 1)) ≡ Less
@@ -60,7 +60,7 @@ abbrev pub capacity_of : ℕ → ℕ → ℕ
 capacity_of blocks spare = 256 * (blocks + spare - 1)
 
 -- There is a sum for each group of 64 blocks, and those of the first groups add up to how many
--- numbers stand before the next group.
+-- numbers come before the next group.
 pub record AreSums (sums : List ℕ) (blocks : List (List ℕ)) : Type 0 where
   pub all : length blocks ≤ 64 * length sums
   pub each : (group : ℕ) → group ≤ length sums
@@ -78,7 +78,7 @@ pub record AreKept (blocks : List (List ℕ)) (sums : List ℕ)
   pub summed : AreSums sums blocks
   pub grouped : length blocks + spare ≤ 64 * length sums
 
--- What is left to lend: so many of the numbers here and in the blocks, none of which is empty.
+-- What is left to lend: this many of the numbers here and in the blocks, none of which is empty.
 pub record IsLeft (numbers : List ℕ) (blocks : List (List ℕ)) (left : ℕ) : Type 0 where
   pub filled : AreHalfFull blocks
   pub within : left ≤ length (numbers ++ concat blocks)

@@ -11,19 +11,19 @@ pub record IsFirstFound (compared : ℕ → Ordering) (numbers : List ℕ) (numb
   pub found : IsFound compared numbers place
   pub numbered : slice_index numbers place ≡ number
 
--- what a search answers among numbers: the first in its place, or the place where it would stand
+-- what a search answers among numbers: the first in its place, or the place where it would be
 abbrev pub FindsFirst : (ℕ → Ordering) → List ℕ → Result ℕ ℕ → Type 0
 FindsFirst compared numbers result =
     MatchResult result (IsFirstFound compared numbers) (IsMissing compared numbers)
 
--- what a look at one place answers: the number that stands there, if it is in its place
+-- what a look at one place answers: the number there, if it is in its place
 abbrev pub FindsAt : (ℕ → Ordering) → List ℕ → ℕ → Option ℕ → Type 0
 FindsAt compared numbers place result =
     MatchOption result
     ((number : ℕ) → slice_get numbers place ≡ Some number → compared number ≢ Equal)
     (λ number. (slice_get numbers place ≡ Some number) × (compared number ≡ Equal))
 
--- how it stands to the place just past what is sought
+-- how it compares to the place just past what is sought
 abbrev pub past : Ordering → Ordering
 past Less = Less
 past Equal = Less

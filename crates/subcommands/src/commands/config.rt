@@ -3,7 +3,8 @@ use command_streams::{input, options, output};
 use fed_config::Config;
 use fedbundle::{Call, Exit, OptionName, given, run_config};
 
-/// Prints what the configuration says, or where it differs from another one, which is text alone.
+/// Prints what the configuration says, or where it differs from another one. The latter is only
+/// text.
 pub(crate) fn run(rt: &HostRuntime, config: &Config, call: &Call<'_>) -> Result<u8, Exit> {
     match given(call, OptionName::With) {
         Some(path) => {

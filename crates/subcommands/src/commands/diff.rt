@@ -5,8 +5,8 @@ use fed_config::Config;
 use fedbundle::{Call, Exit, OptionName, run_diff, wanted};
 use trust_closure::IndexedClosure;
 
-/// Prints what only one of two state files holds. Where they hold different things the exit status
-/// is 1.
+/// Prints what only one of two state files holds. If they hold different things, the exit status is
+/// 1.
 pub(crate) fn run(
     rt: &HostRuntime,
     config: &Config,

@@ -41,7 +41,7 @@ pub(crate) fn make(
     Ok(())
 }
 
-/// Says which records were made, where the options do not name the key.
+/// Says which records were made, if the options do not name the key.
 pub(crate) fn tell(
     rt: &HostRuntime,
     closure: &IndexedClosure,

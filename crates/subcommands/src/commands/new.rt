@@ -4,8 +4,7 @@ use fed_config::Config;
 use fedbundle::{Call, CommandError, Exit};
 use trust_closure::{Closure, IndexedClosure};
 
-/// Writes the state file, with its lock. Where there is a state file or a journal, nothing is
-/// written.
+/// Writes the state file, with its lock. If there is a state file or a journal, nothing is written.
 pub(crate) fn run(rt: &HostRuntime, config: &Config, call: &Call<'_>) -> Result<u8, Exit> {
     let state = state_access_of(call)?;
     let _lock = lock(rt, state)?;

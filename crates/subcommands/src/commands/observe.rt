@@ -20,12 +20,12 @@ pub(crate) fn run(rt: &HostRuntime, config: &Config, call: &Call<'_>) -> Result<
     }
 }
 
-/// The bytes of the bundle that standard input has, and one more where it has too many.
+/// The bytes of the bundle that standard input has, and one more if it has too many.
 pub(crate) fn read_bundle(rt: &HostRuntime) -> Result<Vec<u8>, CommandError> {
     Ok(read_up_to(rt.alloc(), &mut input(rt), MAX_DOCUMENT_BYTES + 1)?)
 }
 
-/// Takes the bundle of these bytes, or reports why there are none.
+/// Takes the bundle of these bytes, or reports why they were not read.
 pub(crate) fn take_bundle(
     rt: &HostRuntime,
     closure: &mut IndexedClosure,

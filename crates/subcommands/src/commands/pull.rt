@@ -1,14 +1,20 @@
 //! `pull`: the end of a session that asks, over a socket. It loads the state, reads the address,
-//! and connects before a session begins; it saves the state at the end.
-use crate::connection::{Connection, connect};
+//! and connects before a session begins; it saves the state at the end. A session begins with sums:
+//! if none differs it is over, and otherwise all buckets are asked about. At a peer that does not
+//! know sums it continues without them.
+use crate::connection::{Connection, Direction, connect};
 use crate::limited_reader::LimitedReader;
+use crate::peeked_reader::PeekedReader;
 use crate::state_access::{StateAccess, leave, load, lock, room_left, save, state_access_of};
+use crate::sums_exchange::ask_for_sums;
 use byte_lines::{FromRead, FromWrite};
 use command_faults::status_of;
 use command_streams::{options, output_line, progress_mode};
 use fed_config::Config;
-use fedbundle::{Call, CommandError, Exit, OptionName, Step, run_pull, wanted};
+use fedbundle::{Call, CommandError, Exit, OptionName, Step, run_pull, wanted, write_counted};
 use progress_line::{LongWork, WatchedReader, WorkProgress};
+use replica_core::SyncError;
+use replica_sync::PullFault;
 use state_files::{SeenState, has_journal, see_state};
 use std::io::Read;
 use trust_closure::{Closure, ExchangeClosure};
@@ -18,6 +24,24 @@ use trust_closure::{Closure, ExchangeClosure};
 struct Begun {
     closure: ExchangeClosure,
     file: SeenState,
+}
+
+/// With what a session begins.
+#[derive(Clone, Copy)]
+enum FirstQuestion {
+    /// The sums of what is held. If some differ, haves follow.
+    Sums,
+    /// The have about the first of all buckets.
+    Have,
+}
+
+/// What came of a session that begins with sums.
+#[derive(Drop)]
+enum SumsSession {
+    /// It ended.
+    Ended(Result<(), Exit>),
+    /// The other side ended the connection and answered nothing: it may not know sums.
+    Unanswered,
 }
 
 /// Takes what the replica at the address has, and writes the state, also where the session ends
@@ -33,15 +57,23 @@ pub(crate) fn run(rt: &HostRuntime, config: &Config, call: &Call<'_>) -> Result<
     Ok(end_pull(rt, call, pulled, saved))
 }
 
-// How the session ended. Where there is no connection there was none.
+// How the session ended. Without a connection there was none. A peer that may not know sums
+// is asked without them, on another connection.
 fn pull_from(
     rt: &HostRuntime,
     closure: &mut ExchangeClosure,
     peer: &str,
     most_bytes: u64,
 ) -> Result<Result<(), Exit>, Exit> {
-    let connection = connect(rt, options::known_address(peer)?)?;
-    Ok(end_session(rt, closure, connection, most_bytes))
+    let address = options::known_address(peer)?;
+    let connection = connect(rt, address)?;
+    match pull_with_sums(rt, closure, &connection, most_bytes) {
+        SumsSession::Ended(ended) => Ok(ended),
+        SumsSession::Unanswered => {
+            let connection = connect(rt, address)?;
+            Ok(pull_with_haves(rt, closure, &connection, most_bytes))
+        }
+    }
 }
 
 fn begin(rt: &HostRuntime, config: &Config, state: StateAccess<'_>) -> Result<Begun, Exit> {
@@ -53,17 +85,49 @@ fn begin(rt: &HostRuntime, config: &Config, state: StateAccess<'_>) -> Result<Be
     }
 }
 
-fn end_session(
+fn pull_with_sums(
     rt: &HostRuntime,
     closure: &mut ExchangeClosure,
-    connection: Connection,
+    connection: &Connection,
+    most_bytes: u64,
+) -> SumsSession {
+    let mut answers = LimitedReader::new(connection.direction(rt), most_bytes);
+    let pulled = pull_watched(rt, closure, &mut answers, connection, FirstQuestion::Sums);
+    let is_unanswered = match &pulled {
+        Ok(()) => false,
+        Err(error) => { is_of_connection(error) && !answers.has_given() && connection.is_young(rt) }
+    };
+    if is_unanswered {
+        SumsSession::Unanswered
+    } else {
+        SumsSession::Ended(end_session(pulled, answers.has_passed()))
+    }
+}
+
+fn pull_with_haves(
+    rt: &HostRuntime,
+    closure: &mut ExchangeClosure,
+    connection: &Connection,
     most_bytes: u64,
 ) -> Result<(), Exit> {
     let mut answers = LimitedReader::new(connection.direction(rt), most_bytes);
-    match pull_watched(rt, closure, &mut answers, &connection) {
+    let pulled = pull_watched(rt, closure, &mut answers, connection, FirstQuestion::Have);
+    end_session(pulled, answers.has_passed())
+}
+
+fn end_session(pulled: Result<(), CommandError>, has_passed: bool) -> Result<(), Exit> {
+    match pulled {
         Ok(()) => Ok(()),
-        Err(_) if answers.has_passed() => Err(Exit::TooManyBytes),
+        Err(_) if has_passed => Err(Exit::TooManyBytes),
         Err(error) => Err(Exit::Refused(error)),
+    }
+}
+
+// Whether the connection ended or failed.
+fn is_of_connection(error: &CommandError) -> bool {
+    match error {
+        CommandError::Pull(fault) => matches!(fault.why, SyncError::Truncated | SyncError::Io),
+        _ => false,
     }
 }
 
@@ -72,10 +136,11 @@ fn pull_watched<R: Read>(
     closure: &mut ExchangeClosure,
     answers: &mut R,
     connection: &Connection,
+    first: FirstQuestion,
 ) -> Result<(), CommandError> {
     let mut progress = WorkProgress::begin(rt, rt.alloc(), LongWork::Pulling, progress_mode(rt));
     let mut watched = WatchedReader::new(answers, &mut progress);
-    pull_on(rt, closure, &mut watched, connection)
+    pull_on(rt, closure, &mut watched, connection, first)
 }
 
 fn pull_on<R: Read>(
@@ -83,19 +148,38 @@ fn pull_on<R: Read>(
     closure: &mut ExchangeClosure,
     answers: &mut R,
     connection: &Connection,
+    first: FirstQuestion,
 ) -> Result<(), CommandError> {
+    let mut answers = PeekedReader::new(rt.alloc(), answers);
+    let mut questions = connection.direction(rt);
+    let mut output = output_line(rt);
+    let may_lack = match first {
+        FirstQuestion::Sums => differs(rt, closure, &mut answers, &mut questions)?,
+        FirstQuestion::Have => true,
+    };
+    if !may_lack {
+        write_counted(b"new ", 0, &mut output)?;
+        return Ok(());
+    }
     let mut source = FromRead::new(answers);
-    let mut peer = FromWrite::new(connection.direction(rt));
-    run_pull(
-        rt.alloc(),
-        closure,
-        &mut source,
-        &mut peer,
-        &mut output_line(rt),
-    )
+    let mut peer = FromWrite::new(questions);
+    run_pull(rt.alloc(), closure, &mut source, &mut peer, &mut output)
 }
 
-// The state is written before a fault of the session is reported.
+// Whether the sums of the other side differ.
+fn differs<R: Read>(
+    rt: &HostRuntime,
+    closure: &ExchangeClosure,
+    answers: &mut PeekedReader<R>,
+    questions: &mut Direction<'_>,
+) -> Result<bool, PullFault> {
+    match ask_for_sums(rt.alloc(), closure, answers, questions) {
+        Ok(buckets) => Ok(!buckets.is_empty()),
+        Err(why) => Err(PullFault { why, taken: 0 }),
+    }
+}
+
+// The state is written before an error of the session is reported.
 fn end_pull(
     rt: &HostRuntime,
     call: &Call<'_>,
@@ -106,7 +190,7 @@ fn end_pull(
     status_of(rt, call, saved.map(|()| 0)).max(ended)
 }
 
-// Where another command has written the state meanwhile, or there is a journal, what was pulled is
+// If another command has written the state meanwhile, or there is a journal, what was pulled is
 // joined to that.
 fn end_saving(
     rt: &HostRuntime,

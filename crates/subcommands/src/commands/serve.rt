@@ -1,7 +1,10 @@
 //! `serve`: the end of a session that answers, over a socket. It loads the state, reads the
 //! address, and opens the socket before a session begins.
 use crate::connection::{Connection, accept, listen};
+use crate::peeked_reader::PeekedReader;
 use crate::state_access::{load, state_access_of};
+use crate::sums_exchange::answer_sums;
+use bucket_sums::KeptSums;
 use byte_lines::{FromRead, FromWrite};
 use command_streams::options::config_of;
 use command_streams::{
@@ -21,8 +24,8 @@ struct Service {
     is_verbose: bool,
 }
 
-/// Serves as many sessions as the words say. The fault of a session is reported at its end, and the
-/// greatest exit status of all is returned.
+/// Serves as many sessions as the arguments say. The error of a session is reported at its end, and
+/// the greatest exit status of all is returned.
 pub(crate) fn run(rt: &HostRuntime, call: &Call<'_>) -> Result<u8, Exit> {
     let sessions = options::session_count(wanted(call, OptionName::Sessions)?)?;
     let config = config_of(rt, call)?;
@@ -49,7 +52,7 @@ fn serve_at(
     let wanted = options::address(address)?;
     let listener = listen(rt, wanted)?;
     if service.is_verbose || wanted.port() == 0 {
-        // Where the system does not say which port it chose, nothing else is known of it.
+        // If the system does not say which port it chose, nothing else is known of it.
         say_listening(rt, listener.local_addr().unwrap_or(wanted));
     }
     Ok(serve_all(rt, closure, &listener, service))
@@ -62,8 +65,9 @@ fn serve_all(
     service: Service,
 ) -> u8 {
     let mut worst = 0;
+    let mut sums = KeptSums::new(rt.alloc());
     for _ in 0..service.sessions {
-        let served = serve_next(rt, closure, listener, service.is_verbose);
+        let served = serve_next(rt, closure, &mut sums, listener, service.is_verbose);
         worst = status_of(rt, served).max(worst);
     }
     let written = write_served(u64::from(service.sessions), &mut output_line(rt));
@@ -73,6 +77,7 @@ fn serve_all(
 fn serve_next(
     rt: &HostRuntime,
     closure: &ExchangeClosure,
+    sums: &mut KeptSums,
     listener: &TcpListener,
     is_verbose: bool,
 ) -> Result<(), Exit> {
@@ -80,7 +85,7 @@ fn serve_next(
     if is_verbose {
         say_coming(rt, connection.peer());
     }
-    let count = serve_on(rt, closure, &connection)?;
+    let count = serve_on(rt, closure, sums, &connection)?;
     if is_verbose {
         say_given(rt, connection.peer(), count);
     }
@@ -90,16 +95,19 @@ fn serve_next(
 fn serve_on(
     rt: &HostRuntime,
     closure: &ExchangeClosure,
+    sums: &mut KeptSums,
     connection: &Connection,
 ) -> Result<u64, CommandError> {
     let mut progress = WorkProgress::begin(rt, rt.alloc(), LongWork::Serving, progress_mode(rt));
-    let answers = WatchedWriter::new(connection.direction(rt), &mut progress);
-    let mut source = FromRead::new(connection.direction(rt));
+    let mut answers = WatchedWriter::new(connection.direction(rt), &mut progress);
+    let mut questions = PeekedReader::new(rt.alloc(), connection.direction(rt));
+    answer_sums(rt.alloc(), closure, sums, &mut questions, &mut answers)?;
+    let mut source = FromRead::new(questions);
     let mut sink = FromWrite::new(answers);
     run_serve(rt.alloc(), closure, &mut source, &mut sink)
 }
 
-// In these three, that it cannot be said changes nothing.
+// In these three, a line that cannot be written changes nothing.
 fn say_listening(rt: &HostRuntime, address: SocketAddr) {
     let _ = writeln!(error_lines(rt), "fedbundle: listens at {address}");
     warn_of_anywhere(rt, address);
@@ -116,7 +124,7 @@ fn say_given(rt: &HostRuntime, peer: SocketAddr, answers: u64) {
     );
 }
 
-// The exit status of what was done, where a fault is reported.
+// The exit status of what was done, if an error is reported.
 fn status_of(rt: &HostRuntime, done: Result<(), Exit>) -> u8 {
     match done {
         Ok(()) => 0,

@@ -31,7 +31,7 @@ fn show_of(
     }
 }
 
-// The commands that a running replica has, too. A file that the words name is read in place of
+// The commands that a running replica has, too. A file that the arguments name is read in place of
 // standard input.
 fn show_as_replica(
     rt: &HostRuntime,

@@ -1,5 +1,5 @@
 //! The subcommands that change what a state file holds. What they take is read before the lock of
-//! the state is taken, and a fault of that is reported after those of the lock, the state and the
+//! the state is taken, and an error of that is reported after those of the lock, the state and the
 //! options. The replica is made and given back in one place, and each command only borrows it.
 use crate::commands::{distrust, observe};
 use crate::state_access::{leave, load, lock, save, state_access_of};

@@ -39,7 +39,7 @@ pub record IsBuilt (h : HeldReceipts) (p : DocumentTableView) (w : LabelIndexVie
   pub reached : ListsReached w.net w.marked
   pub pairing : IsDocumentTable (pairs_of h.config.seeds h.arrived) p
 
--- Besides, the count of each document is how many of the marked nodes have it.
+-- In addition, the count of each document is how many of the marked nodes have it.
 pub record IsIndexed (h : HeldReceipts) (p : DocumentTableView) (w : LabelIndexView) : Type 0 where
   pub built : IsBuilt h p w
   pub counts : AreCounts p.heads w.marked p.counts
@@ -67,7 +67,7 @@ pub record WasIndexed (new : HeldReceipts) (more : List Distrust) (p : DocumentT
 abbrev pub IsDistrusted : HeldReceipts → Label → Type 0
 IsDistrusted h label = IsDistrustedIn h label.domain label.key
 
--- There is room for so many receipts more and so many offers of theirs.
+-- There is room for this many receipts more and this many offers of theirs.
 pub record HasRoom (h : HeldReceipts) (p : DocumentTableView) (w : LabelIndexView)
     (room : FreeRoom) : Type 0 where
   pub held : length h.arrived + room.receipts ≤ h.capacity
@@ -76,7 +76,7 @@ pub record HasRoom (h : HeldReceipts) (p : DocumentTableView) (w : LabelIndexVie
   pub edges : room.receipts + room.offers ≤ w.edges
   pub few : length p.heads + room.receipts < 2 ^ 32
 
--- What one closure keeps, beside the room.
+-- What one closure keeps, and its room.
 pub record IsIndexedClosure (h : HeldReceipts) (p : DocumentTableView) (w : LabelIndexView)
     (spare : FreeRoom) : Type 0 where
   pub indexed : IsIndexed h p w
@@ -115,10 +115,10 @@ indexed_of h w s work = record {
 }
 
 -- The index has one node for each configured document, which is marked, and one for each receipt,
--- in order of arrival, for each receipt one wait edge, for each node as many offer edges as it has
--- offers, and no other, one label for each triple that is offered or awaited, and no other label;
--- the labels of distrusted keys are closed. A receipt's node is marked exactly where an accepted
--- document vouches for it.
+-- in order of arrival; for each receipt one wait edge, for each node as many offer edges as it has
+-- offers, and no other edge; and one label for each triple that is offered or awaited, and no other
+-- label. The labels of distrusted keys are closed. A receipt's node is marked exactly if an
+-- accepted document vouches for it.
 pub record IsIndexOf (i : Indexed) : Type 0 where
   pub labels : List Triple
   pub net : IsNetOf i.state.meaning.config.seeds i.arrived i.state.meaning.records labels

@@ -18,7 +18,7 @@ use Rattle.trust_closure.specs.Inside.NodeSpecs.{NodeSpec, Represents}
 abbrev pub seed_node : Seed → NodeSpec Triple
 seed_node s = record { rooted = true; offers = offers_of (pair_of_seed s); awaits = None }
 
--- A receipt's node is none, and awaits what the receipt needs.
+-- A receipt's node is not a root, and awaits what the receipt needs.
 abbrev pub receipt_node : Receipt → NodeSpec Triple
 receipt_node r = record {
   rooted = false;
@@ -35,7 +35,7 @@ abbrev pub IsNetOf : List Seed → List Receipt → List Distrust → List Tripl
 IsNetOf seeds arrivals records labels net = Represents (node_specs_of seeds arrivals) labels
     (IsShutBy records) net
 
--- what a label stands for, given the domains by number
+-- what a label means, given the domains by number
 abbrev pub triple_by : List (List ℕ) → Label → Triple
 triple_by domains label =
     record {
@@ -44,21 +44,22 @@ triple_by domains label =
       key = label.key;
     }
 
--- The label stands for the triple, whatever list of the configuration's domains numbers them.
+-- The label means the triple, whatever list of the configuration's domains numbers them.
 pub record IsLabelOf (c : Configuration) (t : Triple) (label : Label) : Type 0 where
   pub domain : (domains : List (List ℕ)) → AreDomains c domains
       → slice_get domains label.domain ≡ Some t.domain
   pub document : label.document ≡ t.document
   pub key : label.key ≡ t.key
 
--- The label index represents these nodes: its labels name domains that are there, and stand for the
--- what the nodes offer and await.
+-- The label index represents these nodes: its labels name domains that are there, and mean what the
+-- nodes offer and await.
 pub record IsLabelIndexOf (domains : List (List ℕ)) (records : List Distrust)
     (spots : List (NodeSpec Triple)) (w : LabelIndexView) : Type 0 where
   pub within : All (λ label. label.domain < length domains) w.labels
   pub mirrors : Represents spots (map (triple_by domains) w.labels) (IsShutBy records) w.net
 
--- Edges are added at a node: what was marked stays in its place, and so many edges have taken room.
+-- Edges are added at a node: what was marked stays in its place, and this many edges have taken
+-- room.
 pub record Widens (edges : ℕ) (old new : LabelIndexView) : Type 0 where
   pub roots : length new.net.roots ≡ length old.net.roots
   pub front : take (length old.marked) new.marked ≡ old.marked

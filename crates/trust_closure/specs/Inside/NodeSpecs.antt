@@ -1,18 +1,18 @@
--- What ties a net of nodes and labels to what stands at its nodes
+-- What ties a net of nodes and labels to what is at its nodes
 use Rattle.std.specs.Prelude.{◌≡◌, ◌≢◌, ◌↔◌, ◌⊎◌, ℕ, ◌+◌, Bool, true, false, length, List, [], ◌∷◌}
 use Rattle.std.specs.Prelude.{◌++◌, map, Option, Some, None, slice_get, AllPairs, Contains}
 use Rattle.std.specs.Option.{option_to_list}
 use Rattle.wait_index.specs.declared.edges.Edge.{Edge}
 use Rattle.wait_index.specs.Net.{Net, is_closed}
 
--- What stands at a node: whether it is a root, what it offers, in order, and what it awaits, if
+-- What is at a node: whether it is a root, what it offers, in order, and what it awaits, if
 -- anything.
 pub record NodeSpec (A : Type 0) : Type 0 where
   pub rooted : Bool
   pub offers : List A
   pub awaits : Option A
 
--- an edge by its node and what its label stands for
+-- an edge by its node and what its label means
 pub record LabelledEdge (A : Type 0) : Type 0 where
   pub node : ℕ
   pub label : Option A
@@ -33,7 +33,7 @@ offered_at spot = spot.offers
 abbrev pub awaited_at : {A : Type 0} → NodeSpec A → List A
 awaited_at spot = option_to_list spot.awaits
 
--- what the edges of a net are, given what each label stands for
+-- what the edges of a net are, given what each label means
 abbrev pub offer_edge : {A : Type 0} → List A → Edge → LabelledEdge A
 offer_edge labels edge = record { node = edge.from; label = slice_get labels edge.to }
 
@@ -47,8 +47,8 @@ pub record IsUsed {A : Type 0} (spots : List (NodeSpec A)) (label : A) : Type 0 
   pub uses : Contains spot.offers label ⊎ (spot.awaits ≡ Some label)
 
 -- The net has one node for each spot, for each spot as many offer edges as it has offers and a wait
--- edge where it awaits, one label for each that is offered or awaited, and no other of these. The
--- labels are different, and closed exactly where they are shut.
+-- edge if it awaits something, one label for each that is offered or awaited, and no other of
+-- these. The labels are different, and closed exactly if they are shut.
 pub record Represents {A : Type 0} (spots : List (NodeSpec A)) (labels : List A) (IsShut : A
     → Type 0)
     (net : Net) : Type 0 where

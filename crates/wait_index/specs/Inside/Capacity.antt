@@ -28,7 +28,7 @@ pub record GrowsGraph (old new : Graph) : Type 0 where
   pub offers : (graph_capacity old).offers ≤ (graph_capacity new).offers
   pub waits : (graph_capacity old).waits ≤ (graph_capacity new).waits
 
--- There is room for so many nodes, labels and edges of each kind more, and their numbers have 32
+-- There is room for this many more nodes, labels and edges of each kind, and their numbers have 32
 -- bits.
 pub record HasGraphRoom (g : Graph) (more_nodes more_labels more_edges : ℕ) : Type 0 where
   pub nodes : length g.roots.items + more_nodes ≤ (graph_capacity g).nodes
@@ -45,7 +45,7 @@ pub record GrowsMarks (old new : Marks) : Type 0 where
   pub nodes : (marks_capacity old).nodes ≤ (marks_capacity new).nodes
   pub labels : (marks_capacity old).labels ≤ (marks_capacity new).labels
 
--- There is room for so many nodes and labels more.
+-- There is room for this many more nodes and labels.
 pub record HasMarksRoom (m : Marks) (more_nodes more_labels : ℕ) : Type 0 where
   pub nodes : length m.marked.places.items + more_nodes ≤ (marks_capacity m).nodes
   pub support : length m.support.items + more_labels ≤ vec_capacity m.support

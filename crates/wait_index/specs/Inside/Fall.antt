@@ -72,7 +72,7 @@ pub record IsSettled (net : Net) (t : Tally) : Type 0 where
   pub follows : Follows net t (length t.marked) 0 0
   pub untouched : t.touched ≡ []
 
--- all that the labels alone reach is taken back
+-- all that only the labels reach is taken back
 abbrev pub HasFallen : Net → List ℕ → Tally → Type 0
 HasFallen net closing t = IsFalling net closing t (length t.touched) 0 0
 

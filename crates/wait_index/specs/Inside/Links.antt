@@ -8,7 +8,7 @@ pub record IsLink (edges : List Edge) (owner link : ℕ) : Type 0 where
   pub within : link ≤ length edges
   pub owned : (i : ℕ) → link ≡ i + 1 → from_at edges i ≡ owner
 
--- The link is that of the owner's last edge among the first n, or 0 where the owner has none there.
+-- The link is that of the owner's last edge among the first n, or 0 if the owner has none there.
 pub record IsLast (edges : List Edge) (owner n link : ℕ) : Type 0 where
   pub below : link ≤ n
   pub owned : (i : ℕ) → link ≡ i + 1 → from_at edges i ≡ owner

@@ -1,8 +1,8 @@
--- A set of numbers that is kept as a list beside the place of each number in it
+-- A set of numbers that is kept as a list, with the place of each number in it
 use Rattle.std.specs.Prelude.{◌≡◌, ℕ, ◌+◌, ◌<◌, Bool, List, length, slice_index, nat_lt}
 use Rattle.wait_index.specs.Inside.Count.{count_below}
 
--- A place is an index in the list plus 1, or 0 where the number is not listed.
+-- A place is an index in the list plus 1, or 0 if the number is not listed.
 abbrev pub holds : List ℕ → ℕ → Bool
 holds places n = nat_lt 0 (slice_index places n)
 

@@ -32,12 +32,12 @@ pub record GrowsLabels (old new : LabelSet) : Type 0 where
   pub items_room : vec_capacity old.items ≤ vec_capacity new.items
   pub places_room : vec_capacity old.places ≤ vec_capacity new.places
 
--- There is room for so many owners and edges more.
+-- There is room for this many more owners and edges.
 pub record HasEdgesRoom (e : Edges) (more_owners more_edges : ℕ) : Type 0 where
   pub owners : length e.newest.items + more_owners ≤ owners_room e
   pub edges : length e.edges.items + more_edges ≤ edges_room e
 
--- There is room for so many members more.
+-- There is room for this many more members.
 pub record HasNodesRoom (s : NodeSet) (more : ℕ) : Type 0 where
   pub items : length s.places.items + more ≤ vec_capacity s.items
   pub places : length s.places.items + more ≤ vec_capacity s.places

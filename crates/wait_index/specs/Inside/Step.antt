@@ -8,7 +8,7 @@ use Rattle.wait_index.specs.Net.{Net, is_root, is_closed, IsReached}
 use Rattle.wait_index.specs.Inside.Tally.{Tally, HasSizes, is_marked_in, is_touched_in, is_open_in}
 use Rattle.wait_index.specs.Inside.Tally.{support_in}
 
--- whether the node is among the first marked ones, as many as `cursor`
+-- whether the node is among the first `cursor` marked ones
 abbrev pub is_before : Tally → ℕ → ℕ → Bool
 is_before t cursor node = nat_lt 0 (slice_index t.places node)
     && nat_le (slice_index t.places node) cursor
@@ -24,8 +24,8 @@ pub record IsSteady (net : Net) (t : Tally) : Type 0 where
   pub open_not_closed : (l : ℕ) → is_open_in t l ≡ true → is_closed net l ≡ false
   pub open_supported : (l : ℕ) → is_open_in t l ≡ true → 0 < support_in t l
 
--- The offer edges of the first marked nodes are followed, but for those of one node below a link,
--- and the wait edges of the open labels.
+-- The offer edges of the first marked nodes, except those of one node below a link, and the wait
+-- edges of the open labels are followed.
 pub record IsCounted (net : Net) (t : Tally) (cursor node link : ℕ) : Type 0 where
   pub support : (l : ℕ) → l < length net.closed
       → support_in t l + count_below

@@ -112,7 +112,7 @@ pub record Releases (net : Net) (label : ℕ) (old new : Tally) : Type 0 where
   pub touched_places : new.touched_places ≡ old.touched_places
   pub visits : new.visits ≡ old.visits + waits_of net label
 
--- the label stays as it is
+-- the label does not change
 pub record Leaves (net : Net) (label : ℕ) (old new : Tally) : Type 0 where
   pub why : (support_in old label ≡ 0)
       ⊎ ((is_closed net label ≡ true) ⊎ (is_open_in old label ≡ true))
@@ -125,7 +125,7 @@ pub record Opens (net : Net) (label : ℕ) (old new : Tally) : Type 0 where
   pub shut : is_open_in old label ≡ false
   pub releases : Releases net label (record old { opened = slice_set old.opened label true }) new
 
--- the label is opened where a followed edge leads to it and it is neither closed nor open
+-- the label is opened if a followed edge leads to it and it is neither closed nor open
 abbrev pub SettlesLabel : Net → ℕ → Tally → Tally → Type 0
 SettlesLabel net label old new = Leaves net label old new ⊎ Opens net label old new
 
@@ -137,7 +137,7 @@ Supports net label old new = SettlesLabel net label
       visits = old.visits + 1;
     }) new
 
--- where the label is open, its wait edges are to be looked at
+-- if the label is open, its wait edges are to be looked at
 pub record Touches (label : ℕ) (old new : Tally) : Type 0 where
   pub same : new ≡ record old { touched = new.touched; touched_places = new.touched_places }
   pub front : take (length old.touched) new.touched ≡ old.touched
@@ -154,8 +154,8 @@ pub record TouchesAll (labels : List ℕ) (old new : Tally) : Type 0 where
       → (is_touched_in old l ≡ true) ⊎ (Contains labels l × (is_open_in old l ≡ true))
   pub size : length new.touched_places ≡ length old.touched_places
 
--- one offer edge to the label is taken back: where the label is open, its wait edges are to be
--- looked at
+-- one offer edge to the label is taken back: if the label is open, its wait edges are to be looked
+-- at
 pub record Withdraws (label : ℕ) (old new : Tally) : Type 0 where
   pub marked : new.marked ≡ old.marked
   pub places : new.places ≡ old.places
@@ -195,13 +195,14 @@ pub record UnmarksNode (node : ℕ) (old new : Tally) : Type 0 where
   pub touched_places : new.touched_places ≡ old.touched_places
   pub visits : new.visits ≡ old.visits
 
--- a node that is no root is no longer marked, and its offer edges are taken back; a root stays
+-- a node that is not a root is no longer marked, and its offer edges are taken back; a root does
+-- not change
 abbrev pub Falls : Net → ℕ → Tally → Tally → Type 0
 Falls net node old new = ((is_root net node ≡ true) × (new ≡ old))
     ⊎ ((is_root net node ≡ false)
     × ((between : Tally) × UnmarksNode node old between × WithdrawsAll net node between new))
 
--- where the label is open, one wait edge from it is followed: the node is marked
+-- if the label is open, one wait edge from it is followed: the node is marked
 abbrev pub FollowsWait : ℕ → ℕ → Tally → Tally → Type 0
 FollowsWait label node old
     new = ((is_open_in old label ≡ true)

@@ -1,4 +1,4 @@
-use Rattle.std.proofs.Common.{◌≡◌, ◌∙◌, ◌++◌, sym, ap, append-nil}
+use Rattle.std.proofs.Common.{◌∙◌, ◌++◌, sym, ap, append-nil}
 use Rattle.std.specs.List.{flat_map}
 use Rattle.replica_texts.specs.Messages.{record_text}
 use Rattle.bucket_sums.proofs.HeldFacts.{records-more}

@@ -1,4 +1,4 @@
--- What the search found explains, and where it found nothing, nothing does.
+-- What the search found explains, and if it found nothing, nothing does.
 use Rattle.std.proofs.Common.{◌≡◌, Some, None, arith, reverse, refl, sym, ap, ◌∙◌, subst}
 use Rattle.std.specs.Prelude.{Any, length}
 use Rattle.std.proofs.lemmas.Bool.{both_ways}

@@ -1,4 +1,4 @@
--- Where the next does not need it, or was come to before, all that need it were come to.
+-- If the next does not need it, or was visited before, all that need it were visited.
 use Rattle.std.proofs.Common.{◌≡◌, ◌+◌, Some, length, rules, sym, ap, ◌∙◌, subst, refl}
 use Rattle.std.specs.Prelude.{slice_get}
 use Rattle.std.specs.Ordering.{is_lt}

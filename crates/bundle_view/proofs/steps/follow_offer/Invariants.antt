@@ -1,4 +1,4 @@
--- Those before the place that need it were come to.
+-- Those before the place that need it were visited.
 use Rattle.std.proofs.Common.{◌-◌, length}
 use Rattle.bundle_view.proofs.SearchFacts.{Gathers}
 use Rattle.bundle_view.proofs.steps.follow_offer.Given as goal

@@ -1,4 +1,4 @@
--- Where the offers are too many to count, some receipt was copied.
+-- If the offers are too many to count, some receipt was copied.
 use Rattle.std.proofs.Common.{length, ap, arith}
 use Rattle.std.proofs.lemmas.Result.{err_from_is_err_and}
 use Rattle.closure_parts.specs.Held.{meaning_of}

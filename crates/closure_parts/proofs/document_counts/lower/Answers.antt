@@ -1,4 +1,4 @@
--- Where a count was 1, one fewer is above 0.
+-- If a count was 1, one fewer is above 0.
 use Rattle.std.proofs.Common.{◌≡◌, ℕ, ◌-◌, List, set, get_or, arith}
 use Rattle.std.proofs.lemmas.List.{get_or-set_same}
 use Rattle.closure_core.specs.Inside.Nodes.{count_at}

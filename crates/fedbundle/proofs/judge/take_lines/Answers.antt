@@ -34,7 +34,7 @@ returns-in_err-count-in-Text-clause-stops g c =
     (g.C.Closure.state c.take_text.new.closure) _ (g.E.Sink.contents c.lines.complaints)
     (g.E.Sink.contents c.take_text.new.complaints)
     c.lines.number c.lines.count c.in-Text.text.now (g.E.Sink.has_failed c.take_text.new.complaints)
-    c.in_err-count-in-Text.field-0.0 c.lines.invariant.so_far taken.finds.0 c.in_err-count-in-Text.ensures.tries)
+    c.in_err-count-in-Text.field-0.0 c.requires.config c.lines.invariant.so_far taken.finds.0 c.in_err-count-in-Text.ensures.tries)
 
 pub returns-in_err-text-clause-sound : goal.returns-in_err-text-clause-sound
 returns-in_err-text-clause-sound g c =
@@ -70,7 +70,8 @@ returns-in_err-complain-in-TooLong-clause-stops g c =
     let taken = rw (c.in_ok-text.was, c.in-TooLong.is) at c.next_line.follows.holds-at-none in
     let (text, line, long) = taken.finds in
     let exit = err_from_is_err_and c.from_residual-in_err-complain-in-TooLong.result c.from_residual-in_err-complain-in-TooLong.ensures.1 in
-    rw (exit.1, exit.2) (stops_io _ _ _ _ (begun_line _ _ _ _ _ _ _ _ _ _ text TooLong c.lines.invariant.so_far line long c.complain.ensures.beginning))
+    rw (exit.1, exit.2) (stops_io _ _ _ _
+    (begun_line _ _ _ _ _ _ _ _ _ _ text TooLong c.requires.config c.lines.invariant.so_far line long c.complain.ensures.beginning))
 
 pub lines-preserved : goal.lines-preserved
 lines-preserved g c =

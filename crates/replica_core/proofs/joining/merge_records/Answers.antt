@@ -1,4 +1,4 @@
--- A merge with the closure of the records holds them besides.
+-- A merge with the closure of the records also holds them.
 use Rattle.std.proofs.Common.{ap, ◌∙◌}
 use Rattle.fed_config.specs.Configuration.{Configuration}
 use Rattle.replica_core.specs.Inside.RecordsToo.{only_records}

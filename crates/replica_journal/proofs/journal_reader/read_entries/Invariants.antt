@@ -1,4 +1,4 @@
--- So many lines were read, these are held, and the number and what is left fit 64 bits together.
+-- This many lines were read, these are held, and the number and what is left fit 64 bits together.
 use Rattle.std.proofs.Common.{◌≡◌, ◌+◌, ◌<◌, ◌^◌}
 use Rattle.byte_lines.specs.Streams.{stream_of, left_of}
 use Rattle.replica_journal.proofs.JournalFacts.{HasReadMore}

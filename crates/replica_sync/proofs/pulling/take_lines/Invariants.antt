@@ -1,4 +1,5 @@
--- So much of the answer is taken, each line took at least one byte, and the source has not failed.
+-- This part of the answer is taken, each line took at least one byte, and the source has not
+-- failed.
 use Rattle.std.proofs.Common.{◌≡◌}
 use Rattle.byte_lines.specs.Streams.{stream_of, left_of}
 use Rattle.replica_sync.specs.Inside.Taking.{HasTakenPart}

@@ -1,4 +1,4 @@
--- Where a growth is refused, the room is as it was.
+-- If a growth is refused, the room is as it was.
 use Rattle.std.proofs.Common.{refl, arith}
 use Rattle.trust_closure.proofs.IndexFacts.{reserves-pairs, reserves-kept, reserves-from}
 use Rattle.trust_closure.proofs.changes.reserve.Goals as goal

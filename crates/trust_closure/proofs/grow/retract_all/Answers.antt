@@ -1,4 +1,4 @@
--- Where nothing is new nothing is closed, and else all labels of distrusted keys.
+-- If nothing is new, nothing is closed. Otherwise all labels of distrusted keys are.
 use Rattle.std.proofs.Common.{refl, ap, subst}
 use Rattle.std.specs.Prelude.{MatchBool}
 use Rattle.receipt_core.specs.Acceptance.{Meaning}

@@ -1,4 +1,4 @@
--- The label that stands for the triple is offered.
+-- The label of the triple is offered.
 use Rattle.std.proofs.Common.{subst}
 use Rattle.std.specs.Prelude.{◌↔◌, IsTrue, Contains}
 use Rattle.receipt_core.specs.declared.distrust.Distrust.{Distrust}

@@ -1,4 +1,3 @@
-use Rattle.std.proofs.Common.{◌∙◌, sym}
 use Rattle.bucket_sums.proofs.MarkFacts.{no_marks, read_marks}
 use Rattle.bucket_sums.proofs.part_marks.Marks.read.Goals as goal
 

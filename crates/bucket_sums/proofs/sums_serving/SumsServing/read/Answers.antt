@@ -1,4 +1,4 @@
-use Rattle.std.proofs.Common.{◌≡◌, ◌∙◌, sym, subst, ◌++◌, take, List, ℕ}
+use Rattle.std.proofs.Common.{◌≡◌, ◌∙◌, sym, subst, ◌++◌, take}
 use Rattle.std.specs.Prelude.{None}
 use Rattle.replica_sync.specs.Pieces.{kept_part}
 use Rattle.bucket_sums.specs.Serving.{TakesQuestion}

@@ -1,4 +1,4 @@
--- The stream is as it was, and so is the source. It is read only where no whole line is kept.
+-- The stream is as it was, and so is the source. It is read only if no whole line is kept.
 use Rattle.std.proofs.Common.{◌≡◌, ◌+◌, ◌<◌, ◌≤◌, length, [], false}
 use Rattle.std.specs.Io.KnownBytes.{Keeps}
 use Rattle.byte_lines.specs.Lines.{HasNoFeed}

@@ -1,5 +1,5 @@
 -- A text without a line feed was passed, nothing was lost, and the source is as sound as it was.
--- The source is read only where all that was held at first was passed.
+-- The source is read only if all that was held at first was passed.
 use Rattle.std.proofs.Common.{◌≡◌, ◌+◌, ◌<◌, ◌≤◌, length, []}
 use Rattle.std.specs.Io.KnownBytes.{prepend_known}
 use Rattle.byte_lines.specs.Lines.{HasNoFeed}

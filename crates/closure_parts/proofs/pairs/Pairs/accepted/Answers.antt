@@ -1,4 +1,4 @@
--- The domain's numbers stand together.
+-- The domain's numbers are next to each other.
 use Rattle.std.proofs.Common.{◌<◌, ◌∙◌, length, ap, sym, subst}
 use Rattle.std.specs.List.{All}
 use Rattle.closure_core.specs.Inside.Nodes.{pairs_of}

@@ -30,8 +30,8 @@ returns-in-Err c =
       now = refl;
     }
 
--- A record for which there is a place is added where the search ended, and the records are kept as
--- they should be.
+-- A record for which there is a place is added at the end of the search, and the records are kept
+-- as they should be.
 inserted : (c : goal.After-insert) → IsAdded c.args.self.now c.args.entry c.insert.new.self.items
     × AreRecords c.insert.new.self.items (vec_capacity c.insert.new.self)
 inserted c =

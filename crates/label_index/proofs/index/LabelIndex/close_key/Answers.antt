@@ -1,4 +1,4 @@
--- The listed labels are those of the key, and they are closed at once.
+-- The listed labels are those of the key, and they are closed together.
 use Rattle.std.proofs.Common.{◌∙◌, length, arith, refl, ap}
 use Rattle.wait_index.specs.declared.room.Room.{Room}
 use Rattle.wait_index.specs.Net.{Net}

@@ -13,7 +13,7 @@ changed : (c : goal.After-self-1) → map kept_status (set c.self.inside.statuse
 changed c = kept-set c.self.inside.statuses.items c.args.self.now c.args.place c.index_mut.result.now c.add.new.self
     c.args.moment.nanosecond c.args.ok c.self.view_is c.index_mut.ensures.value c.requires c.add.ensures
 
--- any poll of this domain, moment and outcome is the one that is recorded
+-- any poll of this domain, time and outcome is the one that is recorded
 adds : (c : goal.After-self-1) (p : Poll) → p.moment ≡ c.args.moment.nanosecond → p.ok ≡ c.args.ok
     → slice_get (polled_domains c.args.self.now) c.args.place ≡ Some p.domain
     → RecordsPoll c.args.self.now p (map kept_status (set c.self.inside.statuses.items c.args.place c.add.new.self))

@@ -1,4 +1,4 @@
--- An item that the search finds came before; one that it does not find goes where it ended.
+-- An item that the search finds came before; one that it does not find goes to its end.
 use Rattle.std.proofs.Common.{◌≡◌, ◌∙◌, Some, true, false, sym, subst}
 use Rattle.std.specs.Prelude.{IfSome, slice_get}
 use Rattle.sorted_order.specs.Sequence.{Sequence}

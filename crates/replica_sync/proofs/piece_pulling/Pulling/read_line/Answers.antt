@@ -17,42 +17,46 @@ quiet_at bytes m = record { bytes = bytes; old = m; new = m }
 
 -- where a machine is
 abbrev state_at : Meaning → Pulling → PullState
-state_at m p = record { held = m; lines = p.lines; kept = kept_answer p }
+state_at m p = record { held = m; lines = p.lines; asked = p.plan; kept = kept_answer p }
 
 pub returns-in-Some-clause-pulls : goal.returns-in-Some-clause-pulls
-returns-in-Some-clause-pulls g c start came written own h =
+returns-in-Some-clause-pulls g c plan start came written own h =
     let self = c.args.self.now in
     let piece = quiet_at c.args.piece.now (held_with c.args.news.now (g.C.Closure.state c.args.closure.now).meaning) in
     record {
-      pulls = pulled_still self.fault c.in-Some.why self.lines start came (kept_answer self) (written ++ due_have self) piece c.in-Some.is refl h.pulls;
+      plan_is = h.plan_is;
+      pulls = pulled_still plan self.fault c.in-Some.why self.plan.answered self.lines start came (kept_answer self) (written ++ due_have self) piece
+          c.in-Some.is refl h.pulls;
       taken = taken_same (count_of_pulling self) came piece h.taken refl;
       idle = h.idle;
     }
 
 pub returns-then-is_over-clause-pulls : goal.returns-then-is_over-clause-pulls
-returns-then-is_over-clause-pulls g c start came written own h =
+returns-then-is_over-clause-pulls g c plan start came written own h =
     let self = c.args.self.now in
     let piece = quiet_at [] (held_with c.args.news.now (g.C.Closure.state c.args.closure.now).meaning) in
     record {
-      pulls = pulled_nothing self.fault self.lines start came (kept_answer self) (written ++ due_have self) piece
+      plan_is = h.plan_is;
+      pulls = pulled_nothing plan self.fault self.plan.answered self.lines start came (kept_answer self) (written ++ due_have self) piece
           (no_fault self.fault c.in_default.not-Some) refl refl h.pulls;
       taken = taken_same (count_of_pulling self) came piece h.taken refl;
       idle = h.idle;
     }
 
 pub returns-then-not-is_empty-clause-pulls : goal.returns-then-not-is_empty-clause-pulls
-returns-then-not-is_empty-clause-pulls g c start came written own h =
+returns-then-not-is_empty-clause-pulls g c plan start came written own h =
     let self = c.args.self.now in
     let piece = quiet_at [] (held_with c.args.news.now (g.C.Closure.state c.args.closure.now).meaning) in
     record {
-      pulls = pulled_nothing self.fault self.lines start came (kept_answer self) (written ++ due_have self) piece
+      plan_is = h.plan_is;
+      pulls = pulled_nothing plan self.fault self.plan.answered self.lines start came (kept_answer self) (written ++ due_have self) piece
           (no_fault self.fault c.in_default.not-Some) refl refl h.pulls;
       taken = taken_same (count_of_pulling self) came piece h.taken refl;
       idle = h.idle;
     }
 
 pub returns-in-Ok-clause-pulls : goal.returns-in-Ok-clause-pulls
-returns-in-Ok-clause-pulls g c start came written own h =
+returns-in-Ok-clause-pulls g c plan start came written own h =
     let self = c.args.self.now in
     let then = c.advance.new.self in
     let old = state_at (held_with c.args.news.now (g.C.Closure.state c.args.closure.now).meaning) self in
@@ -62,7 +66,8 @@ returns-in-Ok-clause-pulls g c start came written own h =
     empty_text (due_have self) (ap (λ (l : List ℕ). length l == 0) (sym c.output.ensures) ∙ sym c.is_empty.ensures ∙ c.if-not-is_empty.false) in
     let more = below_last c.is_over.result self.lines.bucket c.is_over.ensures c.if-is_over.false self.lines.few in
     record {
-      pulls = read_took self.fault then.fault start came old new c.args.piece.now c.in-Ok.used (due_have self) (due_have then) written sound
+      plan_is = c.in-Ok.ensures.plan ∙ h.plan_is;
+      pulls = read_took plan self.fault then.fault start came old new c.args.piece.now c.in-Ok.used (due_have self) (due_have then) written h.plan_is sound
           c.in-Ok.ensures.fault idle more own c.in-Ok.ensures.ok h.pulls;
       taken = taken_more (count_of_pulling self) (count_of_pulling then) came (piece_at (take c.in-Ok.used c.args.piece.now) old new) h.taken
           c.in-Ok.ensures.taken;
@@ -70,7 +75,7 @@ returns-in-Ok-clause-pulls g c start came written own h =
     }
 
 pub returns-in-Err-clause-pulls : goal.returns-in-Err-clause-pulls
-returns-in-Err-clause-pulls g c start came written own h =
+returns-in-Err-clause-pulls g c plan start came written own h =
     let self = c.args.self.now in
     let then = c.advance.new.self in
     let old = state_at (held_with c.args.news.now (g.C.Closure.state c.args.closure.now).meaning) self in
@@ -80,8 +85,9 @@ returns-in-Err-clause-pulls g c start came written own h =
     empty_text (due_have self) (ap (λ (l : List ℕ). length l == 0) (sym c.output.ensures) ∙ sym c.is_empty.ensures ∙ c.if-not-is_empty.false) in
     let more = below_last c.is_over.result self.lines.bucket c.is_over.ensures c.if-is_over.false self.lines.few in
     record {
-      pulls = read_stopped self.fault c.in-Err.why start came old new c.args.piece.now (kept_answer then) (due_have self) (due_have then) written sound
-          idle c.in-Err.ensures.quiet more own self.lines.some c.in-Err.ensures.refused h.pulls;
+      plan_is = c.in-Err.ensures.plan ∙ h.plan_is;
+      pulls = read_stopped plan self.fault c.in-Err.why start came old new c.args.piece.now (kept_answer then) (due_have self) (due_have then) written
+          h.plan_is sound idle c.in-Err.ensures.quiet more own self.lines.some c.in-Err.ensures.refused h.pulls;
       taken = taken_more (count_of_pulling self) (count_of_pulling then) came (piece_at c.args.piece.now old new) h.taken c.in-Err.ensures.taken;
       idle = λ stopped. c.in-Err.ensures.quiet;
     }

@@ -6,7 +6,7 @@ use Rattle.replica_sync.proofs.piece_pulling.Pulling.take_lines.Goals as goal
 pub returns-then-more-eq0-clause-pulls : goal.returns-then-more-eq0-clause-pulls
 returns-then-more-eq0-clause-pulls g c =
     pulls_on _ _ _ _ _ _ c.args.piece.now c.lines.used c.in-Ok.more c.lines.invariant.within c.lines.invariant.pulls
-    (config_then _ _ _ _ c.lines.invariant.journals) (λ start came written own h. c.in-Ok.ensures.pulls start came written own h)
+    (config_then _ _ _ _ c.lines.invariant.journals) (λ plan start came written own h. c.in-Ok.ensures.pulls plan start came written own h)
 
 pub returns-then-more-eq0-clause-journals : goal.returns-then-more-eq0-clause-journals
 returns-then-more-eq0-clause-journals g c = journals_more _ _ _ _ _ _ c.lines.invariant.journals c.in-Ok.ensures.journals
@@ -18,7 +18,7 @@ lines-preserved g c =
     let left = ap length (take_rest c.args.piece.now c.lines.used) ∙ length-drop c.lines.used c.args.piece.now in
     record {
       pulls = pulls_on _ _ _ _ _ _ c.args.piece.now c.lines.used c.in-Ok.more few c.lines.invariant.pulls
-          (config_then _ _ _ _ c.lines.invariant.journals) (λ start came written own h. c.in-Ok.ensures.pulls start came written own h);
+          (config_then _ _ _ _ c.lines.invariant.journals) (λ plan start came written own h. c.in-Ok.ensures.pulls plan start came written own h);
       journals = journals_more _ _ _ _ _ _ c.lines.invariant.journals c.in-Ok.ensures.journals;
       waits = c.in-Ok.ensures.waiting;
       within = omega (arith, few, more, left);
@@ -27,7 +27,7 @@ lines-preserved g c =
 pub returns-in-Err-clause-pulls : goal.returns-in-Err-clause-pulls
 returns-in-Err-clause-pulls g c =
     pulls_stop _ _ _ _ _ _ c.args.piece.now c.lines.used c.lines.invariant.pulls
-    (config_then _ _ _ _ c.lines.invariant.journals) (λ start came written own h. c.in-Err.ensures.pulls start came written own h)
+    (config_then _ _ _ _ c.lines.invariant.journals) (λ plan start came written own h. c.in-Err.ensures.pulls plan start came written own h)
 
 pub returns-in-Err-clause-journals : goal.returns-in-Err-clause-journals
 returns-in-Err-clause-journals g c = journals_more _ _ _ _ _ _ c.lines.invariant.journals c.in-Err.ensures.journals

@@ -1,4 +1,4 @@
--- More room is no other work.
+-- More room leaves the work as it was.
 use Rattle.trust_closure.proofs.IndexFacts.{same-work}
 use Rattle.trust_closure.proofs.closure.IndexedClosureMergeable.make_room.Goals as goal
 

@@ -1,0 +1,16 @@
+use Rattle.std.proofs.Common.{◌∙◌, ap}
+use Rattle.fed_config.specs.Configuration.{Configuration}
+use Rattle.bucket_sums.specs.Questions.{sums_question}
+use Rattle.bucket_sums.proofs.quiet_pulling.QuietPulling.new.Goals as goal
+
+pub returns-clause-ok : goal.returns-clause-ok
+returns-clause-ok g c were =
+    let m = (g.C.Closure.state c.args.closure.now).meaning in
+    record {
+      asks = c.in_ok-sums_question.ensures ∙ ap (λ (k : Configuration). sums_question k c.in_ok-sums.sums) c.config.ensures.config
+          ∙ ap (sums_question m.config) (c.in_ok-sums.ensures.sums were);
+      takes = c.new.ensures.begins m.config;
+      sound = c.new.ensures.sound;
+      waits = c.new.ensures.waits;
+      quiet = tt;
+    }

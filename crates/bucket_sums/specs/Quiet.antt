@@ -1,0 +1,156 @@
+-- A connection that is served: a question of sums or none, and then haves.
+use Rattle.std.specs.Prelude.{◌≡◌, ℕ, ◌⊎◌, List, [], ◌∷◌, ◌++◌, length, take, drop, Option, None}
+use Rattle.std.specs.Prelude.{Some, Result, Ok, Err}
+use Rattle.std.specs.List.{AllByRecursion}
+use Rattle.fed_config.specs.Configuration.{Configuration}
+use Rattle.receipt_core.specs.Acceptance.{Meaning}
+use Rattle.replica_core.specs.Session.{state_of}
+use Rattle.replica_core.specs.declared.error.SyncError.{SyncError}
+use Rattle.replica_core.specs.declared.error.SyncError.TheVariants.{NoMemory}
+use Rattle.replica_texts.specs.Snapshots.{text_of_lines}
+use Rattle.replica_texts.specs.SoleLines.{written_header}
+use Rattle.replica_sync.specs.Pieces.{kept_part}
+use Rattle.replica_sync.specs.ServedPieces.{Came, HasServedPieces, IsStill, bytes_came, due_give}
+use Rattle.replica_sync.specs.ServedPieces.{fault_of_serving}
+use Rattle.replica_sync.specs.declared.line_part.LinePart.{LinePart}
+use Rattle.replica_sync.specs.declared.piece_serving.Serving.{Serving}
+use Rattle.bucket_sums.specs.Lines.{IsSumLine, differences, part_count}
+use Rattle.bucket_sums.specs.Questions.{IsPlain, StopsAtLine, sums_answer}
+use Rattle.bucket_sums.specs.Serving.{HasTakenQuestion, fault_of_question, own_sums_of}
+use Rattle.bucket_sums.specs.Sums.{sums_of}
+use Rattle.bucket_sums.specs.declared.quiet_serving.Opening.{Opening}
+use Rattle.bucket_sums.specs.declared.quiet_serving.Opening.TheVariants.{FirstLine, Question, Over}
+use Rattle.bucket_sums.specs.declared.quiet_serving.QuietServing.{QuietServing}
+use Rattle.bucket_sums.specs.declared.sums_serving.SumsServing.{SumsServing}
+
+-- ---- what is to be written
+
+-- what is left of the answer to the question
+abbrev pub due_marks : QuietServing → List ℕ
+due_marks s = drop s.written s.marks.items
+
+-- this, or what follows if nothing is left
+abbrev pub first_due : List ℕ → List ℕ → List ℕ
+first_due [] later = later
+first_due (b ∷ bytes) later = b ∷ bytes
+
+-- what is to be written next
+abbrev pub due_quiet : QuietServing → List ℕ
+due_quiet s = first_due (due_marks s) (due_give s.haves)
+
+abbrev pub fault_of_quiet : QuietServing → Option SyncError
+fault_of_quiet s = s.fault
+
+-- the error that a call found
+abbrev pub fault_in : Result ℕ SyncError → Option SyncError
+fault_in (Ok used) = None
+fault_in (Err e) = Some e
+
+-- ---- the question
+
+-- The first line has not ended, and may be that of a have.
+pub record IsOpening (part : LinePart) (haves : Serving) (due : List ℕ) (came : List Came)
+    (written : List ℕ) : Type 0 where
+  pub serves : HasServedPieces haves came written
+  pub sound : fault_of_serving haves ≡ None
+  pub idle : due_give haves ≡ []
+  pub bytes : bytes_came came ≡ kept_part part
+  pub none : written ≡ []
+  pub none_due : due ≡ []
+
+-- The question is being asked. Its sums are compared with those of what was held when its first
+-- line ended.
+pub record IsAsking (config : Configuration) (question : SumsServing) (haves : Serving)
+    (due : List ℕ) (came : List Came) (written : List ℕ) : Type 0 where
+  pub held : Meaning
+  pub was : (m : Meaning) → IsStill m came → held ≡ m
+  pub sums : own_sums_of question ≡ sums_of (state_of held)
+  pub takes : HasTakenQuestion config question (bytes_came came)
+  pub sound : fault_of_question question ≡ None
+  pub serves : HasServedPieces haves [] []
+  pub ready : fault_of_serving haves ≡ None
+  pub idle : due_give haves ≡ []
+  pub none : written ≡ []
+  pub none_due : due ≡ []
+
+-- why what came is not taken before haves come
+abbrev pub RefusesBeginning : Configuration → Serving → List Came → List ℕ → SyncError → Type 0
+RefusesBeginning config haves came written e = (e ≡ NoMemory)
+    ⊎ (StopsAtLine IsSumLine config (bytes_came came) e
+    ⊎ ((fault_of_serving haves ≡ Some e) × HasServedPieces haves came written))
+
+-- An error came before the haves, and nothing is written.
+pub record StopsOpening (config : Configuration) (haves : Serving) (due : List ℕ) (came : List Came)
+    (written : List ℕ) (e : SyncError) : Type 0 where
+  pub cause : RefusesBeginning config haves came written e
+  pub idle : due_give haves ≡ []
+  pub none : written ≡ []
+  pub none_due : due ≡ []
+
+-- ---- what follows it
+
+-- What came first is this question, and it is answered by its marks against what was held.
+pub record AnswersQuestion (config : Configuration) (asked : List Came)
+    (said : List ℕ) : Type 0 where
+  pub held : Meaning
+  pub was : (m : Meaning) → IsStill m asked → held ≡ m
+  pub lines : List (List ℕ)
+  pub each : AllByRecursion IsSumLine lines
+  pub all : length lines ≡ part_count
+  pub bytes : bytes_came asked ≡ text_of_lines (written_header config ∷ lines)
+  pub said_is : said ≡ sums_answer config (differences lines (sums_of (state_of held)))
+
+-- No question came: what was given with one of the pieces showed that the first line is another
+-- one.
+pub record OpensPlainly (config : Configuration) (came : List Came) : Type 0 where
+  pub before : List Came
+  pub shows : Came
+  pub others : List Came
+  pub order : came ≡ before ++ shows ∷ others
+  pub piece : List ℕ
+  pub used : ℕ
+  pub bytes : shows.bytes ≡ take used piece
+  pub is : IsPlain config (bytes_came before ++ piece)
+
+-- what came before the haves, and what is said to it: nothing, or a question and its answer
+abbrev pub OpensWith : Configuration → List Came → List Came → List ℕ → Type 0
+OpensWith config asked later said = ((asked ≡ []) × ((said ≡ []) × OpensPlainly config later))
+    ⊎ AnswersQuestion config asked said
+
+-- Haves come, after a question or from the beginning on.
+pub record IsServing (config : Configuration) (haves : Serving) (due : List ℕ) (came : List Came)
+    (written : List ℕ) : Type 0 where
+  pub asked : List Came
+  pub later : List Came
+  pub order : came ≡ asked ++ later
+  pub front : List ℕ
+  pub after : List ℕ
+  pub parts : written ≡ front ++ after
+  pub opens : OpensWith config asked later (front ++ due)
+  pub waits : (due ≡ [] → ⊥) → (after ≡ [])
+  pub serves : HasServedPieces haves later after
+
+-- ---- the machine
+
+abbrev pub ServesFrom : Opening → Option SyncError → Configuration → Serving → List ℕ → List Came
+    → List ℕ → Type 0
+ServesFrom (FirstLine part) None config haves due came written = IsOpening part haves due came
+    written
+ServesFrom (FirstLine part) (Some e) config haves due came written = StopsOpening config haves due
+    came written e
+ServesFrom (Question question) None config haves due came written = IsAsking config question haves
+    due came written
+ServesFrom (Question question) (Some e) config haves due came written = StopsOpening config haves
+    due came written e
+ServesFrom Over fault config haves due came written = (fault ≡ fault_of_serving haves)
+    × IsServing config haves due came written
+
+abbrev pub ServesQuietly : Option SyncError → Configuration → QuietServing → List Came → List ℕ
+    → Type 0
+ServesQuietly fault config s came written = ServesFrom s.opening fault config s.haves (due_marks s)
+    came written
+
+-- These came, of a session of the configuration, and this was written: with what is to be written
+-- next it is all that is answered.
+abbrev pub HasServedQuietly : Configuration → QuietServing → List Came → List ℕ → Type 0
+HasServedQuietly config s came written = ServesQuietly (fault_of_quiet s) config s came written

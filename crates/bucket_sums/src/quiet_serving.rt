@@ -1,0 +1,206 @@
+//! A connection that is served: a question of sums or none, and then haves.
+ghost use Rattle.std.specs.Prelude.{◌≡◌, ◌≤◌, ◌<◌, ◌++◌, ◌∷◌, ◌⊎◌, [], List, ℕ, None, Some};
+ghost use Rattle.std.specs.Prelude.{IfOk, IfErr, OnOk, MatchResult, drop, length, take, vec_len};
+ghost use Rattle.fed_config.specs.Configuration.{Configuration};
+ghost use Rattle.replica_core.specs.Session.{state_of};
+ghost use Rattle.replica_sync.specs.ServedPieces.{Came, came_taken};
+ghost use Rattle.bucket_sums.specs.Keeping.{AreKeptSums};
+ghost use Rattle.bucket_sums.specs.Inside.QuietSteps.{limit_of_opening};
+ghost use Rattle.bucket_sums.specs.Questions.{longest_line};
+
+use crate::first_line::{FirstLine, take_first_line};
+use crate::kept_sums::KeptSums;
+use crate::sums_serving::{LONGEST_LINE, SumsServing};
+use closure_core::Closure;
+use replica_sync::{LinePart, Serving, SyncError};
+use std::alloc::Global;
+
+/// What comes first on a connection.
+#[derive(Drop)]
+pub(crate) enum Opening {
+    /// Its first line has not ended.
+    FirstLine(LinePart),
+    /// It is a question of sums, which has not ended.
+    Question(SumsServing),
+    /// It came, and haves come now.
+    Over,
+}
+
+/// A session in which another replica asks, without the connection: it is given the bytes of the
+/// stream in pieces of any size, and says what is to be written.
+///
+/// If the first line is that of a question of sums, the question is answered with what is held when
+/// that line ends, and haves come after it. Else haves come from the beginning on, and all is as
+/// with a [`Serving`].
+#[derive(Drop)]
+pub struct QuietServing {
+    opening: Opening,
+    // The haves. As long as the first line may be that of a have, it has the same bytes.
+    haves: Serving,
+    // The answer to the question, and how much of it was written.
+    marks: Vec<u8>,
+    written: usize,
+    fault: Option<SyncError>,
+    ghost inside: { written ≤ vec_len marks },
+    ghost limit: { limit_of_opening opening ≡ longest_line },
+}
+
+impl QuietServing {
+    ghost use Rattle.bucket_sums.specs.Quiet.{HasServedQuietly, ServesQuietly, due_marks};
+    ghost use Rattle.bucket_sums.specs.Quiet.{due_quiet, fault_in, fault_of_quiet};
+    ghost use Rattle.replica_core.specs.declared.error.SyncError.TheVariants.{Truncated};
+
+    /// The beginning of a session.
+    pub fn new(alloc: Global) -> QuietServing
+        ensures { (config : Configuration) → HasServedQuietly config result [] [] }
+    {
+        QuietServing {
+            opening: Opening::FirstLine(LinePart::new(alloc, LONGEST_LINE)),
+            haves: Serving::new(alloc),
+            marks: Vec::new(alloc),
+            written: 0,
+            fault: None,
+        }
+    }
+
+    /// Takes the next bytes of the stream, up to the end of the question or of a have at most, and
+    /// returns how many were taken. It takes all of them, unless there is something to be written
+    /// then. The others are to be given again once that is written.
+    ///
+    /// # Errors
+    /// What is due may still be written, and nothing else ever is. Each later call returns the same
+    /// error. It is one of [`Serving::read`]; or, if the first line is that of a question:
+    /// - [`SyncError::ConfigDiffers`]: the line is of another configuration,
+    /// - [`SyncError::VersionDiffers`]: it is of another format,
+    /// - [`SyncError::NotCanonical`]: a line after it is not 64 lower-case hexadecimal digits.
+    pub fn read<C: Closure>(
+        &mut self,
+        alloc: Global,
+        closure: &C,
+        kept: &mut KeptSums,
+        piece: &[u8],
+    ) -> Result<usize, SyncError>
+        ensures serves { (config : Configuration) (came : List Came) (written : List ℕ)
+            → (C.state closure.now).meaning.config ≡ config
+            → AreKeptSums kept.old (state_of (C.state closure.now).meaning)
+            → HasServedQuietly config self.old came written → HasServedQuietly config self.new
+            (came ++ came_taken piece.now (C.state closure.now).meaning result ∷ []) written }
+        ensures kept { AreKeptSums kept.old (state_of (C.state closure.now).meaning)
+            → AreKeptSums kept.new (state_of (C.state closure.now).meaning) }
+        ensures within { IfOk result (λ used. used ≤ length piece.now) }
+        ensures fault { MatchResult result (λ _. fault_of_quiet self.new ≡ None)
+            (λ e. fault_of_quiet self.new ≡ Some e) }
+    {
+        if let Some(why) = self.fault {
+            return Err(why);
+        }
+        if !self.output().is_empty() {
+            return Ok(0);
+        }
+        match self.advance(alloc, closure, kept, piece) {
+            Ok(used) => Ok(used),
+            Err(why) => {
+                self.fault = Some(why);
+                Err(why)
+            }
+        }
+    }
+
+    // Takes the piece.
+    fn advance<C: Closure>(
+        &mut self,
+        alloc: Global,
+        closure: &C,
+        kept: &mut KeptSums,
+        piece: &[u8],
+    ) -> Result<usize, SyncError>
+        requires { due_quiet self.old ≡ [] }
+        ensures serves { (config : Configuration) (came : List Came) (written : List ℕ)
+            → (C.state closure.now).meaning.config ≡ config
+            → AreKeptSums kept.old (state_of (C.state closure.now).meaning)
+            → ServesQuietly None config self.old came written
+            → ServesQuietly (fault_in result) config self.new
+            (came ++ came_taken piece.now (C.state closure.now).meaning result ∷ []) written }
+        ensures kept { AreKeptSums kept.old (state_of (C.state closure.now).meaning)
+            → AreKeptSums kept.new (state_of (C.state closure.now).meaning) }
+        ensures within { IfOk result (λ used. used ≤ length piece.now) }
+        ensures fault { self.new.fault ≡ self.old.fault }
+    {
+        let config = closure.config();
+        match &mut self.opening {
+            Opening::Over => self.haves.read(alloc, closure, piece),
+            Opening::Question(question) => {
+                let used = question.read_lines(alloc, config, piece)?;
+                if question.has_asked() {
+                    let marks = question.answer(alloc, config)?;
+                    self.marks = marks;
+                    self.written = 0;
+                    self.opening = Opening::Over;
+                }
+                Ok(used)
+            }
+            Opening::FirstLine(part) => match take_first_line(part, config, piece)? {
+                FirstLine::Within => self.haves.read(alloc, closure, piece),
+                FirstLine::Sums(used) => {
+                    let own = kept.sums_of(alloc, closure)?;
+                    self.opening = Opening::Question(SumsServing::after_first_line(alloc, own));
+                    self.haves = Serving::new(alloc);
+                    Ok(used)
+                }
+                FirstLine::Haves => {
+                    self.opening = Opening::Over;
+                    self.haves.read(alloc, closure, piece)
+                }
+            },
+        }
+    }
+
+    /// What is to be written next.
+    pub fn output(&self) -> &[u8]
+        ensures { result.now ≡ due_quiet self.now }
+    {
+        if self.written < self.marks.len() {
+            &self.marks[self.written..]
+        } else {
+            self.haves.output()
+        }
+    }
+
+    /// Says that the first `count` bytes of the output were written.
+    pub fn wrote(&mut self, count: usize)
+        requires { count ≤ length (due_quiet self.old) }
+        ensures serves { (config : Configuration) (came : List Came) (written : List ℕ)
+            → HasServedQuietly config self.old came written → HasServedQuietly config self.new came
+            (written ++ take count (due_quiet self.old)) }
+    {
+        if self.written < self.marks.len() {
+            self.written += count;
+        } else {
+            self.haves.wrote(count);
+        }
+    }
+
+    /// Whether the stream may end here: no error was found, and neither a question nor a have is
+    /// begun.
+    ///
+    /// # Errors
+    /// The error that was found; or [`SyncError::Truncated`]: the stream ends within a question or
+    /// a have.
+    pub fn end(&self) -> Result<(), SyncError>
+        ensures whole { OnOk result (fault_of_quiet self.now ≡ None) }
+        ensures refused { IfErr result (λ e. (fault_of_quiet self.now ≡ Some e)
+            ⊎ ((fault_of_quiet self.now ≡ None) × (e ≡ Truncated))) }
+    {
+        if let Some(why) = self.fault {
+            return Err(why);
+        }
+        match &self.opening {
+            Opening::Question(_) => Err(SyncError::Truncated),
+            // An error of the haves is the session's, so here they have none.
+            Opening::FirstLine(_) | Opening::Over => match self.haves.end() {
+                Ok(()) => Ok(()),
+                Err(_) => Err(SyncError::Truncated),
+            },
+        }
+    }
+}
