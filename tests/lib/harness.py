@@ -17,6 +17,8 @@ from importlib.util import module_from_spec, spec_from_loader
 from itertools import count
 from pathlib import Path
 
+from sums import PARTS, answer, marks_between, question, sums_of
+
 TOP = Path(__file__).resolve().parent.parent.parent
 SECONDS = 10
 
@@ -95,7 +97,8 @@ def listener_of_own():
 
 class Peer:
     """The other side of a session over a socket, in a thread: a replica of the state's configuration that holds these
-    receipts. A run whose words have PEER meets it there: it answers a `pull`, and asks a `serve`."""
+    receipts. A run whose words have PEER meets it there: it answers a `pull`, and asks a `serve`, first about sums and then
+    about each bucket."""
 
     def __init__(self, state, receipts, asks):
         self.config = json.loads(state.splitlines()[0])["config"]
@@ -126,19 +129,30 @@ class Peer:
         head = f'{{"bucket":{bucket},"config":"{self.config}","count":{len(lines)},"distrusts":0,"format":2,"of":256}}\n'
         return head.encode() + b"".join(lines)
 
+    def marks(self, lines):
+        """The answer to the sums that come in these lines."""
+        asked = [next(lines) for _ in range(PARTS)]
+        return answer(self.config, marks_between(asked, sums_of(self.receipts)))
+
     def answer(self):
+        """Answers each connection by itself, as a running replica does: a `pull` that continues without sums has a second one
+        before it closes the first."""
         while not self.ended.is_set():
             try:
                 stream, _ = self.listener.accept()
             except OSError:
                 continue
-            with stream, stream.makefile("rb") as lines:
-                stream.settimeout(SECONDS)
-                try:
-                    for bucket, _ in enumerate(lines):
-                        stream.sendall(self.answer_of(bucket))
-                except OSError:
-                    pass
+            threading.Thread(target=self.answer_on, args=(stream,), daemon=True).start()
+
+    def answer_on(self, stream):
+        with stream, stream.makefile("rb") as lines:
+            stream.settimeout(SECONDS)
+            try:
+                for line in lines:
+                    is_have = line.startswith(b'{"bucket":')
+                    stream.sendall(self.answer_of(json.loads(line)["bucket"]) if is_have else self.marks(lines))
+            except (OSError, ValueError, StopIteration):
+                pass
 
     def ask(self):
         while not self.ended.is_set():
@@ -151,7 +165,9 @@ class Peer:
             return
         with stream, stream.makefile("rb") as lines:
             try:
-                for bucket in range(256):
+                stream.sendall(question(self.config, []))
+                marks = [lines.readline() for _ in range(2)]
+                for bucket in range(256 if marks[1] else 0):
                     stream.sendall(self.question(bucket))
                     head = json.loads(lines.readline())
                     for _ in range(head["count"] + head["distrusts"]):

@@ -14,7 +14,7 @@ from report import Document, config_id
 
 
 def config_lines(config):
-    """The lines of a configuration: its digest, and then relationships, domains and seeds, each rising."""
+    """The lines of a configuration: its digest, and then relationships, domains, seeds and floors, each rising."""
     relationships = sorted(config["relationships"], key=lambda r: r["domain"].encode())
     documents = [Document(seed["domain"], seed["bundle"]) for seed in config["seeds"]]
     seeds = {(d.domain.encode(), d.text.encode()): d for d in documents}
@@ -27,6 +27,8 @@ def config_lines(config):
         yield f"domain {domain}"
     for key in sorted(seeds):
         yield f"seed {seeds[key].domain} document {seeds[key].told()}"
+    for domain, sequence in sorted(config.get("floors", {}).items()):
+        yield f"floor {domain} sequence {sequence}"
 
 
 def difference(one, other):

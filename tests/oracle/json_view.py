@@ -52,11 +52,13 @@ def kept_url(url):
 def config_json(given):
     config = given | {"relationships": [r | {"url": kept_url(r["url"])} for r in given["relationships"]]}
     relationships = sorted(config["relationships"], key=lambda r: r["domain"].encode())
+    floors = [{"domain": d, "sequence": n} for d, n in sorted(config.get("floors", {}).items())]
     return printed({
         "config": config_id(config),
         "relationships": [{name: r[name] for name in ("domain", "endpoint", "url")} for r in relationships],
         "domains": domains_of(config),
         "seeds": [{"domain": d.domain, "document": d.id, "sequence": d.sequence} for d in seeds_of(config)],
+        **({"floors": floors} if floors else {}),
     })
 
 

@@ -16,12 +16,17 @@ def compact(value):
     return json.dumps(value, sort_keys=True, separators=(",", ":"), ensure_ascii=False).encode()
 
 
-def digest_of(config):
-    """The digest of the canonical text: relationships rise by domain, and seeds by domain and bundle."""
+def config_text(config):
+    """The canonical text: relationships rise by domain, and seeds by domain and bundle. Floors are there only if there
+    are some."""
     relationships = sorted(config["relationships"], key=lambda r: r["domain"].encode())
     seeds = {(seed["domain"].encode(), compact(seed["bundle"])): seed for seed in config["seeds"]}
-    text = compact({"relationships": relationships, "seeds": [seeds[key] for key in sorted(seeds)]})
-    return hashlib.sha256(text).hexdigest()
+    floors = {"floors": config["floors"]} if config.get("floors") else {}
+    return compact({**floors, "relationships": relationships, "seeds": [seeds[key] for key in sorted(seeds)]})
+
+
+def digest_of(config):
+    return hashlib.sha256(config_text(config)).hexdigest()
 
 
 def trust_domain(spiffe_id):
@@ -35,16 +40,24 @@ def domains_of(config):
     return domains
 
 
-def cause(receipt, endpoints):
+def reaches_floor(config, domain, document):
+    """Whether the document has a sequence number that is not lower than the domain's floor, if that has one."""
+    floor = config.get("floors", {}).get(domain)
+    return floor is None or document.get("spiffe_sequence") is not None and document["spiffe_sequence"] >= floor
+
+
+def cause(receipt, config):
     """Why the receipt does not fit, or None."""
+    endpoints = {r["domain"]: r["endpoint"] for r in config["relationships"]}
     if receipt["domain"] not in endpoints:
         return "unknown domain"
-    return None if endpoints[receipt["domain"]] == receipt["endpoint"] else "wrong endpoint"
+    if endpoints[receipt["domain"]] != receipt["endpoint"]:
+        return "wrong endpoint"
+    return None if reaches_floor(config, receipt["domain"], receipt["doc"]) else "below floor"
 
 
 def migrate(lines, config, records_only):
     """The lines of the new state, and those of what is left out. The old lines are in order already."""
-    endpoints = {r["domain"]: r["endpoint"] for r in config["relationships"]}
     domains = domains_of(config)
     kept, left, counts = [], [], {"count": 0, "distrusts": 0}
     for line in lines[1:-1]:
@@ -54,7 +67,7 @@ def migrate(lines, config, records_only):
         elif records_only:
             continue
         else:
-            kind, name, why = "count", f"receipt {hashlib.sha256(line).hexdigest()}", cause(value, endpoints)
+            kind, name, why = "count", f"receipt {hashlib.sha256(line).hexdigest()}", cause(value, config)
         if why is None:
             kept.append(line)
             counts[kind] += 1

@@ -3,8 +3,8 @@
 what a state file holds.
 
 It is written from the rules alone, with Python's own json and hashlib and with canon.py, and shares nothing with the
-program. It takes a configuration that is well formed, and lines that are receipts which fit it or a state file under it,
-and refuses nothing.
+program. It takes a configuration that is well formed, and lines that are receipts of its domains and endpoints or a state
+file under it. A receipt below its domain's floor is passed over, and nothing else is refused.
 
 usage: report.py CONFIG <RECEIPTS.jsonl
        report.py CONFIG STATE
@@ -60,7 +60,13 @@ def config_id(config):
     seeds = {(s["domain"], canon(s["domain"], s["bundle"]).split(b"\n")[0]) for s in config["seeds"]}
     relationships = sorted(config["relationships"], key=lambda r: r["domain"].encode())
     written = b",".join(b'{"bundle":%s,"domain":"%s"}' % (text, domain.encode()) for domain, text in sorted(seeds))
-    return hashlib.sha256(b'{"relationships":%s,"seeds":[%s]}' % (compact(relationships), written)).hexdigest()
+    floors = b'"floors":%s,' % compact(config["floors"]) if config.get("floors") else b""
+    return hashlib.sha256(b'{%s"relationships":%s,"seeds":[%s]}' % (floors, compact(relationships), written)).hexdigest()
+
+
+def reaches_floor(config, receipt):
+    floor, sequence = config.get("floors", {}).get(receipt["domain"]), receipt["doc"].get("spiffe_sequence")
+    return floor is None or sequence is not None and sequence >= floor
 
 
 def conflict_lines(documents):
@@ -73,7 +79,7 @@ def conflict_lines(documents):
 
 def report(config, lines):
     told = [json.loads(line) for line in set(lines)]
-    receipts = [r for r in told if "doc" in r]
+    receipts = [r for r in told if "doc" in r and reaches_floor(config, r)]
     distrusted = {(r["domain"], r["distrust"]) for r in told if "distrust" in r}
     accepted, pending = accepted_of(config, receipts, distrusted)
     yield f"config {config_id(config)}"
