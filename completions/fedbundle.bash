@@ -28,7 +28,7 @@ _fedbundle() {
         observe) words='--config --state --domain --endpoint --key --wait --verbose --at --help' ;;
         merge) words='--config --state --wait --most-bytes --verbose --at --help' ;;
         migrate) words='--config --state --to --records-only --wait --verbose --at --help' ;;
-        reseed) words='--config --state --allow --wait --verbose --at --help' ;;
+        reseed) words='--config --state --allow --floors --wait --verbose --at --help' ;;
         polls) words='--config --state --now --format --wait --verbose --at --help' ;;
         distrust) words='--config --state --domain --key --public-key --dry-run --new --wait --verbose --at --help' ;;
         serve) words='--config --state --listen --sessions --verbose --help' ;;

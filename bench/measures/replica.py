@@ -1,5 +1,5 @@
-"""Measures a replica that stays: how long its local requests take, how many bundles it acknowledges in a second, and what
-it holds.
+"""Measures a replica that stays: how long its local requests take, how many bundles it acknowledges in a second, what its
+sessions cost if nothing, one receipt or only records are missing, and what it holds.
 
 Each client speaks to the socket itself, one connection for each request, so that no start of a program is in a time. The
 disk is that of the temporary folder. The bundles that are observed list the key of the last one that is held, so any of
@@ -24,6 +24,7 @@ from building import built_program, stop
 from receipts import DOMAIN, ENDPOINT, config_text, lines
 
 LEAST_EVERY = 1
+IDLE_SESSIONS = 20
 
 
 def ask(path, words, text=b""):
@@ -137,6 +138,52 @@ def next_pull(replica):
     stop("no session is reported")
 
 
+def used(process):
+    """The seconds of a processor that it used."""
+    return int(Path(f"/proc/{process.pid}/schedstat").read_text().split()[0]) / 1e9
+
+
+def print_idle(answers, asks, sessions):
+    """What sessions that bring nothing cost both sides, all that the loop does for them included."""
+    next_pull(asks)
+    before = used(answers), used(asks)
+    for _ in range(sessions):
+        line = next_pull(asks)
+        if " new=0 records=0 " not in line or "fault" in line:
+            stop(f"a session was not idle: {line}")
+    after = used(answers), used(asks)
+    told = " and ".join(f"{1e3 * (end - begin) / sessions:.2f}" for begin, end in zip(before, after))
+    print(f"{sessions} idle sessions: {told} ms of a processor each, at the one that answers and the one that asks", flush=True)
+
+
+def print_one(held, path, asks):
+    """A session that brings one receipt."""
+    ask(path, held.words(), held.next_bundle())
+    for _ in range(3):
+        line = next_pull(asks)
+        if " new=1 " in line:
+            print(f"a pull of one receipt: {line}", flush=True)
+            return
+    stop("one receipt was not pulled")
+
+
+RECORDS = 4_096
+
+
+def print_records(held, answers, asks):
+    """A session that brings records, and idle ones after it, at replicas that hold no receipt."""
+    keys = sorted(hashlib.sha256(b"%d" % number).hexdigest() for number in range(RECORDS))
+    lines = "".join(f'{{"distrust":"{key}","domain":"{DOMAIN}"}}\n' for key in keys)
+    head = f'{{"config":"{hashlib.sha256(config_text().encode()).hexdigest()}","format":2}}\n'
+    ask(held.folder / "none.socket", ["merge"], f'{head}{lines}{{"count":0,"distrusts":{RECORDS}}}\n'.encode())
+    for _ in range(3):
+        line = next_pull(asks)
+        if f" records={RECORDS} " in line:
+            break
+    print(f"a pull of {RECORDS} records: {line}", flush=True)
+    print_idle(answers, asks, IDLE_SESSIONS)
+
+
 def main(words):
     count = int(words[0]) if words else 61_440
     requests = int(words[1]) if len(words) > 1 else 1_000
@@ -158,8 +205,17 @@ def main(words):
             print(f"acknowledged a second, {clients:>2} clients: {rate:.0f}", flush=True)
         other, _ = start(program, folder, "other", "--peers", address, "--every", str(LEAST_EVERY))
         first, idle = (next_pull(other) for _ in range(2))
-        print(f"a pull of all: {first}\na pull between equal replicas: {idle}")
+        print(f"a pull of all: {first}\na pull between equal replicas: {idle}", flush=True)
+        print_idle(replica, other, IDLE_SESSIONS)
+        print_one(held, path, other)
         other.kill()
+        address = free_address()
+        none, _ = start(program, folder, "none", "--listen", address, "--every", "86400")
+        asks, _ = start(program, folder, "asks", "--peers", address, "--every", str(LEAST_EVERY))
+        print_records(held, none, asks)
+        for process in none, asks:
+            process.kill()
+            process.wait()
         print(f"most held: {memory(replica, 'VmHWM') / 2**20:.0f} MiB")
         replica.kill()
         replica.wait()

@@ -2,8 +2,9 @@
 here, run in turn; then `pull` from `serve` over loopback, beside plain Rust that does the same.
 
 words: [TURNS [PART..]]   TURNS is how often each program takes each set, of which the least times count; 3 if left
-                          out. The parts are memory, loopback and thousand; all if left out
+                          out. The parts are memory, loopback, quiet and thousand; all if left out
 """
+import hashlib
 import os
 import random
 import shutil
@@ -14,7 +15,7 @@ import threading
 import time
 from pathlib import Path
 
-from building import build_peer, build_with_earlier, built_program, own_rows, run, stop
+from building import build_peer, build_with_earlier, built_program, earlier_programs, own_rows, run, stop
 from receipts import KINDS, SIZES, write_config, write_receipts, write_snapshot
 
 HOST = "127.0.0.1"
@@ -190,8 +191,8 @@ class Relay:
 class Ours:
     """The words of the built program's commands."""
 
-    def __init__(self):
-        self.program = built_program()
+    def __init__(self, program=None):
+        self.program = program or built_program()
 
     def serve(self, config, state, port, sessions):
         words = ["--config", config, "--state", state, "--listen", f"{HOST}:{port}", "--sessions", sessions]
@@ -280,6 +281,56 @@ def print_loopback(programs, folder, turns):
             ), flush=True)
 
 
+# Which of the ids of a store the asker lacks.
+LACKING = {
+    "nothing": lambda ids: set(),
+    "one": lambda ids: {ids[0]},
+    "one a bucket": lambda ids: set({id[0]: id for id in ids}.values()),
+    "a tenth": lambda ids: set(ids[::10]),
+    "all": set,
+}
+
+
+def write_part(folder, full, lacks):
+    """The snapshot without some of its receipts, and how many these are."""
+    first, *lines, _ = full.read_bytes().splitlines(keepends=True)
+    ids = [hashlib.sha256(line[:-1]).digest() for line in lines]
+    without = lacks(ids)
+    kept = [line for line, id in zip(lines, ids) if id not in without]
+    path = folder / "part"
+    path.write_bytes(b"".join([first, *kept, b'{"count":%d,"distrusts":0}\n' % len(kept)]))
+    return path, len(without)
+
+
+QUIET = "{:<7} {:>8} {:<12} {:>7} | {:>7} {:>7} {:>5} {:>7} | {:>9} {:>10} {:>10} {:>10}"
+
+
+def print_quiet(programs, folder, turns):
+    """Ours and the peer's begin with sums; an earlier program may not."""
+    print("\nPulls over loopback by what is missing: the seconds of the whole process that pulls, with its state, and the bytes")
+    print("both ways, of an earlier program too if there is one.")
+    heads = ["s", "plain", "ratio", "before", "asked", "answered", "before", "before"]
+    print(QUIET.format("kind", "receipts", "missing", "", *heads), flush=True)
+    config = write_config(folder)
+    for kind in KINDS:
+        count = SIZES[kind][-1]
+        full = write_snapshot(folder, kind, count)
+        for name, lacks in LACKING.items():
+            mine, missing = write_part(folder, full, lacks)
+            times = [float("inf")] * len(programs)
+            for _ in range(turns):
+                for at, program in enumerate(programs):
+                    took, new, state = pulled(program, config, full, mine, folder)
+                    times[at] = min(times[at], took)
+                    if new != missing or state.read_bytes() != full.read_bytes():
+                        stop(f"{name}: a pull brought {new}")
+            moved = [relayed(program, config, full, mine, folder) for program in [programs[0], *programs[2:]]]
+            took = [f"{times[0]:.2f}", f"{times[1]:.2f}", f"{times[0] / times[1]:.2f}", *(f"{it:.2f}" for it in times[2:])]
+            bytes_moved = [number for asked, answered in moved for number in (len(asked), answered)]
+            rest = [""] * (4 - len(took)), [""] * (4 - len(bytes_moved))
+            print(QUIET.format(kind, count, name, missing, *took, *rest[0], *bytes_moved, *rest[1]), flush=True)
+
+
 def ask(port, questions):
     """One session by hand: the questions are sent while the answers are read. How many bytes were answered."""
     with socket.create_connection((HOST, port)) as stream:
@@ -315,7 +366,7 @@ def print_thousand(ours, folder):
 
 def main(words):
     turns = int(words[0]) if words else 3
-    parts = words[1:] or ["memory", "loopback", "thousand"]
+    parts = words[1:] or ["memory", "loopback", "quiet", "thousand"]
     random.seed(1)
     peer = build_peer("sync")
     print(f"Least times of {turns} runs of each program, in turns.\n")
@@ -327,5 +378,7 @@ def main(words):
             print_sessions(programs, Path(folder), turns)
         if "loopback" in parts:
             print_loopback([Ours(), Peer(peer)], Path(folder), turns)
+        if "quiet" in parts:
+            print_quiet([Ours(), Peer(peer), *map(Ours, earlier_programs())], Path(folder), turns)
         if "thousand" in parts:
             print_thousand(Ours(), Path(folder))

@@ -10,3 +10,4 @@ pub mod replica;
 pub mod session;
 pub mod snapshot;
 pub mod stream;
+pub mod sums;

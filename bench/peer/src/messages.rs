@@ -4,6 +4,7 @@ use crate::line::{write_hex, Rest};
 use crate::receipt::Receipt;
 use crate::replica::{Replica, SyncError};
 use crate::stream::{take_line, write_receipts, write_records, Line, Lines, Wanted};
+use crate::sums::check_head;
 use std::io::{self, BufRead, Write};
 
 pub struct Question {
@@ -32,22 +33,32 @@ pub fn write_question(out: &mut impl Write, replica: &Replica, bucket: u8) -> io
     out.write_all(b"],\"of\":256}\n")
 }
 
-/// `None` where no question follows.
-pub fn read_question(lines: &mut Lines<impl BufRead>, replica: &Replica) -> Result<Option<Question>, SyncError> {
+/// What a peer asks.
+pub enum Asked {
+    /// The first line of sums; these follow.
+    Sums,
+    Ids(Question),
+    Nothing,
+}
+
+pub fn read_question(lines: &mut Lines<impl BufRead>, replica: &Replica) -> Result<Asked, SyncError> {
     let text = match lines.next_line()? {
         Line::Text(text) => text,
         Line::TooLong => return Err(SyncError::BadHeader),
         Line::Cut => return Err(SyncError::Truncated),
-        Line::End => return Ok(None),
+        Line::End => return Ok(Asked::Nothing),
     };
+    if text.starts_with(b"{\"config\"") {
+        return check_head(text, replica).map(|()| Asked::Sums);
+    }
     let (bucket, config, format, ids, buckets) = split_question(text).ok_or(SyncError::BadHeader)?;
     check(replica, &config, format, buckets)?;
-    Ok(Some(Question { bucket: bucket as u8, ids }))
+    Ok(Asked::Ids(Question { bucket: bucket as u8, ids }))
 }
 
-type Asked = (u64, Id, u64, Vec<Id>, u64);
+type Split = (u64, Id, u64, Vec<Id>, u64);
 
-fn split_question(text: &[u8]) -> Option<Asked> {
+fn split_question(text: &[u8]) -> Option<Split> {
     let mut rest = Rest(std::str::from_utf8(text).ok()?);
     rest.after("{\"bucket\":")?;
     let bucket = rest.number()?;

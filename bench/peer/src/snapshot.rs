@@ -63,7 +63,8 @@ fn read_first(replica: &Replica, text: &[u8]) -> Result<u64, SyncError> {
     }
 }
 
-fn split_first(text: &[u8]) -> Option<([u8; 32], u64)> {
+/// The configuration's digest and the format in the first line of a snapshot or of sums.
+pub(crate) fn split_first(text: &[u8]) -> Option<([u8; 32], u64)> {
     let mut rest = Rest(std::str::from_utf8(text).ok()?);
     rest.after("{\"config\":\"")?;
     let config = rest.digest()?;

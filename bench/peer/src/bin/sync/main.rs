@@ -11,6 +11,7 @@ use peer::messages::write_question;
 use peer::replica::Replica;
 use peer::session::{pull, serve_one};
 use peer::snapshot::{read_snapshot, write_snapshot};
+use peer::sums::KeptSums;
 use std::error::Error;
 use std::io::Read;
 use std::time::Instant;
@@ -79,7 +80,7 @@ fn sessions(input: &str, count: usize) -> Answer {
     let asked = started.elapsed().as_nanos();
     let mut answers = Vec::with_capacity(input.len() + 40_000);
     let started = Instant::now();
-    let served = serve_one(&answerer, questions.as_slice(), &mut answers)?;
+    let served = serve_one(&answerer, &mut KeptSums::default(), questions.as_slice(), &mut answers)?;
     let answered = started.elapsed().as_nanos();
     let mut again = Vec::with_capacity(70 * count + 40_000);
     let started = Instant::now();

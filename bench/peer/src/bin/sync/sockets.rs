@@ -1,8 +1,9 @@
 //! The program's commands that speak over sockets: state files, a lock, sessions one after another.
 use crate::Answer;
 use peer::replica::Replica;
-use peer::session::{pull, serve_one};
+use peer::session::{pull_quietly, serve_one};
 use peer::snapshot::{read_snapshot, write_snapshot};
+use peer::sums::KeptSums;
 use std::error::Error;
 use std::fs::{self, File};
 use std::io::{BufReader, BufWriter, ErrorKind, Write};
@@ -16,10 +17,11 @@ const PATIENCE: Duration = Duration::from_secs(30);
 pub fn serve(config: &str, state: &str, address: &str, sessions: u64) -> Answer {
     let replica = load(config, state)?;
     let listener = TcpListener::bind(address)?;
+    let mut kept = KeptSums::default();
     for _ in 0..sessions {
         let (stream, _) = listener.accept()?;
         let (source, mut sink) = ends(stream)?;
-        if let Err(why) = serve_one(&replica, source, &mut sink) {
+        if let Err(why) = serve_one(&replica, &mut kept, source, &mut sink) {
             eprintln!("{why}");
         }
     }
@@ -30,7 +32,7 @@ pub fn serve(config: &str, state: &str, address: &str, sessions: u64) -> Answer 
 pub fn pull_from(config: &str, state: &str, address: &str) -> Answer {
     let mut replica = load(config, state)?;
     let (source, mut sink) = ends(TcpStream::connect(address)?)?;
-    let taken = pull(&mut replica, source, &mut sink)?;
+    let taken = pull_quietly(&mut replica, &mut KeptSums::default(), source, &mut sink)?;
     save(&replica, state)?;
     println!("new {taken}");
     Ok(())
