@@ -135,8 +135,7 @@ class Peer:
         return answer(self.config, marks_between(asked, sums_of(self.receipts)))
 
     def answer(self):
-        """Answers each connection by itself, as a running replica does: a `pull` that continues without sums has a second one
-        before it closes the first."""
+        """Answers each connection by itself, as a running replica does."""
         while not self.ended.is_set():
             try:
                 stream, _ = self.listener.accept()

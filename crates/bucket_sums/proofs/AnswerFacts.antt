@@ -15,7 +15,7 @@ use Rattle.bucket_sums.specs.declared.answer_part.AnswerPart.{AnswerPart}
 use Rattle.bucket_sums.specs.declared.sums_asking.SumsAsking.{SumsAsking}
 use Rattle.bucket_sums.proofs.QuestionFacts.{came_more, ended_text}
 
--- A line that ended and is refused is a fault of the answer.
+-- A line that ended and is refused is an error of the answer.
 pub answer_fails : (config : Configuration) (asking : SumsAsking) (piece : List ℕ) (used : ℕ) (text : List ℕ) (e : SyncError)
     → EndsLine (piece_run longest_line (kept_part asking.part) piece) used text
     → RefusesLineOfAnswer config asking.answer text e → FailsAnswer config asking piece e
@@ -65,7 +65,7 @@ answer_more config old new piece came used none steps part =
           ends.ends.parts ends.takes none part)
     ]
 
--- A fault of the piece is one of all that came.
+-- An error of the piece is one of all that came.
 pub answer_stops : (config : Configuration) (old : SumsAsking) (piece came : List ℕ) (e : SyncError) → FailsAnswer config old piece e
     → came ≡ text_of_lines (headed config old.answer.is_begun []) ++ kept_part old.part → StopsAtLine IsLineOfMarks config (came ++ piece) e
 answer_stops config old piece came e fails part = record {

@@ -14,7 +14,7 @@ differences-more (first ∷ lines) line [] few = absurd (omega (arith, few))
 differences-more (first ∷ lines) line (sum ∷ sums) few =
     ap (λ marks. differs first sum ∷ marks) (differences-more lines line sums (omega (arith, few)))
 
--- There is a mark for each line, where there are not more of them than sums.
+-- There is a mark for each line, if there are not more lines than sums.
 pub length-differences : (lines sums : List (List ℕ)) → length lines ≤ length sums → length (differences lines sums) ≡ length lines
 length-differences [] sums few = refl
 length-differences (line ∷ lines) [] few = absurd (omega (arith, few))
@@ -25,7 +25,7 @@ not-false : (b : Bool) → not b ≡ false → b ≡ true
 not-false true e = refl
 not-false false e = absurd (let no : true ≡ false = e in cc)
 
--- Where nothing differs the line is that of the sum.
+-- If nothing differs, the line is that of the sum.
 same-line : (line sum : List ℕ) → differs line sum ≡ false → line ≡ encode_lower sum
 same-line line sum none = (bytes_eq-Decides line (encode_lower sum)).0 (not-false (bytes_eq line (encode_lower sum)) none)
 

@@ -57,7 +57,7 @@ more-sums state bucket old new sum all few n is h =
     ∙ ap (λ x. map bytes_of old ++ x ∷ rest) is
     ∙ ap (λ xs. map bytes_of old ++ xs) (sym (from-one state bucket (256 - bucket) (256 - (bucket + 1)) (omega (arith, few)))) ∙ h
 
--- There are as many sums as buckets.
+-- There is one sum for each bucket.
 pub length-bucket_sums : (state : State) (first count : ℕ) → length (bucket_sums_from state first count) ≡ count
 unfolding bucket_sums_from
 length-bucket_sums state first zero = refl

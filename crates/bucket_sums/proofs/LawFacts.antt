@@ -18,7 +18,7 @@ use Rattle.bucket_sums.proofs.HeldFacts.{length-bucket_sums}
 
 -- ---- digests
 
--- A digest has four bytes for each of its words.
+-- A digest has four bytes for each part of 32 bits.
 length-digest : (h : List ℕ) (n : ℕ) → length (digest_bytes h n) ≡ 4 * n
 unfolding digest_bytes
 length-digest h zero = refl
@@ -43,7 +43,7 @@ one_digest : (a b : List ℕ) → IsDigest a → IsDigest b → encode_lower a �
 one_digest a b is also e =
     ap bytes_in (sym (decode_sized-encode_lower a is) ∙ ap (λ (t : List ℕ). decode_sized t 32) e ∙ decode_sized-encode_lower b also)
 
--- ---- where a sum stands
+-- ---- the place of a sum
 
 -- The place of an image is that of its item.
 place-map : (sums : List (List ℕ)) (place : ℕ) → place < length sums
@@ -52,7 +52,7 @@ place-map [] place within = absurd (omega (arith, within))
 place-map (sum ∷ sums) zero within = refl
 place-map (sum ∷ sums) (suc place) within = place-map sums place (omega (arith, within))
 
--- The sum of a bucket stands in its place.
+-- The sum of a bucket is in its place.
 place-sum : (state : State) (first count place : ℕ) → place < count
     → get_or (bucket_sums_from state first count) place [] ≡ bucket_sum state (first + place)
 unfolding bucket_sums_from
@@ -84,7 +84,7 @@ length-marks one other =
     let images = length-map (sums_of one) encode_lower in
     length-differences (map encode_lower (sums_of one)) (sums_of other) (omega (arith, own, theirs, images)) ∙ images ∙ own
 
--- The sum of a bucket stands after that of the records.
+-- The sum of a bucket is after that of the records.
 place-bucket : (state : State) (bucket : ℕ) → bucket < 256 → get_or (sums_of state) (suc bucket) [] ≡ bucket_sum state bucket
 place-bucket state bucket within =
     let e : 0 + bucket ≡ bucket = omega arith in

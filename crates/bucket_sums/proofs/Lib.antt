@@ -14,3 +14,5 @@ mod ReadFacts
 mod MarkedFacts
 mod QuietLawFacts
 mod BothSidesFacts
+mod QuietRunFacts
+mod SizeFacts

@@ -12,7 +12,7 @@ use Rattle.bucket_sums.specs.Lines.{IsMarksLine, is_part_mark, mark_of, part_cou
 abbrev pub marked : ℕ → Bool
 marked b = nat_eq b 49
 
--- Marks are written with their two bytes alone.
+-- Marks are written only with their two bytes.
 marks-pass : (marks : List Bool) → AllByRecursion (λ b. is_part_mark b ≡ true) (map mark_of marks)
 marks-pass [] = tt
 marks-pass (true ∷ marks) = (refl, marks-pass marks)
@@ -31,7 +31,7 @@ all-back : (text : List ℕ) → AllByRecursion (λ b. is_part_mark b ≡ true) 
 all-back [] h = refl
 all-back (b ∷ text) h = ap (λ x. x ∷ map mark_of (map marked text)) (back b h.0) ∙ ap (λ t. b ∷ t) (all-back text h.1)
 
--- Where a byte is no mark's the text is no line of marks.
+-- If a byte is not that of a mark, the text is not a line of marks.
 pub no_marks : (text : List ℕ) → (AllPass is_part_mark text → ⊥) → (marks : List Bool) → IsMarksLine text marks → ⊥
 no_marks text none marks is =
     none (subst (AllPass is_part_mark) (sym is.spelt) (All-from_recursion (λ b. is_part_mark b ≡ true) (map mark_of marks) (marks-pass marks)))

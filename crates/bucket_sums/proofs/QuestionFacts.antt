@@ -9,7 +9,7 @@ use Rattle.fed_config.specs.Configuration.{Configuration}
 use Rattle.replica_core.specs.declared.error.SyncError.{SyncError}
 use Rattle.replica_texts.specs.Snapshots.{ended, text_of_lines}
 use Rattle.replica_texts.specs.SoleLines.{written_header}
-use Rattle.replica_sync.specs.Pieces.{EndsLine, GoesOn, kept_part, piece_run}
+use Rattle.replica_sync.specs.Pieces.{EndsLine, Continues, kept_part, piece_run}
 use Rattle.bucket_sums.specs.Lines.{IsSumLine, differences, differs, part_count}
 use Rattle.bucket_sums.specs.Questions.{RefusesText, StopsAtLine, headed, longest_line}
 use Rattle.bucket_sums.specs.Serving.{HasQuestionPart}
@@ -24,14 +24,14 @@ pub no_fault : (f : Option SyncError) → ((why : SyncError) → f ≡ Some why 
 no_fault None none = refl
 no_fault (Some why) none = absurd (none why refl)
 
--- Where a line ended, what was kept and the piece are its text, a line feed and the rest.
+-- If a line ended, what was kept and the piece are its text, a line feed and the rest.
 pub ended_text : (old piece text : List ℕ) (used : ℕ) → old ++ take used piece ≡ text ++ (10 ∷ []) → old ++ piece ≡ text ++ (10 ∷ drop used piece)
 ended_text old piece text used parts =
     ap (λ (l : List ℕ). old ++ l) (sym (take-append-drop used piece))
     ∙ sym (append_assoc old (take used piece) (drop used piece))
     ∙ ap (λ (l : List ℕ). l ++ drop used piece) parts ∙ append_assoc text (10 ∷ []) (drop used piece)
 
--- A line that ended and is refused is a fault of the question.
+-- A line that ended and is refused is an error of the question.
 pub line_fails : (config : Configuration) (serving : SumsServing) (piece : List ℕ) (used : ℕ) (text : List ℕ) (e : SyncError)
     → EndsLine (piece_run longest_line (kept_part serving.part) piece) used text
     → RefusesQuestionLine config serving.question text e → FailsQuestion config serving piece e
@@ -57,10 +57,10 @@ pub lines_more : (lines : List (List ℕ)) (line : List ℕ) → text_of_lines (
 lines_more lines line = flat_map-append ended lines (line ∷ []) ∙ ap (λ (l : List ℕ). text_of_lines lines ++ l) (append-nil (ended line))
 
 -- No line ended: a longer beginning of the next one is kept.
-goes_on : (config : Configuration) (question : QuestionLines) (kept piece new came : List ℕ) (used : ℕ)
-    → (length question.sums.marks.items ≡ part_count → ⊥) → GoesOn (piece_run longest_line kept piece) new → used ≡ length piece
+continues : (config : Configuration) (question : QuestionLines) (kept piece new came : List ℕ) (used : ℕ)
+    → (length question.sums.marks.items ≡ part_count → ⊥) → Continues (piece_run longest_line kept piece) new → used ≡ length piece
     → HasQuestionPart config question kept came → HasQuestionPart config question new (came ++ take used piece)
-goes_on config question kept piece new came used more goes all part = record {
+continues config question kept piece new came used more goes all part = record {
   lines = part.lines;
   each = part.each;
   few = part.few;
@@ -147,14 +147,14 @@ part_more config old new piece came used all more steps part =
     elim steps [
       | inl goes ↦
           subst (λ q. HasQuestionPart config q (kept_part new.part) (came ++ take used piece)) (sym goes.same)
-          (goes_on config old.question (kept_part old.part) piece (kept_part new.part) came used more goes.goes goes.all part)
+          (continues config old.question (kept_part old.part) piece (kept_part new.part) came used more goes.goes goes.all part)
       | inr ends ↦
           subst (λ k. HasQuestionPart config new.question k (came ++ take used piece)) (sym ends.kept)
           (takes_line old.question.is_begun config old.question new.question (kept_part old.part) piece ends.text came used refl
           ends.ends.parts ends.takes all more part)
     ]
 
--- A fault of the piece is one of all that came.
+-- An error of the piece is one of all that came.
 pub part_stops : (config : Configuration) (old : SumsServing) (piece came : List ℕ) (e : SyncError)
     → length (own_sums old.question.sums) ≡ part_count → FailsQuestion config old piece e
     → HasQuestionPart config old.question (kept_part old.part) came → StopsAtLine IsSumLine config (came ++ piece) e

@@ -11,7 +11,7 @@ use Rattle.replica_core.specs.declared.error.SyncError.{SyncError}
 use Rattle.replica_core.specs.declared.error.SyncError.TheVariants.{BadHeader, NoMemory}
 use Rattle.replica_texts.specs.Snapshots.{ended, text_of_lines}
 use Rattle.replica_texts.specs.SoleLines.{RefusesSoleHeader, written_header}
-use Rattle.replica_sync.specs.Pieces.{EndsLine, GoesOn, IsOverlong, kept_part, piece_run}
+use Rattle.replica_sync.specs.Pieces.{EndsLine, Continues, IsOverlong, kept_part, piece_run}
 use Rattle.replica_sync.specs.ServedPieces.{Came, HasServedPieces, IsStill, bytes_came, came_taken, due_give, fault_of_serving, kept_have}
 use Rattle.replica_sync.specs.declared.line_part.LinePart.{LinePart}
 use Rattle.replica_sync.specs.declared.piece_serving.Serving.{Serving}
@@ -159,7 +159,7 @@ haves_wait haves m came written sound serves =
     served_nothing (fault_of_serving haves) came (kept_have haves) [] (written ++ due_give haves) m sound refl
     (kept_plain haves.part.has_ended haves.part.line.items haves.part.unbroken) serves
 
--- If nothing is taken, the session is where it was.
+-- If nothing is taken, the session is unchanged.
 pub quiet_nothing : (o : Opening) (f : Option SyncError) (config : Configuration) (haves : Serving) (due : List ℕ) (m : Meaning) (came : List Came)
     (written : List ℕ) → f ≡ None → ServesFrom o f config haves due came written
     → ServesFrom o f config haves due (came ++ record { bytes = []; held = m } ∷ []) written
@@ -249,7 +249,7 @@ opened_haves config then due m came old piece r written idle none bytes plain se
 
 -- The first line continues.
 pub opens_on : (old : List ℕ) (part : LinePart) (then : Serving) (due : List ℕ) (m : Meaning) (came : List Came) (piece : List ℕ) (used : ℕ)
-    (written : List ℕ) → GoesOn (piece_run longest_line old piece) (kept_part part) → used ≡ length piece → bytes_came came ≡ old
+    (written : List ℕ) → Continues (piece_run longest_line old piece) (kept_part part) → used ≡ length piece → bytes_came came ≡ old
     → written ≡ [] → due ≡ [] → fault_of_serving then ≡ None → due_give then ≡ []
     → HasServedPieces then (came ++ record { bytes = take used piece; held = m } ∷ []) written
     → IsOpening part then due (came ++ record { bytes = take used piece; held = m } ∷ []) written

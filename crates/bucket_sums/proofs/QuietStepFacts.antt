@@ -13,7 +13,7 @@ use Rattle.replica_core.specs.declared.error.SyncError.{SyncError}
 use Rattle.replica_core.specs.declared.error.SyncError.TheVariants.{NoMemory}
 use Rattle.replica_texts.specs.Snapshots.{ended}
 use Rattle.replica_texts.specs.SoleLines.{written_header}
-use Rattle.replica_sync.specs.Pieces.{EndsLine, GoesOn, kept_part, piece_run}
+use Rattle.replica_sync.specs.Pieces.{EndsLine, Continues, kept_part, piece_run}
 use Rattle.replica_sync.specs.ServedPieces.{Came, HasServedPieces, came_taken, due_give, fault_of_serving}
 use Rattle.replica_sync.specs.declared.line_part.LinePart.{LinePart}
 use Rattle.replica_sync.specs.declared.piece_serving.Serving.{Serving}
@@ -58,14 +58,14 @@ by_recursion_back : (xs ys : List ℕ) → AllByRecursion (λ b. b ≢ 10) (xs +
 by_recursion_back [] ys h = h
 by_recursion_back (x ∷ xs) ys h = by_recursion_back xs ys h.1
 
-plain_piece : (old piece new : List ℕ) → GoesOn (piece_run longest_line old piece) new → HasNoFeed piece
+plain_piece : (old piece new : List ℕ) → Continues (piece_run longest_line old piece) new → HasNoFeed piece
 plain_piece old piece new goes =
     All-from_recursion (λ b. b ≢ 10) piece
     (by_recursion_back old piece (recursion_from_All (λ b. b ≢ 10) (old ++ piece) (subst HasNoFeed goes.kept goes.plain)))
 
 -- The haves take what comes within the first line.
 pub opening_within : (config : Configuration) (part next : LinePart) (haves then : Serving) (due : List ℕ) (m : Meaning) (came : List Came)
-    (piece : List ℕ) (r : Result ℕ SyncError) (written : List ℕ) → GoesOn (piece_run longest_line (kept_part part) piece) (kept_part next)
+    (piece : List ℕ) (r : Result ℕ SyncError) (written : List ℕ) → Continues (piece_run longest_line (kept_part part) piece) (kept_part next)
     → ((before : List Came) (after : List ℕ) → HasServedPieces haves before after → HasServedPieces then (before ++ came_taken piece m r ∷ []) after)
     → (due_give haves ≡ [] → HasNoFeed piece → IfOk r (λ used. used ≡ length piece))
     → (due_give haves ≡ [] → HasNoFeed piece → due_give then ≡ [])

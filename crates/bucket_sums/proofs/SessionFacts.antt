@@ -23,7 +23,7 @@ use Rattle.bucket_sums.specs.Sums.{HasDistinctSums, marks_between}
 use Rattle.bucket_sums.specs.Sessions.{after_answer, after_answers, at_least_one, buckets_asked, marked_from}
 use Rattle.bucket_sums.proofs.LawFacts.{length-marks, same_ids, same_records}
 
--- ---- orders that tell apart
+-- ---- orders that distinguish
 
 exact-receipts : IsExactOn IsReceipt receipt_cmp
 exact-receipts a b p q e = one_receipt a b p q e
@@ -162,7 +162,7 @@ module _ (k : Meaning) (valid : IsMeaning k) where
         | inr theirs ↦ inr theirs
       ]
 
-  -- Of a bucket that is asked about each receipt is held, or one with its id.
+  -- Each receipt of a bucket that is asked about is held, or one with its id.
   brings : (state : State) (buckets : List ℕ) (r : Receipt) → IsFormed state → Has k.held r → Has buckets (bucket_of_id r)
       → HasId (after_answers k state buckets) r
   brings state [] r own has none = absurd none
@@ -174,7 +174,7 @@ module _ (k : Meaning) (valid : IsMeaning k) where
         | inr later ↦ brings (after_answer k state b) buckets r (formed-answer state b own) has later
       ]
 
-  -- Where one bucket at least is asked about, each record is held.
+  -- If one bucket at least is asked about, each record is held.
   brings-records : (state : State) (buckets : List ℕ) (x : Distrust) → IsFormed state → 0 < length buckets → Has k.records x
       → Has (after_answers k state buckets).records x
   brings-records state [] x own some has = absurd (omega (arith, some))
@@ -214,7 +214,7 @@ one_at_least : (buckets : List ℕ) → 0 < length (at_least_one true buckets)
 one_at_least [] = omega arith
 one_at_least (b ∷ buckets) = omega arith
 
--- Where the records are marked something is asked about.
+-- If the records are marked, something is asked about.
 some-asked : (marks : List Bool) → 0 < length marks → get_or marks 0 true ≡ true → 0 < length (buckets_asked marks)
 some-asked [] within set = absurd (omega (arith, within))
 some-asked (false ∷ marks) within set = absurd (let no : false ≡ true = set in cc)

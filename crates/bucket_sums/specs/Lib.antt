@@ -9,4 +9,5 @@ pub mod Serving
 pub mod Asking
 pub mod Quiet
 pub mod QuietPulls
+pub mod QuietRuns
 pub mod Inside

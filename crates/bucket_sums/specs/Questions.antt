@@ -32,15 +32,15 @@ longest_line = 512
 abbrev pub headed : Configuration → Bool → List (List ℕ) → List (List ℕ)
 headed config begun lines = if begun then written_header config ∷ lines else []
 
--- the fault of a line that is too long, where so many lines came after the first
+-- the error of a line that is too long, if this many lines came after the first
 abbrev pub long_fault : Bool → ℕ → SyncError
 long_fault begun lines = if begun then NotCanonical (lines + 2) else BadHeader
 
--- a line where one of its kind is wanted, and it is none
+-- a line that should be of a kind, and is not
 abbrev pub IsOtherLine : (List ℕ → Type 0) → ℕ → List ℕ → SyncError → Type 0
 IsOtherLine IsLine lines text e = (e ≡ NotCanonical (lines + 2)) × (IsLine text → ⊥)
 
--- what is wrong with the line that is next, where so many lines came after the first
+-- what is wrong with the line that is next, if this many lines came after the first
 abbrev pub RefusesLineOf : (List ℕ → Type 0) → Configuration → Bool → ℕ → List ℕ → SyncError
     → Type 0
 RefusesLineOf IsLine config false lines text e = RefusesSoleHeader config text e
@@ -61,14 +61,14 @@ pub record IsPlain (config : Configuration) (bytes : List ℕ) : Type 0 where
   pub cause : (longest_line < length text)
       ⊎ (HasFeedNext rest × RefusesSoleHeader config text BadHeader)
 
--- why the text is not read: memory ran out, or it is too long, or it is a whole line with a fault
+-- why the text is not read: memory ran out, or it is too long, or it is a whole line with an error
 abbrev pub RefusesText : (List ℕ → Type 0) → Configuration → Bool → ℕ → List ℕ → List ℕ
     → SyncError → Type 0
 RefusesText IsLine config begun lines text rest e = (e ≡ NoMemory)
     ⊎ (((longest_line < length text) × (e ≡ long_fault begun lines))
     ⊎ (HasFeedNext rest × RefusesLineOf IsLine config begun lines text e))
 
--- Of what came these lines are read, the text after them has this fault, and `rest` is what
+-- These lines of what came are read, the text after them has this error, and `rest` is what
 -- follows.
 pub record StopsAtLine (IsLine : List ℕ → Type 0) (config : Configuration) (came : List ℕ)
     (e : SyncError) : Type 0 where

@@ -1,6 +1,6 @@
 -- A connection that is served: a question of sums or none, and then haves.
 use Rattle.std.specs.Prelude.{◌≡◌, ℕ, ◌⊎◌, List, [], ◌∷◌, ◌++◌, length, take, drop, Option, None}
-use Rattle.std.specs.Prelude.{Some, Result, Ok, Err}
+use Rattle.std.specs.Prelude.{Some, Result, Ok, Err, ⊤}
 use Rattle.std.specs.List.{AllByRecursion}
 use Rattle.fed_config.specs.Configuration.{Configuration}
 use Rattle.receipt_core.specs.Acceptance.{Meaning}
@@ -11,7 +11,7 @@ use Rattle.replica_texts.specs.Snapshots.{text_of_lines}
 use Rattle.replica_texts.specs.SoleLines.{written_header}
 use Rattle.replica_sync.specs.Pieces.{kept_part}
 use Rattle.replica_sync.specs.ServedPieces.{Came, HasServedPieces, IsStill, bytes_came, due_give}
-use Rattle.replica_sync.specs.ServedPieces.{fault_of_serving}
+use Rattle.replica_sync.specs.ServedPieces.{fault_of_serving, kept_have}
 use Rattle.replica_sync.specs.declared.line_part.LinePart.{LinePart}
 use Rattle.replica_sync.specs.declared.piece_serving.Serving.{Serving}
 use Rattle.bucket_sums.specs.Lines.{IsSumLine, differences, part_count}
@@ -37,6 +37,16 @@ first_due (b ∷ bytes) later = b ∷ bytes
 -- what is to be written next
 abbrev pub due_quiet : QuietServing → List ℕ
 due_quiet s = first_due (due_marks s) (due_give s.haves)
+
+-- the question is not being asked
+abbrev pub HasNoQuestion : Opening → Type 0
+HasNoQuestion (FirstLine part) = ⊤
+HasNoQuestion (Question question) = ⊥
+HasNoQuestion Over = ⊤
+
+-- neither a question nor a have is begun
+abbrev pub IsBetween : QuietServing → Type 0
+IsBetween s = HasNoQuestion s.opening × (kept_have s.haves ≡ [])
 
 abbrev pub fault_of_quiet : QuietServing → Option SyncError
 fault_of_quiet s = s.fault

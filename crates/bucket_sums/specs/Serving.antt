@@ -22,7 +22,7 @@ marks_made serving = serving.question.sums.marks.items
 abbrev pub fault_of_question : SumsServing → Option SyncError
 fault_of_question serving = serving.fault
 
--- the question came to its end
+-- the question has ended
 abbrev pub HasAsked : SumsServing → Type 0
 HasAsked serving = length (marks_made serving) ≡ part_count
 
@@ -48,7 +48,7 @@ abbrev pub HasTakenQuestion : Configuration → SumsServing → List ℕ → Typ
 HasTakenQuestion config serving came = TakesQuestion (fault_of_question serving) config
     serving.question (kept_part serving.part) came
 
--- the bytes that a call took; or all, if there is a fault among them
+-- the bytes that a call took; or all of the piece, if it failed
 abbrev pub bytes_taken : List ℕ → Result ℕ SyncError → List ℕ
 bytes_taken piece (Ok used) = take used piece
 bytes_taken piece (Err e) = piece

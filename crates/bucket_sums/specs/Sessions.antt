@@ -4,13 +4,13 @@ use Rattle.receipt_core.specs.Acceptance.{Meaning}
 use Rattle.replica_core.specs.State.{State, joined, meaning_of_state}
 use Rattle.replica_core.specs.Session.{give_of, have_of}
 
--- the buckets that are marked, where the first mark is that of this one
+-- the buckets that are marked, if the first mark is that of this one
 abbrev pub marked_from : ℕ → List Bool → List ℕ
 marked_from first [] = []
 marked_from first (true ∷ marks) = first ∷ marked_from (first + 1) marks
 marked_from first (false ∷ marks) = marked_from (first + 1) marks
 
--- one bucket at least where the records are marked: each answer has all records
+-- one bucket at least, if the records are marked: each answer has all records
 abbrev pub at_least_one : Bool → List ℕ → List ℕ
 at_least_one false buckets = buckets
 at_least_one true [] = 0 ∷ []

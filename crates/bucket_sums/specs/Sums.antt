@@ -18,7 +18,7 @@ bucket_sum state bucket = sha256 (ids_text (ids_held state bucket))
 abbrev pub records_sum : State → List ℕ
 records_sum state = sha256 (flat_map record_text state.records)
 
--- the sums of so many buckets, from this one on
+-- the sums of this many buckets, from this one on
 unfoldable pub bucket_sums_from : State → ℕ → ℕ → List (List ℕ)
 bucket_sums_from state first zero = []
 bucket_sums_from state first (suc more) = bucket_sum state first
@@ -28,7 +28,7 @@ bucket_sums_from state first (suc more) = bucket_sum state first
 abbrev pub sums_of : State → List (List ℕ)
 sums_of state = records_sum state ∷ bucket_sums_from state 0 256
 
--- Of what both hold no two lists of ids have one SHA-256, and no two lists of records.
+-- No two lists of ids of these states have one SHA-256, and no two lists of records.
 pub record HasDistinctSums (one other : State) : Type 0 where
   pub ids : (bucket : ℕ) → bucket < 256 → bucket_sum one bucket ≡ bucket_sum other bucket
       → ids_held one bucket ≡ ids_held other bucket

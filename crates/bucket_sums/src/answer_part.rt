@@ -79,7 +79,7 @@ impl AnswerPart {
         }
     }
 
-    /// The fault of the next line where it is too long.
+    /// The error of the next line if it is too long.
     pub(crate) fn overlong(&self) -> SyncError
         ensures { result ≡ long_fault self.now.is_begun 0 }
     {

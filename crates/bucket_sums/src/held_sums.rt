@@ -17,8 +17,8 @@ use spiffe_name::TrustDomain;
 use std::alloc::{AllocError, Global};
 
 /// The sums of what the closure holds: a SHA-256 over the lines of its records of distrust, and
-/// one for each bucket over the ids of its receipts, in order. Of an
-/// [`ExchangeClosure`](trust_closure::ExchangeClosure) no receipt's id is computed for it.
+/// one for each bucket over the ids of its receipts, in order. For an
+/// [`ExchangeClosure`](trust_closure::ExchangeClosure) no receipt's id is computed.
 ///
 /// # Errors
 /// Memory ran out.

@@ -18,9 +18,11 @@ ghost use Rattle.replica_sync.specs.Serving.{ServesAll};
 ghost use Rattle.replica_sync.specs.SessionRun.{known_run};
 ghost use Rattle.replica_sync.specs.declared.piece_pulling.Pulling.{Pulling};
 ghost use Rattle.replica_sync.specs.declared.piece_serving.Serving.{Serving};
+ghost use Rattle.replica_texts.specs.SoleLines.{written_header};
 ghost use Rattle.bucket_sums.specs.Keeping.{AreKeptSums, HasGrown};
 ghost use Rattle.bucket_sums.specs.declared.kept_sums.KeptSums.{KeptSums};
 ghost use Rattle.bucket_sums.specs.Lines.{part_count};
+ghost use Rattle.bucket_sums.specs.Questions.{sums_answer};
 ghost use Rattle.bucket_sums.specs.Quiet.{AnswersQuestion};
 ghost use Rattle.bucket_sums.specs.QuietPulls.{AsksMarked};
 ghost use Rattle.bucket_sums.specs.Sessions.{after_answers, buckets_asked};
@@ -28,9 +30,9 @@ ghost use Rattle.bucket_sums.specs.Sums.{HasDistinctSums, ids_text, marks_betwee
 
 /// What is not marked is the same at both.
 ///
-/// - `ids`: where no two lists of ids have one SHA-256, both hold the same ids of a bucket that is
+/// - `ids`: if no two lists of ids have one SHA-256, both hold the same ids of a bucket that is
 ///   not marked.
-/// - `records`: where no two lists of records have one SHA-256, both hold the same records if these
+/// - `records`: if no two lists of records have one SHA-256, both hold the same records when these
 ///   are not marked.
 /// - `apart`: two lists of ids have two texts.
 pub fn comparison()
@@ -44,7 +46,7 @@ pub fn comparison()
         → AllByRecursion IsDigest others → ids_text ids ≡ ids_text others → ids ≡ others }
 {}
 
-/// Where no two receipts that both hold have one id, no two lists of their ids have one SHA-256,
+/// If no two receipts that both hold have one id, no two lists of their ids have one SHA-256,
 /// and no two lists of their records, a session that begins with sums brings what a session about
 /// all buckets brings: what the asker holds then is what both held together, and nothing else. It
 /// asks about the buckets that are marked; or about one, if only the records are marked.
@@ -114,6 +116,17 @@ pub fn asked_buckets()
         → length (buckets_asked marks) ≤ 256 }
     ensures each { (marks : List Bool) → length marks ≡ part_count
         → AllByRecursion (λ b. b < 256) (buckets_asked marks) }
+{}
+
+/// What a question of sums and its answer cost, whatever peer makes them. One that is taken whole
+/// has this many bytes: its first line, which a snapshot has too, and its line feed; then 257 lines
+/// of 64 digits in a question, and one line of 257 marks in an answer.
+pub fn message_sizes()
+    ensures question { (config : Configuration) (asked : List Came) (said : List ℕ)
+        → AnswersQuestion config asked said
+        → length (bytes_came asked) ≡ length (written_header config) + 16706 }
+    ensures answer { (config : Configuration) (marks : List Bool) → length marks ≡ part_count
+        → length (sums_answer config marks) ≡ length (written_header config) + 259 }
 {}
 
 /// Sums that are kept are those of something that is held, also when that has grown. So whoever

@@ -89,7 +89,7 @@ impl Marks {
     }
 
     /// Reads the line of marks, without its line feed: 257 bytes, `1` for a part that differs and
-    /// `0` for one that does not. `None` where it is no such line.
+    /// `0` for one that does not. `None` if it is not such a line.
     ///
     /// # Errors
     /// Memory ran out.

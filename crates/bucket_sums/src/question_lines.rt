@@ -92,7 +92,7 @@ impl QuestionLines {
         self.sums.count() as u64 + 2
     }
 
-    /// The fault of the next line where it is too long.
+    /// The error of the next line if it is too long.
     pub(crate) fn overlong(&self) -> SyncError
         ensures { result ≡ long_fault self.now.is_begun (length (marks_so_far self.now.sums)) }
     {

@@ -216,7 +216,7 @@ impl QuietPulling {
 
     /// Whether sums were asked, and no byte of an answer came. If the other side ends the
     /// connection then, it does not know sums: an earlier release refuses the question, and writes
-    /// nothing.
+    /// nothing. After an error of [`QuietPulling::read_lines`] it says nothing.
     pub fn is_unanswered(&self) -> bool
         ensures { (start : Meaning) (came : List PulledPiece) (written : List ℕ)
             → HasPulledQuietly self.now start came written → fault_of_asked self.now ≡ None

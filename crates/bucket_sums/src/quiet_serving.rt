@@ -47,7 +47,8 @@ pub struct QuietServing {
 
 impl QuietServing {
     ghost use Rattle.bucket_sums.specs.Quiet.{HasServedQuietly, ServesQuietly, due_marks};
-    ghost use Rattle.bucket_sums.specs.Quiet.{due_quiet, fault_in, fault_of_quiet};
+    ghost use Rattle.bucket_sums.specs.Quiet.{IsBetween, due_quiet, fault_in, fault_of_quiet};
+    ghost use Rattle.replica_sync.specs.ServedPieces.{fault_of_serving};
     ghost use Rattle.replica_core.specs.declared.error.SyncError.TheVariants.{Truncated};
 
     /// The beginning of a session.
@@ -187,9 +188,10 @@ impl QuietServing {
     /// The error that was found; or [`SyncError::Truncated`]: the stream ends within a question or
     /// a have.
     pub fn end(&self) -> Result<(), SyncError>
-        ensures whole { OnOk result (fault_of_quiet self.now ≡ None) }
+        ensures whole { OnOk result ((fault_of_quiet self.now ≡ None) × IsBetween self.now) }
         ensures refused { IfErr result (λ e. (fault_of_quiet self.now ≡ Some e)
-            ⊎ ((fault_of_quiet self.now ≡ None) × (e ≡ Truncated))) }
+            ⊎ ((fault_of_quiet self.now ≡ None) × (e ≡ Truncated)
+            × (fault_of_serving self.now.haves ≡ None → IsBetween self.now → ⊥))) }
     {
         if let Some(why) = self.fault {
             return Err(why);

@@ -60,7 +60,7 @@ impl SumsAsking {
     /// were taken. After the answer's last line it takes none.
     ///
     /// # Errors
-    /// Each later call returns the same fault. Of these the first that holds:
+    /// Each later call returns the same error. The first of these that holds:
     /// - [`SyncError::BadHeader`]: the first line is not one of a snapshot, or has
     ///   more than 512 bytes,
     /// - [`SyncError::ConfigDiffers`]: it is of another configuration,
@@ -105,7 +105,7 @@ impl SumsAsking {
         }
     }
 
-    /// Which parts differ. `None` before the answer came to its end.
+    /// Which parts differ. `None` before the answer has ended.
     pub fn marks(&self) -> Option<&Marks>
         ensures { MatchOption result (marks_answered self.now ≡ None)
             (λ m. marks_answered self.now ≡ Some m.now) }
@@ -122,17 +122,17 @@ impl SumsAsking {
         self.answer.is_unbegun() && self.part.is_empty()
     }
 
-    // Whether the answer is still to come to its end.
+    // Whether the answer has not ended yet.
     fn is_waiting(&self) -> bool
         ensures { IsTrue result ↔ (marks_answered self.now ≡ None) }
     {
         self.marks().is_none()
     }
 
-    /// Whether the stream may end here: the answer came to its end.
+    /// Whether the stream may end here: the answer has ended.
     ///
     /// # Errors
-    /// The fault that was found; or [`SyncError::Truncated`]: the stream ends before that.
+    /// The error that was found; or [`SyncError::Truncated`]: the stream ends before that.
     pub fn end(&self) -> Result<(), SyncError>
         ensures whole { OnOk result ((fault_of_answer self.now ≡ None)
             × (marks_answered self.now ≡ None → ⊥)) }

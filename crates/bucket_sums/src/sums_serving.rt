@@ -65,7 +65,7 @@ impl SumsServing {
     /// were taken. After the question's last line it takes none.
     ///
     /// # Errors
-    /// Each later call returns the same fault. Of these the first that holds:
+    /// Each later call returns the same error. The first of these that holds:
     /// - [`SyncError::BadHeader`]: the first line is not one of a snapshot, or has
     ///   more than 512 bytes,
     /// - [`SyncError::ConfigDiffers`]: it is of another configuration,
@@ -146,7 +146,7 @@ impl SumsServing {
         }
     }
 
-    /// Whether the question came to its end. What follows it is not read.
+    /// Whether the question has ended. What follows it is not read.
     pub fn has_asked(&self) -> bool
         ensures asked { IsTrue result ↔ HasAsked self.now }
         ensures all { length (own_sums_of self.now) ≡ part_count }
@@ -171,10 +171,10 @@ impl SumsServing {
         Ok(text)
     }
 
-    /// Whether the stream may end here: the question came to its end.
+    /// Whether the stream may end here: the question has ended.
     ///
     /// # Errors
-    /// The fault that was found; or [`SyncError::Truncated`]: the stream ends before that.
+    /// The error that was found; or [`SyncError::Truncated`]: the stream ends before that.
     pub fn end(&self) -> Result<(), SyncError>
         ensures whole { OnOk result ((fault_of_question self.now ≡ None) × HasAsked self.now) }
         ensures refused { IfErr result (λ e. (fault_of_question self.now ≡ Some e)

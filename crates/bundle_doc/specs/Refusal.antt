@@ -40,7 +40,7 @@ pub record RefusesJson (bytes : List ℕ) (e : DocError) : Type 0 where
   pub json : IsJson bytes tree
   pub cause : RefusesTree tree e
 
--- the same of bytes; memory is needed for the tree of all that are within the limit
+-- the same for bytes; memory is needed for the tree of all that are within the limit
 abbrev pub RefusesBytes : List ℕ → DocError → Type 0
 RefusesBytes bytes TooLong = document_limit < length bytes
 RefusesBytes bytes NotJson = (length bytes ≤ document_limit)

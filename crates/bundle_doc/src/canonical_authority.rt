@@ -190,8 +190,8 @@ fn split_plain(text: &str) -> (&str, &str)
     }
 }
 
-/// The place of the first byte that no JSON string has as itself. Unless an escape comes before,
-/// that is a quotation mark, and many bytes are tested for one together.
+/// The place of the first byte that no JSON string has as itself. It is a quotation mark unless an
+/// escape comes before, and many bytes are tested for one together.
 fn first_stop(text: &[u8]) -> Option<usize>
     ensures { MatchOption result (AllPass is_unescaped text.now)
         (FirstFails is_unescaped text.now) }

@@ -156,7 +156,7 @@ impl Document {
     /// - [`DocError::NoKeys`]: it has no member `keys` that is an array,
     /// - [`DocError::BadSequence`]: `spiffe_sequence` is not as above, for example -1, 1.0 or a
     ///   text,
-    /// - [`DocError::BadRefreshHint`]: the same of `spiffe_refresh_hint`,
+    /// - [`DocError::BadRefreshHint`]: the same for `spiffe_refresh_hint`,
     /// - [`DocError::CanonicalTooLong`]: the canonical text would have more than
     ///   [`MAX_DOCUMENT_BYTES`] bytes. This is not expected of a value read from a text within that
     ///   limit, but no clause says so.

@@ -9,7 +9,7 @@ const PLACES: usize = 4_096;
 // An odd number without a pattern in its bits, whose products spread over their upper bits.
 const SPREAD: u64 = 0x9e37_79b9_7f4a_7c15;
 
-/// Places for values that came before. There are none until something is to be kept.
+/// Places for values that came before. There is no place until something is to be kept.
 #[derive(Drop)]
 pub(crate) struct Places<T> {
     places: Vec<Place<T>>,

@@ -286,7 +286,7 @@ same_parts m (x ∷ xs) (y ∷ ys) names p q =
     λ i. record { domain = name i; clashes = clashes i } ∷ rest i
 
 -- all conflicts of a replica are one list, as `laws::one_view` says
-pub one_told : (m : Meaning) (cs ds : List ReportedConflict) → AreAllConflicts m cs → AreAllConflicts m ds → cs ≡ ds
-one_told m cs ds p q =
+pub one_stated : (m : Meaning) (cs ds : List ReportedConflict) → AreAllConflicts m cs → AreAllConflicts m ds → cs ≡ ds
+one_stated m cs ds p q =
     let parts : p.parts ≡ q.parts = same_parts m p.parts q.parts (one_domains m.config _ _ p.domains q.domains) p.each q.each in
     p.are ∙ ap report_all parts ∙ sym q.are

@@ -68,7 +68,7 @@ one_current m domain ds (Some d) (Some e) list p q =
     ap Some (only_one document_cmp ds d e list.rising (list.complete d p.accepted) (list.complete e q.accepted)
     (p.greatest e q.accepted) (q.greatest d p.accepted))
 
--- if all that was accepted is accepted, the current document is no lower than it was
+-- if all that was accepted is accepted, the current document is not lower than it was
 pub no_lower : (old new : Meaning) (domain : List ℕ) (before after : Option Bundle)
     → ((p : Pair) → IsMember old p → IsMember new p) → IsCurrent old domain before → IsCurrent new domain after
     → IsNoLower before after

@@ -52,14 +52,14 @@ module _ (m : Meaning) (waiting : List Receipt) (trusted : AreTrusted m waiting)
 
 module _ (m : Meaning) (waiting : List Receipt) (valid : IsMeaning m) (trusted : AreTrusted m waiting)
     (strides : List Stride) (stand : AreStrides m.config.seeds waiting strides) (p : Pair) where
-  -- the chain leads to the document from the step at the place or, if there is none, from a
+  -- the chain leads to the document from the step at the place or, if there is no place, from a
   -- configured document
   abbrev IsLeft : Option ℕ → List Receipt → Type 0
   IsLeft None chain = LeadsTo m p chain
   IsLeft (Some place) chain = (s : Stride) → slice_get strides place ≡ Some s
       → AllByRecursion (Contains m.held) chain × Leads m.config m.records (pair_of s.receipt) chain p
 
-  -- the chain to the step at a place has n receipts, and there are none if no step is
+  -- the chain to the step at a place has n receipts, and n is 0 if there is no step
   abbrev length_of : Option ℕ → ℕ → Type 0
   length_of None n = n ≡ 0
   length_of (Some place) n = (s : Stride) → slice_get strides place ≡ Some s → s.length ≡ n
@@ -94,12 +94,12 @@ module _ (m : Meaning) (waiting : List Receipt) (valid : IsMeaning m) (trusted :
   way_back (Some place) [] chain is left = absurd is
   way_back (Some place) (r ∷ back) chain is left =
       let s = is.0 in
-      let next : IsLeft s.before (s.receipt ∷ chain) = led s s.before chain (stand.waits place s is.1) (stand.stands place s is.1) (left s is.1) in
+      let next : IsLeft s.before (s.receipt ∷ chain) = led s s.before chain (stand.waits place s is.1) (stand.placed place s is.1) (left s is.1) in
       subst (λ xs. LeadsTo m p (xs ++ chain)) (sym (reverse-append (r ∷ []) back))
       (subst (LeadsTo m p) (sym (append_assoc (reverse back) (r ∷ []) chain))
       (way_back s.before back (r ∷ chain) is.3 (subst (λ x. IsLeft s.before (x ∷ chain)) is.2 next)))
 
-  -- as many receipts lead back from a step as its chain has
+  -- the number of receipts that lead back from a step is its chain's length
   pub length_back : (at : Option ℕ) (back : List Receipt) → IsBackFrom strides at back → length_of at (length back)
   length_back None [] is = refl
   length_back None (r ∷ back) is = absurd is
@@ -107,7 +107,7 @@ module _ (m : Meaning) (waiting : List Receipt) (valid : IsMeaning m) (trusted :
   length_back (Some place) (r ∷ back) is = λ t at.
       let s = is.0 in
       let same : s.length ≡ t.length = ap (λ (x : Stride). x.length) (same_Some s t (sym is.1 ∙ at)) in
-      omega (arith, same, longer s s.before (length back) (stand.stands place s is.1) (length_back s.before back is.3))
+      omega (arith, same, longer s s.before (length back) (stand.placed place s is.1) (length_back s.before back is.3))
     where
       longer : (s : Stride) (before : Option ℕ) (n : ℕ) → IsStride m.config.seeds strides s before → length_of before n → s.length ≡ n + 1
       longer s None n h e = omega (arith, e, h.first)

@@ -243,7 +243,7 @@ pub observation_made : (m : Meaning) (domain bytes : List ℕ) (verdict : Verdic
 observation_made m domain bytes verdict id document r e is read reaches =
     subst (IsObservation m (fetched_as domain bytes verdict)) (sym e) (observation m domain bytes verdict id document is read reaches)
 
--- where the document is below the floor, the observation is refused for that
+-- if the document is below the floor, the observation is refused for that
 pub too_low : (m : Meaning) (config : Configuration) (domain bytes : List ℕ) (verdict : Verdict) (id : DocId) (document : Bundle)
     → IsVoucher m domain verdict id → IsDocument bytes document → config ≡ m.config → MissesFloor config domain document
     → RefusesObservation m (fetched_as domain bytes verdict) (Take BelowFloor)

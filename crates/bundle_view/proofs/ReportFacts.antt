@@ -110,10 +110,10 @@ lines_more f xs k x low is o n e =
     ∙ ap (λ ys. o ++ flat_map f ys) (sym (next_at xs k x low is))
 
 -- the same for lines of what items mean
-pub told_more : {X Y : Type 0} (v : X → Y) (f : Y → List ℕ) (xs : List X) (k : ℕ) (x : X) → k < length xs
+pub stated_more : {X Y : Type 0} (v : X → Y) (f : Y → List ℕ) (xs : List X) (k : ℕ) (x : X) → k < length xs
     → x ≡ get_or xs k x → (o n : List ℕ) → n ≡ o ++ f (v x)
     → n ++ flat_map f (map v (drop (k + 1) xs)) ≡ o ++ flat_map f (map v (drop k xs))
-told_more v f xs k x low is o n e =
+stated_more v f xs k x low is o n e =
     ap (λ z. z ++ flat_map f (map v (drop (k + 1) xs))) e
     ∙ append_assoc o (f (v x)) (flat_map f (map v (drop (k + 1) xs)))
     ∙ ap (λ ys. o ++ flat_map f (map v ys)) (sym (next_at xs k x low is))
@@ -142,12 +142,12 @@ pub section_added : (m : Meaning) (domain : List ℕ) (documents : List Bundle) 
     → u ≡ z ++ flat_map conflict_line found → v ≡ u ++ flat_map reported_distrust_line (records_of domain m.records) → AddsSection m domain o v
 section_added m domain documents current none found o x y z u v list is_current empty adds p q r a b =
     let s : Section = record { domain = domain; current = current; accepted = documents; conflicts = adds.clashes } in
-    let told_all : found ≡ map (reported_conflict domain) adds.clashes = adds.now ∙ ap (λ t. t ++ map (reported_conflict domain) adds.clashes) empty in
+    let stated_all : found ≡ map (reported_conflict domain) adds.clashes = adds.now ∙ ap (λ t. t ++ map (reported_conflict domain) adds.clashes) empty in
     record {
       section = s;
       domain_is = refl;
       is = record { current = is_current; accepted = list; conflicts = conflicts_of m domain documents adds.clashes list adds.are };
-      now = section_made m.records s o x y z u v p q r (a ∙ ap (λ t. z ++ flat_map conflict_line t) told_all) b;
+      now = section_made m.records s o x y z u v p q r (a ∙ ap (λ t. z ++ flat_map conflict_line t) stated_all) b;
     }
 
 -- after the head no section is written

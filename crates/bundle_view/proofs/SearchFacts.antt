@@ -79,7 +79,7 @@ more-HasStride old new r n k kept l h =
           omega (arith, l, h.short);
     }
 
--- what was followed stays so with more steps
+-- what was followed is still followed with more steps
 pub more-AreFollowed : (waiting : List Receipt) (old new : List Stride) (offers : List Triple) (n : ℕ)
     → ((i : ℕ) (s : Stride) → slice_get old i ≡ Some s → slice_get new i ≡ Some s) → AreFollowed waiting old offers n
     → AreFollowed waiting new offers n
@@ -336,7 +336,7 @@ module _ (waiting : List Receipt) (offer : Triple) (before : Option ℕ) (most :
       ]
     ]
 
-    -- a flag that was raised stays so
+    -- a flag that was raised is still raised
     kept_raised : (k : ℕ) (r : Receipt) → slice_get waiting k ≡ Some r → is_raised flags k ≡ true → is_raised visited k ≡ true
     kept_raised k r at raised = elim (cases_lt k start) [
       | inl a ↦ g.same k (inl a) ∙ raised

@@ -31,13 +31,13 @@ rank_decides keys more hint = refl
 greater_rank : (keys more : List Authority) → document_cmp (document keys (Some 1) None) (document more None None) ≡ Greater
 greater_rank keys more = refl
 
--- ---- a current document is no lower than another if it is the same or greater
+-- ---- a current document is not lower than another if it is the same or greater
 
 -- nothing is lower than no document
 no_lower_than_none : (later : Option Bundle) → IsNoLower None later
 no_lower_than_none later = tt
 
--- a greater sequence number is no lower
+-- a greater sequence number is not lower
 greater_is_no_lower : (keys more : List Authority) → IsNoLower (Some (document keys (Some 1) None)) (Some (document more (Some 2) None))
 greater_is_no_lower keys more h = cc
 

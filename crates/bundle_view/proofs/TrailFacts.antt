@@ -41,8 +41,8 @@ more_strides : (seeds : List Seed) (waiting : List Receipt) (offers : List Tripl
     → ((s : Stride) → IsAddedStep waiting offers before most s → IsStride seeds new s before) → AreStrides seeds waiting new
 more_strides seeds waiting offers before most old new are adds led = record {
   waits = λ i s at. elim (adds.each i s at) [ inl there ↦ are.waits i s there | inr is ↦ is.waits ];
-  stands = λ i s at. elim (adds.each i s at) [
-    | inl there ↦ kept_stride seeds old new s s.before adds.kept (are.stands i s there)
+  placed = λ i s at. elim (adds.each i s at) [
+    | inl there ↦ kept_stride seeds old new s s.before adds.kept (are.placed i s there)
     | inr is ↦ subst (IsStride seeds new s) (sym is.led) (led s is)
   ];
 }
@@ -54,7 +54,7 @@ pub begun_none : (waiting : List Receipt) (visited : List Bool) (strides : List 
     → AreVisited waiting visited strides 1 → IsSearchBegun [] waiting visited strides
 begun_none waiting visited strides e v = record {
   visits = v;
-  stand = record { waits = λ i s at. absurd (none i s at); stands = λ i s at. absurd (none i s at) };
+  stand = record { waits = λ i s at. absurd (none i s at); placed = λ i s at. absurd (none i s at) };
   started = λ s has. absurd (contains_none s has);
 }
   where
@@ -69,7 +69,7 @@ pub begun_more : (seeds : List Seed) (x : Seed) (waiting : List Receipt) (flags 
 begun_more seeds x waiting flags visited old new b f = record {
   visits = f.visits;
   stand = more_strides (seeds ++ x ∷ []) waiting (offers_of (pair_of_seed x)) None 1 old new
-      record { waits = b.stand.waits; stands = λ i s at. more_seeds seeds x old s s.before (b.stand.stands i s at) }
+      record { waits = b.stand.waits; placed = λ i s at. more_seeds seeds x old s s.before (b.stand.placed i s at) }
       f.adds
       (λ s is. record { seed = x; configured = Contains-append_right seeds (x ∷ []) x (contains_first x []); offers = is.offered; first = is.long });
   started = λ s has. elim (Contains-push_cases seeds x s has) [
@@ -80,14 +80,14 @@ begun_more seeds x waiting flags visited old new b f = record {
 
 -- ---- from the steps
 
--- The search has come to the place.
+-- The search has reached the place.
 pub record IsAt (seeds : List Seed) (waiting : List Receipt) (p : Pair) (visited : List Bool) (strides : List Stride) (place : ℕ) : Type 0 where
   pub searched : IsSearched seeds waiting strides p place
   pub visits : (s : Stride) → slice_get strides place ≡ Some s → AreVisited waiting visited strides (s.length + 1)
   pub within : place ≤ length strides
   pub few : length strides ≤ length waiting
 
--- there are at most as many steps as receipts, since each raises a flag
+-- there are not more steps than receipts, since each raises a flag
 few_strides : (waiting : List Receipt) (visited : List Bool) (strides : List Stride) (most : ℕ)
     → AreVisited waiting visited strides most → length strides ≤ length waiting
 few_strides waiting visited strides most v = omega (arith, v.marks.count, v.marks.size, count_by-le-length (λ flag. flag) visited)
@@ -160,7 +160,7 @@ abbrev pub IsWithin : List Stride → Option ℕ → Type 0
 IsWithin strides None = Unit {0}
 IsWithin strides (Some place) = place < length strides
 
--- how many receipts the chain to the step at a place has, or 0 if there is none
+-- how many receipts the chain to the step at a place has, or 0 if there is no step
 abbrev pub length_from : List Stride → ℕ → ℕ
 length_from [] place = 0
 length_from (s ∷ strides) zero = s.length
@@ -179,7 +179,7 @@ length_at (t ∷ strides) (suc place) s at = length_at strides place s at
 
 -- each step has a chain that is longer by one than that of the step before it
 pub linked : (seeds : List Seed) (waiting : List Receipt) (strides : List Stride) → AreStrides seeds waiting strides → AreLinkedSteps strides
-linked seeds waiting strides are place s at = by_before s.before (are.stands place s at)
+linked seeds waiting strides are place s at = by_before s.before (are.placed place s at)
   where
     by_before : (before : Option ℕ) → IsStride seeds strides s before → IsShorter strides s before
     by_before None h = tt
@@ -190,7 +190,7 @@ pub before_within : (strides : List Stride) (s : Stride) (before : Option ℕ) �
 before_within strides s None h = tt
 before_within strides s (Some place) h = slice_get_within strides place h.0 h.1
 
--- at most as many receipts are left at the step before as the step's chain has
+-- not more receipts are left at the step before than the step's chain has
 fewer_left : (strides : List Stride) (s : Stride) (before : Option ℕ) → IsShorter strides s before → left_from strides before ≤ s.length
 fewer_left strides s None h = omega arith
 fewer_left strides s (Some place) h = omega (arith, h.2, length_at strides place h.0 h.1)

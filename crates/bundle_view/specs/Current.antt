@@ -16,7 +16,7 @@ abbrev pub IsCurrent : Meaning → List ℕ → Option Bundle → Type 0
 IsCurrent m domain None = (d : Bundle) → IsMember m (document_of domain d) → ⊥
 IsCurrent m domain (Some d) = IsGreatest m domain d
 
--- If there was a current document there is one, and it is no lower.
+-- If there was a current document there is one, and it is not lower.
 abbrev pub IsNoLower : Option Bundle → Option Bundle → Type 0
 IsNoLower None later = Unit {0}
 IsNoLower (Some d) None = ⊥

@@ -33,7 +33,7 @@ pub fn one_view()
 }
 
 /// As receipts are added, and no record of distrust, the current document of a domain never gets
-/// lower: it stays, or a greater one takes its place.
+/// lower: it is unchanged, or a greater one takes its place.
 pub fn current_grows()
     ensures { (old new : Meaning) → old.config ≡ new.config → old.records ≡ new.records
         → ((r : Receipt) → Contains old.held r → Contains new.held r) → (domain : List ℕ)

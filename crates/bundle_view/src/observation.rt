@@ -173,7 +173,7 @@ fn keep<C: Closure>(closure: &mut C, receipt: Receipt) -> Result<(), ObserveErro
     ensures valid { IsMeaning (C.state closure.old).meaning }
     ensures configuration { IsConfiguration (C.state closure.old).meaning.config }
 {
-    // What these lend tells the form of the receipt and of the configuration.
+    // What these lend shows the form of the receipt and of the configuration.
     let _domain = receipt.domain();
     let _domains = closure.config().domains();
     match closure.take(receipt) {

@@ -44,7 +44,7 @@ impl<'a> Model for Step<'a> {
 }
 
 /// Goes from the configured documents on until a step is of the document, and returns the place of
-/// that step, or none if there is none.
+/// that step, or none if there is no such step.
 pub(crate) fn search<'a>(
     alloc: Global,
     seeds: &[Seed],

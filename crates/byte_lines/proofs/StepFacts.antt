@@ -5,7 +5,7 @@ use Rattle.std.proofs.Common.{append_assoc, take-append-drop, length-append, len
 use Rattle.std.proofs.lemmas.List.Elements.{All-append, All-take}
 use Rattle.std.specs.Io.KnownBytes.{Keeps, Consumes, IsAtEnd, prepend_known}
 use Rattle.byte_lines.specs.Lines.{HasNoFeed, HasLine, HasNoLine, HasMore}
-use Rattle.byte_lines.specs.Inside.Ahead.{AtFeed}
+use Rattle.byte_lines.specs.Ahead.{AtFeed}
 use Rattle.byte_lines.specs.Streams.{StreamState}
 use Rattle.byte_lines.specs.Inside.Steps.{TakesFound, SkipsText}
 use Rattle.byte_lines.specs.declared.line_buf.Found.{Found}
@@ -91,7 +91,7 @@ passed : (s : Option (List ℕ)) (bytes ahead : List ℕ) (a : Option (List ℕ)
     → (p : SkipsText bytes ahead) → Consumes s (prepend_known ahead a) p.text
 passed s bytes ahead a keeps p = Consumes-from_kept s (prepend_known bytes a) (prepend_known ahead a) p.text keeps (Consumes-front bytes p.text ahead a p.parts)
 
--- a line that goes on after a passed text is a line of the stream that is too long
+-- a line that continues after a passed text is a line of the stream that is too long
 pub long_line : (s : Option (List ℕ)) (bytes ahead rest left : List ℕ) (a b : Option (List ℕ))
     → Keeps s (prepend_known bytes a) → SkipsText bytes ahead → left ≡ rest
     → ((text : List ℕ) × HasLine (prepend_known ahead a) (prepend_known rest b) text)

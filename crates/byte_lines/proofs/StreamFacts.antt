@@ -11,7 +11,7 @@ use Rattle.std.specs.Io.KnownBytes.{Keeps, Consumes, prepend_known}
 use Rattle.std.proofs.KnownBytes.{Consumes-trans, Consumes-kept}
 use Rattle.memchr.specs.Find.{IsFirstByte, Nowhere, Passes, is_byte}
 use Rattle.byte_lines.specs.Lines.{Lines, lines_of, with_byte, with_line, HasNoFeed, HasLine, HasNoLine, HasMore}
-use Rattle.byte_lines.specs.Inside.Ahead.{AtFeed, IsFeed}
+use Rattle.byte_lines.specs.Ahead.{AtFeed, IsFeed}
 
 -- ---- the lines of bytes
 

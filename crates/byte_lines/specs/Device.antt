@@ -1,5 +1,5 @@
--- What the calls over a source or a sink say of its bytes, if the device tells them. `None` is for
--- a device that cannot tell, and says nothing.
+-- What the calls over a source or a sink say of its bytes, if the device can report them. `None` is
+-- for a device that cannot, and says nothing.
 use Rattle.std.specs.Prelude.{◌≡◌, ℕ, List, take, drop, Bool, true, false, ⊤, None, Some, Option}
 use Rattle.std.specs.Prelude.{Ok, Err, Result}
 use Rattle.std.specs.Io.KnownBytes.{Appends}

@@ -1,3 +1,2 @@
--- What a line buffer reads ahead, and what its steps do
-pub mod Ahead
+-- What the steps of a line buffer do
 pub mod Steps

@@ -1,7 +1,8 @@
--- What a caller cites is in the first seven; `Inside` has what a line buffer does step by step.
+-- What a caller cites, and in `Inside` what a line buffer does step by step
 pub mod Limits
 pub mod Device
 pub mod Lines
+pub mod Ahead
 pub mod Streams
 pub mod Loan
 pub mod Adaptor

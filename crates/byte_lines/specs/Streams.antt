@@ -1,10 +1,10 @@
 -- What a call over a `LineBuf` says of the stream: the bytes that the buffer keeps, followed by
--- those that the source still has. If the source cannot tell them, nothing is said of the stream.
+-- those that the source still has. If the source cannot report them, nothing is said of the stream.
 use Rattle.std.specs.Prelude.{◌≡◌, ℕ, ◌+◌, ◌<◌, ◌≤◌, ◌++◌, List, [], length, if◌then◌else◌, Option}
 use Rattle.std.specs.Prelude.{Result, IfOk, IsErrOf}
 use Rattle.std.specs.Io.KnownBytes.{Keeps, IsAtEnd, prepend_known}
 use Rattle.byte_lines.specs.Lines.{HasLine, HasNoLine, HasMore}
-use Rattle.byte_lines.specs.Inside.Ahead.{ahead_of}
+use Rattle.byte_lines.specs.Ahead.{ahead_of}
 use Rattle.byte_lines.specs.declared.line_buf.LineBuf.{LineBuf}
 use Rattle.byte_lines.specs.declared.line_buf.Line.{Line}
 use Rattle.byte_lines.specs.declared.line_buf.Line.TheVariants.{Text, TooLong, Cut, End}
@@ -32,7 +32,7 @@ FindsLine old new End = IsAtEnd old × IsAtEnd new
 
 -- a buffer and its source together
 pub record StreamState : Type 0 where
-  -- the stream, if the source can tell its bytes
+  -- the stream, if the source can report its bytes
   pub bytes : Option (List ℕ)
   -- the stream has at most this many bytes
   pub bound : ℕ

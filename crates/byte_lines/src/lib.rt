@@ -6,8 +6,8 @@
 //! 2^64 bytes to give. So a call over devices can promise when it reports a failure, and that it
 //! ends.
 //!
-//! A `LineBuf` gives the lines of a source, and `read_up_to` its first bytes. `push_number` and
-//! `push_digits` write numbers and digests for lines that are made.
+//! A `LineBuf` gives the lines of a source, a `ReadAhead` its bytes in pieces, and `read_up_to` its
+//! first bytes. `push_number` and `push_digits` write numbers and digests for lines that are made.
 #![tactic(auto)]
 
 mod digits;
@@ -33,5 +33,6 @@ pub use fuse_source::FuseSource;
 pub use line_buf::{Line, LineBuf};
 pub use mem_sink::MemSink;
 pub use mem_source::MemSource;
+pub use read_ahead::ReadAhead;
 pub use sink::{Sink, write_all};
 pub use source::{Source, read_up_to};

@@ -44,7 +44,7 @@ pub struct LineBuf {
 
 impl LineBuf {
     ghost use Rattle.byte_lines.specs.Loan.{IsGivenBack};
-    ghost use Rattle.byte_lines.specs.Inside.Ahead.{ahead_of, chunk_room};
+    ghost use Rattle.byte_lines.specs.Ahead.{ahead_of, chunk_room};
     ghost use Rattle.byte_lines.specs.Streams.{kept, state_of_stream, TakesLine};
     ghost use Rattle.byte_lines.specs.Inside.Steps.{TakesFound, GathersLine};
 

@@ -1,4 +1,4 @@
-//! A chunk of the bytes of a source, read ahead of the lines in them.
+//! A chunk of the bytes of a source, read ahead of what is made of them.
 ghost use Rattle.std.specs.Prelude.{◌≡◌, ◌+◌, ◌<◌, ◌≤◌, ◌||◌, ℕ, List, true, false, [], length};
 ghost use Rattle.std.specs.Prelude.{take, drop, is_err, IfOk, OnOk, OnErr, vec_len};
 ghost use Rattle.std.specs.Io.KnownBytes.{Keeps, Consumes, IsAtEnd, prepend_known};
@@ -12,9 +12,10 @@ use std::alloc::{AllocError, Global};
 /// The bytes of one read at most.
 const CHUNK_SIZE: usize = 65_536;
 
-// `bytes[start..end]` were read and not yet passed. The chunk has no room until it is reserved.
+/// Bytes of a source that were read and not yet passed: those of one read at most.
 #[derive(Drop)]
 pub struct ReadAhead {
+    // The bytes are those from `start` to `end`. There is no room until it is reserved.
     bytes: Vec<u8>,
     start: usize,
     end: usize,
@@ -23,9 +24,10 @@ pub struct ReadAhead {
 }
 
 impl ReadAhead {
-    ghost use Rattle.byte_lines.specs.Inside.Ahead.{ahead_of, chunk_room, AtFeed};
+    ghost use Rattle.byte_lines.specs.Ahead.{ahead_of, chunk_room, AtFeed};
 
-    pub(crate) fn new(alloc: Global) -> ReadAhead
+    /// No bytes, and no room for any.
+    pub fn new(alloc: Global) -> ReadAhead
         ensures { ahead_of result ≡ [] }
     {
         ReadAhead {
@@ -35,8 +37,11 @@ impl ReadAhead {
         }
     }
 
-    // Takes memory for the chunk, once.
-    pub(crate) fn reserve(&mut self) -> Result<(), AllocError>
+    /// Takes memory for 65,536 bytes, if that was not done.
+    ///
+    /// # Errors
+    /// Memory ran out.
+    pub fn reserve(&mut self) -> Result<(), AllocError>
         ensures kept { ahead_of self.new ≡ ahead_of self.old }
         ensures room { OnOk result (0 < chunk_room self.new) }
     {
@@ -46,8 +51,12 @@ impl ReadAhead {
         Ok(())
     }
 
-    // Reads once if nothing is held, and returns whether anything is held then.
-    pub(crate) fn fill<R: Source>(&mut self, source: &mut R) -> Result<bool, Fault>
+    /// Reads once if no bytes are held, and returns whether any are held then. If not, the source
+    /// is at its end.
+    ///
+    /// # Errors
+    /// The source failed. No bytes are held.
+    pub fn fill<R: Source>(&mut self, source: &mut R) -> Result<bool, Fault>
         requires { 0 < chunk_room self.old }
         ensures room { chunk_room self.new ≡ chunk_room self.old }
         ensures bytes { OnOk result
@@ -71,7 +80,8 @@ impl ReadAhead {
         Ok(self.end > 0)
     }
 
-    pub(crate) fn as_slice(&self) -> &[u8]
+    /// The bytes that are held.
+    pub fn as_slice(&self) -> &[u8]
         ensures { result.now ≡ ahead_of self.now }
     {
         let (start, end) = (self.start, self.end);
@@ -86,8 +96,8 @@ impl ReadAhead {
         memchr(b'\n', self.as_slice())
     }
 
-    // Passes the first bytes.
-    pub(crate) fn pass(&mut self, count: usize)
+    /// Passes the first bytes.
+    pub fn pass(&mut self, count: usize)
         requires { count ≤ length (ahead_of self.old) }
         ensures bytes { ahead_of self.new ≡ drop count (ahead_of self.old) }
         ensures room { chunk_room self.new ≡ chunk_room self.old }

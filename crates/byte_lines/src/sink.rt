@@ -1,4 +1,4 @@
-//! Where bytes go.
+//! The device that bytes are written to.
 ghost use Rattle.std.specs.Prelude.{◌≡◌, ℕ, ◌<◌, ◌||◌, List, Bool, true, false, length, is_err};
 ghost use Rattle.std.specs.Prelude.{Option, IfOk, OnOk, IsOk, IsErr};
 ghost use Rattle.std.specs.Io.{WritesAtMost};

@@ -1,4 +1,4 @@
-//! Where bytes come from.
+//! The device that bytes are read from.
 ghost use Rattle.std.specs.Prelude.{◌≡◌, ℕ, ◌+◌, ◌^◌, ◌<◌, ◌≤◌, ◌||◌, ◌++◌, List, Bool, true};
 ghost use Rattle.std.specs.Prelude.{false, length, take, is_err, Option, IfOk, OnOk, IsErrOf};
 ghost use Rattle.std.specs.Prelude.{vec_len};

@@ -135,7 +135,7 @@ fn refuse_over<C: Closure>(
     answer: &mut String,
 ) -> Result<Vec<u8>, Stop> {
     let wanted = make_twice::<C>(rt, asked, Refusal::none(rt))?;
-    tell_wanted(asked, over, &wanted, answer)?;
+    print_wanted(asked, over, &wanted, answer)?;
     if trials.has_row() {
         refuse_in::<C>(rt, asked, trials, &wanted, "once", answer)?;
         refuse_in::<C>(rt, asked, trials, &wanted, "lasting", answer)?;
@@ -143,7 +143,7 @@ fn refuse_over<C: Closure>(
     lines_of_snapshot(asked.alloc, wanted.between.as_bytes())
 }
 
-fn tell_wanted(
+fn print_wanted(
     asked: Asked<'_>,
     over: &str,
     wanted: &Attempt,

@@ -16,7 +16,7 @@ pub(crate) struct Made {
 }
 
 impl Made {
-    /// A call that has not told its answer yet.
+    /// A call that has not reported its answer yet.
     pub(crate) fn new(alloc: Global, allocations: Option<u64>) -> Made {
         Made {
             answer: String::new(alloc),
@@ -24,69 +24,69 @@ impl Made {
         }
     }
 
-    /// Tells an error, or a number, or whatever has a text.
-    pub(crate) fn tell<T: Display + Drop>(&mut self, told: T) -> Result<(), AllocError> {
-        write!(self.answer, "{told}")
+    /// Reports an error, or a number, or whatever has a text.
+    pub(crate) fn print_out<T: Display + Drop>(&mut self, stated: T) -> Result<(), AllocError> {
+        write!(self.answer, "{stated}")
     }
 
-    /// Tells bytes that are text.
-    pub(crate) fn tell_bytes(&mut self, bytes: &[u8]) -> Result<(), Stop> {
+    /// Reports bytes that are text.
+    pub(crate) fn print_bytes(&mut self, bytes: &[u8]) -> Result<(), Stop> {
         match std::str::from_utf8(bytes) {
             Ok(text) => Ok(self.answer.push_str(text)?),
             Err(_) => Err(Stop::Given),
         }
     }
 
-    /// Tells the line of a receipt.
-    pub(crate) fn tell_receipt(&mut self, alloc: Global, receipt: &Receipt) -> Result<(), Stop> {
+    /// Reports the line of a receipt.
+    pub(crate) fn print_receipt(&mut self, alloc: Global, receipt: &Receipt) -> Result<(), Stop> {
         let line = receipt.write_line(alloc)?;
-        self.tell_bytes(line.as_slice())
+        self.print_bytes(line.as_slice())
     }
 
-    /// Tells the lines of receipts.
-    pub(crate) fn tell_receipts(
+    /// Reports the lines of receipts.
+    pub(crate) fn print_receipts(
         &mut self,
         alloc: Global,
         receipts: &[Receipt],
     ) -> Result<(), Stop> {
         for receipt in receipts {
-            self.tell_receipt(alloc, receipt)?;
+            self.print_receipt(alloc, receipt)?;
             self.answer.push_str("\n")?;
         }
         Ok(())
     }
 
-    /// Tells the domain, the sequence number, the kind and the ids of each conflict.
-    pub(crate) fn tell_conflicts(&mut self, conflicts: &[Conflict]) -> Result<(), AllocError> {
+    /// Reports the domain, the sequence number, the kind and the ids of each conflict.
+    pub(crate) fn print_conflicts(&mut self, conflicts: &[Conflict]) -> Result<(), AllocError> {
         let count = conflicts.len();
         write!(self.answer, "{count} conflicts")?;
         for conflict in conflicts {
-            tell_conflict(conflict, &mut self.answer)?;
+            print_conflict(conflict, &mut self.answer)?;
         }
         Ok(())
     }
 
-    /// Tells a question.
-    pub(crate) fn tell_question(&mut self, alloc: Global, question: &Have) -> Result<(), Stop> {
+    /// Reports a question.
+    pub(crate) fn print_question(&mut self, alloc: Global, question: &Have) -> Result<(), Stop> {
         let mut sink = MemSink::new(alloc, AMPLE_ROOM)?;
         write_have(alloc, question, &mut sink)?;
-        self.tell_bytes(sink.as_bytes())
+        self.print_bytes(sink.as_bytes())
     }
 
-    /// Tells an answer to a question: its bucket and configuration, and its lines.
-    pub(crate) fn tell_give(&mut self, alloc: Global, give: &Give) -> Result<(), Stop> {
+    /// Reports an answer to a question: its bucket and configuration, and its lines.
+    pub(crate) fn print_give(&mut self, alloc: Global, give: &Give) -> Result<(), Stop> {
         let bucket = give.bucket();
         let config = give.config();
         write!(self.answer, "bucket {bucket} of {config}\n")?;
         for record in give.distrusts() {
             let line = record.write_line(alloc)?;
-            self.tell_bytes(line.as_slice())?;
+            self.print_bytes(line.as_slice())?;
         }
-        self.tell_receipts(alloc, give.receipts())
+        self.print_receipts(alloc, give.receipts())
     }
 }
 
-fn tell_conflict(conflict: &Conflict, answer: &mut String) -> Result<(), AllocError> {
+fn print_conflict(conflict: &Conflict, answer: &mut String) -> Result<(), AllocError> {
     let kind = match conflict.kind {
         ConflictKind::Keys => "keys",
         ConflictKind::HintOnly => "hint",

@@ -5,7 +5,7 @@ use jwk_set::KeyId;
 use row_script::Script;
 use std::alloc::Global;
 
-/// What a row asks: a call, its words, the text of its template, and what the replicas hold.
+/// What a row asks: a call, its arguments, the text of its template, and what the replicas hold.
 #[derive(Clone, Copy)]
 pub(crate) struct Asked<'a> {
     pub(crate) alloc: Global,
@@ -16,18 +16,18 @@ pub(crate) struct Asked<'a> {
     /// The configuration here, and the lines of what is held.
     pub(crate) config_text: &'a [u8],
     pub(crate) lines: &'a [u8],
-    /// The same of the replica `beside`.
-    pub(crate) config_beside: &'a [u8],
-    pub(crate) lines_beside: &'a [u8],
+    /// The same for the replica `with_it`.
+    pub(crate) config_with: &'a [u8],
+    pub(crate) lines_with: &'a [u8],
 }
 
 impl<'a> Asked<'a> {
-    /// The word at this place; the first one is at 0.
+    /// The argument at this place; the first one is at 0.
     pub(crate) fn word(&self, place: usize) -> Result<&'a str, Stop> {
         word_of(self.words, place)
     }
 
-    /// The text whose name is the word at this place.
+    /// The text whose name is the argument at this place.
     pub(crate) fn named(&self, place: usize) -> Result<&'a [u8], Stop> {
         self.text_of(self.word(place)?)
     }
@@ -37,7 +37,7 @@ impl<'a> Asked<'a> {
         self.script.text(name).ok_or(Stop::Name)
     }
 
-    /// The key whose id is the text that the word at this place names.
+    /// The key whose id is the text that the argument at this place names.
     pub(crate) fn key(&self, place: usize) -> Result<KeyId, Stop> {
         Ok(KeyId(digits_of(self.named(place)?)?))
     }
@@ -47,8 +47,8 @@ impl<'a> Asked<'a> {
         Ok(Config::read(self.alloc, self.config_text)?)
     }
 
-    /// The same if the first word names the configuration, and the second one, if `is_held`, the
-    /// lines of what is held.
+    /// The same if the first argument names the configuration, and the second one, if `is_held`,
+    /// the lines of what is held.
     pub(crate) fn over_named(self, is_held: bool) -> Result<Asked<'a>, Stop> {
         let lines: &'a [u8] = if is_held { self.named(1)? } else { b"" };
         let config_text = self.named(0)?;
@@ -60,7 +60,7 @@ impl<'a> Asked<'a> {
     }
 }
 
-/// The word at this place of several with one space between them.
+/// The argument at this place of several with one space between them.
 pub(crate) fn word_of(words: &str, place: usize) -> Result<&str, Stop> {
     words.split(' ').nth(place).ok_or(Stop::Word)
 }

@@ -22,7 +22,7 @@ pub(crate) fn take<C: Closure>(
     refusal.begin();
     let taken = closure.take(receipt);
     let mut made = Made::new(asked.alloc, refusal.end());
-    tell_taken(asked, taken, &mut made)?;
+    print_taken(asked, taken, &mut made)?;
     Ok(made)
 }
 
@@ -52,14 +52,14 @@ pub(crate) fn leak<C: Closure>(
     let taken = take_and_ask(asked.alloc, closure, receipt);
     let mut made = Made::new(asked.alloc, refusal.end());
     match taken {
-        Ok(Taken::New { accepted_now }) => made.tell(accepted_now)?,
-        Ok(Taken::Already) => made.tell("held already")?,
-        Err(why) => made.tell(why)?,
+        Ok(Taken::New { accepted_now }) => made.print_out(accepted_now)?,
+        Ok(Taken::Already) => made.print_out("held already")?,
+        Err(why) => made.print_out(why)?,
     }
     Ok(made)
 }
 
-// If the second call is out of memory, the first one stays.
+// If the second call is out of memory, the receipt of the first one is still held.
 fn take_and_ask<C: Closure>(
     alloc: Global,
     closure: &mut C,
@@ -76,19 +76,19 @@ fn take_and_ask<C: Closure>(
 }
 
 // A receipt that is refused comes back.
-fn tell_taken(
+fn print_taken(
     asked: Asked<'_>,
     taken: Result<Taken, Refused>,
     made: &mut Made,
 ) -> Result<(), Stop> {
     match taken {
-        Ok(Taken::New { accepted_now }) => made.tell(accepted_now)?,
-        Ok(Taken::Already) => made.tell("held already")?,
+        Ok(Taken::New { accepted_now }) => made.print_out(accepted_now)?,
+        Ok(Taken::Already) => made.print_out("held already")?,
         Err(refused) => {
-            made.tell(refused.why)?;
+            made.print_out(refused.why)?;
             let line = refused.receipt.write_line(asked.alloc)?;
             if line.as_slice() != asked.text {
-                made.tell(" of another receipt")?;
+                made.print_out(" of another receipt")?;
             }
         }
     }
@@ -106,9 +106,9 @@ pub(crate) fn distrust<C: Closure>(
     let distrusted = closure.distrust(&record.domain, record.key);
     let mut made = Made::new(asked.alloc, refusal.end());
     match distrusted {
-        Ok(Distrusted::New { lost }) => made.tell(lost)?,
-        Ok(Distrusted::Already) => made.tell("held already")?,
-        Err(why) => made.tell(why)?,
+        Ok(Distrusted::New { lost }) => made.print_out(lost)?,
+        Ok(Distrusted::Already) => made.print_out("held already")?,
+        Err(why) => made.print_out(why)?,
     }
     Ok(made)
 }
@@ -119,13 +119,13 @@ pub(crate) fn merge<C: Closure>(
     refusal: Refusal<'_>,
     closure: &mut C,
 ) -> Result<Made, Stop> {
-    let beside: C = closure_of(asked.alloc, asked.config_beside, asked.lines_beside)?;
+    let with_it: C = closure_of(asked.alloc, asked.config_with, asked.lines_with)?;
     refusal.begin();
-    let merged = closure.merge(&beside);
+    let merged = closure.merge(&with_it);
     let mut made = Made::new(asked.alloc, refusal.end());
     match merged {
-        Ok(new) => made.tell(new)?,
-        Err(why) => made.tell(why)?,
+        Ok(new) => made.print_out(new)?,
+        Err(why) => made.print_out(why)?,
     }
     Ok(made)
 }
@@ -145,8 +145,8 @@ pub(crate) fn observed<C: Closure>(
     let observed = observe(asked.alloc, closure, &domain, asked.text, &verdict);
     let mut made = Made::new(asked.alloc, refusal.end());
     match observed {
-        Ok(receipt) => made.tell_receipt(asked.alloc, &receipt)?,
-        Err(why) => made.tell(why)?,
+        Ok(receipt) => made.print_receipt(asked.alloc, &receipt)?,
+        Err(why) => made.print_out(why)?,
     }
     Ok(made)
 }
@@ -162,8 +162,8 @@ pub(crate) fn absorbed<C: Closure>(
     let absorbed = absorb(closure, give);
     let mut made = Made::new(asked.alloc, refusal.end());
     match absorbed {
-        Ok(new) => made.tell(new)?,
-        Err(why) => made.tell(why)?,
+        Ok(new) => made.print_out(new)?,
+        Err(why) => made.print_out(why)?,
     }
     Ok(made)
 }

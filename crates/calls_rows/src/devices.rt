@@ -4,7 +4,7 @@ use crate::held::AMPLE_ROOM;
 use crate::one_byte::OneByte;
 use crate::places::in_pieces;
 use crate::runs::Runs;
-use crate::sessions::{Done, perform, tell_failure};
+use crate::sessions::{Done, perform, print_failure};
 use crate::stop::Stop;
 use crate::trials::Trials;
 use byte_lines::{FromWrite, FuseSink, FuseSource, MemSink, Source};
@@ -18,7 +18,7 @@ const MAX_TEXT: usize = 100_000;
 /// With how many writes a line is written at most.
 const MAX_WRITES_OF_LINE: usize = 4;
 
-/// What a call came to over devices that never fail, and what is tried.
+/// The result of a call over devices that never fail, and what is tried.
 #[derive(Clone, Copy)]
 struct Trial<'a> {
     asked: Asked<'a>,
@@ -71,7 +71,7 @@ fn fail_over<C: Closure>(
     let mut sink = MemSink::new(asked.alloc, AMPLE_ROOM)?;
     let mut source = in_pieces(asked.alloc, asked.text, asked.text.len())?;
     let wanted = perform::<C, _, _>(asked, &mut source, &mut sink)?;
-    tell_wanted(asked, over, &wanted, sink.as_bytes(), answer)?;
+    print_wanted(asked, over, &wanted, sink.as_bytes(), answer)?;
     let trial = Trial {
         asked,
         trials,
@@ -84,7 +84,7 @@ fn fail_over<C: Closure>(
     Ok(())
 }
 
-fn tell_wanted(
+fn print_wanted(
     asked: Asked<'_>,
     over: &str,
     wanted: &Done,
@@ -92,8 +92,8 @@ fn tell_wanted(
     answer: &mut String,
 ) -> Result<(), Stop> {
     let call = asked.call;
-    let told = wanted.answer.as_str();
-    write!(answer, "devices of {call} over {over}: {told}, written: ")?;
+    let stated = wanted.answer.as_str();
+    write!(answer, "devices of {call} over {over}: {stated}, written: ")?;
     asked.script.show(written, answer)?;
     Ok(answer.push_str("\n")?)
 }
@@ -202,7 +202,7 @@ fn outcome_of<C: Closure>(
         outcome.push_str("as over devices that never fail")?;
         return Ok(outcome);
     }
-    tell_failure::<C>(trial.asked, done, written, given, &mut outcome)?;
+    print_failure::<C>(trial.asked, done, written, given, &mut outcome)?;
     if !trial.written.starts_with(written) {
         outcome.push_str(", other bytes were written")?;
     }

@@ -40,7 +40,7 @@ impl Held {
 #[derive(Drop)]
 pub(crate) struct World {
     pub(crate) here: Held,
-    pub(crate) beside: Held,
+    pub(crate) with_it: Held,
 }
 
 impl World {
@@ -49,13 +49,13 @@ impl World {
         let config = br#"{"relationships":[],"seeds":[]}"#;
         Ok(World {
             here: Held::new(alloc, config)?,
-            beside: Held::new(alloc, config)?,
+            with_it: Held::new(alloc, config)?,
         })
     }
 
     /// Swaps the two replicas.
     pub(crate) fn swap(&mut self) {
-        std::mem::swap(&mut self.here, &mut self.beside);
+        std::mem::swap(&mut self.here, &mut self.with_it);
     }
 }
 

@@ -22,8 +22,8 @@ pub(crate) fn found_conflicts<C: Closure>(
     let found = conflicts(asked.alloc, closure);
     let mut made = Made::new(asked.alloc, refusal.end());
     match found {
-        Ok(found) => made.tell_conflicts(found.as_slice())?,
-        Err(_) => made.tell("no memory")?,
+        Ok(found) => made.print_conflicts(found.as_slice())?,
+        Err(_) => made.print_out("no memory")?,
     }
     Ok(made)
 }
@@ -41,11 +41,11 @@ pub(crate) fn explained<C: Closure>(
     let mut made = Made::new(asked.alloc, refusal.end());
     match explained {
         Ok(Some(chain)) => {
-            made.tell("chain:\n")?;
-            made.tell_receipts(asked.alloc, chain.as_slice())?;
+            made.print_out("chain:\n")?;
+            made.print_receipts(asked.alloc, chain.as_slice())?;
         }
-        Ok(None) => made.tell("not accepted")?,
-        Err(_) => made.tell("no memory")?,
+        Ok(None) => made.print_out("not accepted")?,
+        Err(_) => made.print_out("no memory")?,
     }
     Ok(made)
 }
@@ -61,9 +61,9 @@ pub(crate) fn reported<C: Closure>(
     let reported = write_report(asked.alloc, closure, &mut sink);
     let mut made = Made::new(asked.alloc, refusal.end());
     if let Err(why) = reported {
-        made.tell(why)?;
+        made.print_out(why)?;
     }
-    made.tell_bytes(sink.as_bytes())?;
+    made.print_bytes(sink.as_bytes())?;
     Ok(made)
 }
 
@@ -78,8 +78,8 @@ pub(crate) fn question<C: Closure>(
     let question = have(asked.alloc, closure, bucket);
     let mut made = Made::new(asked.alloc, refusal.end());
     match question {
-        Ok(question) => made.tell_question(asked.alloc, &question)?,
-        Err(why) => made.tell(why)?,
+        Ok(question) => made.print_question(asked.alloc, &question)?,
+        Err(why) => made.print_out(why)?,
     }
     Ok(made)
 }
@@ -99,6 +99,6 @@ pub(crate) fn reply<C: Closure>(
     let mut made = Made::new(asked.alloc, allocations);
     let mut sink = MemSink::new(asked.alloc, AMPLE_ROOM)?;
     write_answer(asked.alloc, reply, &mut sink)?;
-    made.tell_bytes(sink.as_bytes())?;
+    made.print_bytes(sink.as_bytes())?;
     Ok(made)
 }

@@ -55,7 +55,7 @@ impl Rows for CallsRows<'_> {
         answer: &mut String,
     ) -> Result<(), AllocError> {
         let here = self.world.here.try_clone(self.alloc)?;
-        let beside = self.world.beside.try_clone(self.alloc)?;
+        let with_it = self.world.with_it.try_clone(self.alloc)?;
         let asked = Asked {
             alloc: self.alloc,
             script,
@@ -64,8 +64,8 @@ impl Rows for CallsRows<'_> {
             text: row.text.as_slice(),
             config_text: here.config.as_slice(),
             lines: here.lines.as_slice(),
-            config_beside: beside.config.as_slice(),
-            lines_beside: beside.lines.as_slice(),
+            config_with: with_it.config.as_slice(),
+            lines_with: with_it.lines.as_slice(),
         };
         match answer_row(self.rt, asked, &mut self.world, &mut self.trials, answer) {
             Ok(()) => Ok(()),

@@ -19,8 +19,8 @@ pub(crate) fn receipt(asked: Asked<'_>, refusal: Refusal<'_>) -> Result<Made, St
     let receipt = Receipt::read_line(asked.alloc, asked.text);
     let mut made = Made::new(asked.alloc, refusal.end());
     match receipt {
-        Ok(receipt) => made.tell_receipt(asked.alloc, &receipt)?,
-        Err(why) => made.tell(why)?,
+        Ok(receipt) => made.print_receipt(asked.alloc, &receipt)?,
+        Err(why) => made.print_out(why)?,
     }
     Ok(made)
 }
@@ -31,8 +31,8 @@ pub(crate) fn document(asked: Asked<'_>, refusal: Refusal<'_>) -> Result<Made, S
     let document = Document::read(asked.alloc, asked.text);
     let mut made = Made::new(asked.alloc, refusal.end());
     match document {
-        Ok(document) => made.tell_bytes(document.canonical())?,
-        Err(why) => made.tell(why)?,
+        Ok(document) => made.print_bytes(document.canonical())?,
+        Err(why) => made.print_out(why)?,
     }
     Ok(made)
 }
@@ -43,8 +43,8 @@ pub(crate) fn config(asked: Asked<'_>, refusal: Refusal<'_>) -> Result<Made, Sto
     let config = Config::read(asked.alloc, asked.text);
     let mut made = Made::new(asked.alloc, refusal.end());
     match config {
-        Ok(config) => made.tell(config.digest())?,
-        Err(why) => made.tell(why)?,
+        Ok(config) => made.print_out(config.digest())?,
+        Err(why) => made.print_out(why)?,
     }
     Ok(made)
 }
@@ -57,8 +57,8 @@ pub(crate) fn question(asked: Asked<'_>, refusal: Refusal<'_>) -> Result<Made, S
     let question = read_have(asked.alloc, &mut lines, &mut source);
     let mut made = Made::new(asked.alloc, refusal.end());
     match question {
-        Ok(question) => made.tell_question(asked.alloc, &question)?,
-        Err(why) => made.tell(why)?,
+        Ok(question) => made.print_question(asked.alloc, &question)?,
+        Err(why) => made.print_out(why)?,
     }
     Ok(made)
 }
@@ -71,8 +71,8 @@ pub(crate) fn give(asked: Asked<'_>, refusal: Refusal<'_>) -> Result<Made, Stop>
     let give = read_give(asked.alloc, &mut lines, &mut source);
     let mut made = Made::new(asked.alloc, refusal.end());
     match give {
-        Ok(give) => made.tell_give(asked.alloc, &give)?,
-        Err(why) => made.tell(why)?,
+        Ok(give) => made.print_give(asked.alloc, &give)?,
+        Err(why) => made.print_out(why)?,
     }
     Ok(made)
 }
@@ -85,8 +85,8 @@ pub(crate) fn snapshot<C: Closure>(asked: Asked<'_>, refusal: Refusal<'_>) -> Re
     let read: Result<C, _> = read_snapshot(asked.alloc, &config, &mut source);
     let mut made = Made::new(asked.alloc, refusal.end());
     match read {
-        Ok(closure) => made.tell_bytes(snapshot_of(asked.alloc, &closure)?.as_bytes())?,
-        Err(why) => made.tell(why)?,
+        Ok(closure) => made.print_bytes(snapshot_of(asked.alloc, &closure)?.as_bytes())?,
+        Err(why) => made.print_out(why)?,
     }
     Ok(made)
 }
@@ -100,15 +100,15 @@ pub(crate) fn world<C: Closure>(asked: Asked<'_>, refusal: Refusal<'_>) -> Resul
     let world: Result<Vec<C>, _> = run_world(asked.alloc, &config, count, events.as_slice());
     let mut made = Made::new(asked.alloc, refusal.end());
     match world {
-        Ok(world) => tell_world(asked, world.as_slice(), &mut made)?,
-        Err(_) => made.tell("no memory")?,
+        Ok(world) => print_world(asked, world.as_slice(), &mut made)?,
+        Err(_) => made.print_out("no memory")?,
     }
     Ok(made)
 }
 
-fn tell_world<C: Closure>(asked: Asked<'_>, world: &[C], made: &mut Made) -> Result<(), Stop> {
+fn print_world<C: Closure>(asked: Asked<'_>, world: &[C], made: &mut Made) -> Result<(), Stop> {
     for closure in world {
-        made.tell_bytes(snapshot_of(asked.alloc, closure)?.as_bytes())?;
+        made.print_bytes(snapshot_of(asked.alloc, closure)?.as_bytes())?;
     }
     Ok(())
 }

@@ -26,8 +26,8 @@ pub(crate) fn reserve<C: Closure>(
     let reserved = closure.try_reserve(lines.receipts.len(), lines.offers);
     let mut made = Made::new(asked.alloc, refusal.end());
     match reserved {
-        Ok(()) => made.tell("room")?,
-        Err(_) => made.tell("no memory")?,
+        Ok(()) => made.print_out("room")?,
+        Err(_) => made.print_out("no memory")?,
     }
     Ok(made)
 }

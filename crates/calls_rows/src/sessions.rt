@@ -1,4 +1,4 @@
-//! Calls over devices, and what they come to.
+//! Calls over devices, and their results.
 use crate::asked::{Asked, text_of_lines};
 use crate::held::{AMPLE_ROOM, closure_of, give, snapshot_of};
 use crate::stop::Stop;
@@ -8,8 +8,8 @@ use fedbundle::{RunError, run_report};
 use replica_sync::{PullFault, SyncError, pull, read_snapshot, serve_one, write_snapshot};
 use std::alloc::Global;
 
-/// What a call over devices came to: its answer, whether that is the error of a device, and what is
-/// held then.
+/// The result of a call over devices: its answer, whether that is the error of a device, and what
+/// is held then.
 #[derive(Drop)]
 pub(crate) struct Done {
     pub(crate) answer: String,
@@ -26,7 +26,7 @@ impl Done {
         }
     }
 
-    /// Whether it came to the same.
+    /// Whether the result is the same.
     pub(crate) fn is_as(&self, other: &Done) -> bool {
         self.answer.as_str() == other.answer.as_str() && self.held() == other.held()
     }
@@ -38,20 +38,20 @@ impl Done {
         }
     }
 
-    fn tell_count(&mut self, done: Result<u64, SyncError>) -> Result<(), Stop> {
+    fn print_count(&mut self, done: Result<u64, SyncError>) -> Result<(), Stop> {
         match done {
             Ok(count) => write!(self.answer, "{count}")?,
-            Err(why) => self.tell_fault(why)?,
+            Err(why) => self.print_fault(why)?,
         }
         Ok(())
     }
 
-    fn tell_fault(&mut self, why: SyncError) -> Result<(), Stop> {
+    fn print_fault(&mut self, why: SyncError) -> Result<(), Stop> {
         self.is_io = why == SyncError::Io;
         Ok(write!(self.answer, "{why}")?)
     }
 
-    fn tell_pulled(&mut self, done: Result<u64, PullFault>) -> Result<(), Stop> {
+    fn print_pulled(&mut self, done: Result<u64, PullFault>) -> Result<(), Stop> {
         match done {
             Ok(count) => write!(self.answer, "{count}")?,
             Err(fault) => {
@@ -85,7 +85,7 @@ fn snapshot<C: Closure, R: Source>(asked: Asked<'_>, source: &mut R) -> Result<D
     let read: Result<C, SyncError> = read_snapshot(asked.alloc, &config, source);
     match read {
         Ok(closure) => done.held = Some(snapshot_of(asked.alloc, &closure)?),
-        Err(why) => done.tell_fault(why)?,
+        Err(why) => done.print_fault(why)?,
     }
     Ok(done)
 }
@@ -97,7 +97,7 @@ fn pulled<C: Closure, R: Source, W: Sink>(
 ) -> Result<Done, Stop> {
     let mut closure: C = closure_of(asked.alloc, asked.config_text, asked.lines)?;
     let mut done = Done::new(asked.alloc);
-    done.tell_pulled(pull(asked.alloc, &mut closure, source, sink))?;
+    done.print_pulled(pull(asked.alloc, &mut closure, source, sink))?;
     done.held = Some(snapshot_of(asked.alloc, &closure)?);
     Ok(done)
 }
@@ -109,7 +109,7 @@ fn served<C: Closure, R: Source, W: Sink>(
 ) -> Result<Done, Stop> {
     let closure: C = closure_of(asked.alloc, asked.config_text, asked.lines)?;
     let mut done = Done::new(asked.alloc);
-    done.tell_count(serve_one(asked.alloc, &closure, source, sink))?;
+    done.print_count(serve_one(asked.alloc, &closure, source, sink))?;
     Ok(done)
 }
 
@@ -121,11 +121,11 @@ fn reported<R: Source, W: Sink, E: Sink>(
     asked: Asked<'_>,
     source: &mut R,
     sink: &mut W,
-    complaints: &mut E,
+    line_errors: &mut E,
 ) -> Result<Done, Stop> {
     let config = asked.config()?;
     let mut done = Done::new(asked.alloc);
-    match run_report(asked.alloc, &config, source, sink, complaints) {
+    match run_report(asked.alloc, &config, source, sink, line_errors) {
         Ok(count) => write!(done.answer, "{count}")?,
         Err(why) => {
             done.is_io = why == RunError::Io;
@@ -139,14 +139,14 @@ fn written<C: Closure, W: Sink>(asked: Asked<'_>, sink: &mut W) -> Result<Done, 
     let closure: C = closure_of(asked.alloc, asked.config_text, asked.lines)?;
     let mut done = Done::new(asked.alloc);
     if let Err(why) = write_snapshot(asked.alloc, &closure, sink) {
-        done.tell_fault(why)?;
+        done.print_fault(why)?;
     }
     Ok(done)
 }
 
-/// Tells of a call that ended otherwise than over devices that never fail: its error, which is to
+/// Reports a call that ended otherwise than over devices that never fail: its error, which is to
 /// be the device's, and whether a `pull` holds what the whole lines say that came before.
-pub(crate) fn tell_failure<C: Closure>(
+pub(crate) fn print_failure<C: Closure>(
     asked: Asked<'_>,
     done: &Done,
     written: &[u8],
@@ -159,12 +159,12 @@ pub(crate) fn tell_failure<C: Closure>(
     }
     outcome.push_str("the error of the device")?;
     if asked.call == "pull" {
-        tell_cut_pull::<C>(asked, done, written, given, outcome)?;
+        print_cut_pull::<C>(asked, done, written, given, outcome)?;
     }
     Ok(())
 }
 
-fn tell_cut_pull<C: Closure>(
+fn print_cut_pull<C: Closure>(
     asked: Asked<'_>,
     done: &Done,
     written: &[u8],

@@ -1,4 +1,4 @@
-//! Why a row comes to nothing.
+//! Why a row has no result.
 use bundle_doc::DocError;
 use closure_core::{NoMemory, TakeError};
 use fed_config::ConfigError;
@@ -8,10 +8,10 @@ use spiffe_name::NameError;
 use std::alloc::{AllocError, AllocFailed};
 use std::fmt;
 
-/// Why a row comes to nothing.
+/// Why a row has no result.
 #[derive(Clone, Copy, Debug, PartialEq, Eq)]
 pub(crate) enum Stop {
-    /// A word is missing, or should not be there.
+    /// An argument is missing, or should not be there.
     Word,
     /// No text has the name.
     Name,

@@ -58,8 +58,8 @@ six_parts : (p q r s t u bytes a b c d e : List ℕ) → bytes ≡ p ++ a → a 
     → bytes ≡ p ++ (q ++ (r ++ (s ++ (t ++ u))))
 six_parts p q r s t u bytes a b c d e h1 h2 h3 h4 h5 h6 = cc
 
-told : (y z : ℤ) → some_of y ≡ some_of z → z ≡ y
-told y z e = sym (same_some y z e)
+stated : (y z : ℤ) → some_of y ≡ some_of z → z ≡ y
+stated y z e = sym (same_some y z e)
 
 -- the `Moment` of these numbers
 abbrev pub moment : ℕ → ℕ × List ℕ → ℕ × List ℕ → ℕ × List ℕ → ℕ × List ℕ → ℕ × List ℕ → Moment
@@ -100,7 +100,7 @@ moment_takes year bytes z e =
         parts = six_parts (digits a.0.0) (digits b.0.0) (digits c.0.0) (digits d.0.0) (digits f.0.0)
             (90 ∷ []) bytes a.0.1 b.0.1 c.0.1 d.0.1 f.0.1 t1 t2 t3 t4 t5 last;
         real = h.0;
-        seconds = told (unix_seconds (moment year a.0 b.0 c.0 d.0 f.0)) z h.1;
+        seconds = stated (unix_seconds (moment year a.0 b.0 c.0 d.0 f.0)) z h.1;
       },
     )
 

@@ -18,7 +18,7 @@ within_gives None r before after e t = e
 within_gives (Some b) r before after e t =
     ap (receipts_in b) e ∙ ap (λ k. cond k (r ∷ receipts_in b after) (receipts_in b after)) t
 
--- Where none are lent any more, there are none of the bucket.
+-- If no receipts are lent any more, the bucket has no receipts.
 pub within_none : (bucket : Option ℕ) (lent : List Receipt) → lent ≡ [] → receipts_within bucket lent ≡ []
 within_none None lent e = e
 within_none (Some b) lent e = ap (receipts_in b) e

@@ -15,7 +15,7 @@ contains_later x xs y has = Contains-append_right (x ∷ []) xs y has
 pub contains_none : {T : Type 0} (x : T) → Contains [] x → ⊥
 contains_none x has = omega (arith, has.1)
 
--- What a list contains is its first item or stands in the rest: so proofs go down a list.
+-- What a list contains is its first item or is in the rest: so proofs go down a list.
 pub contains_cases : {T : Type 0} (x : T) (xs : List T) (y : T) → Contains (x ∷ xs) y → (x ≡ y) ⊎ Contains xs y
 contains_cases x xs y has = elim (Contains-append_cases (x ∷ []) xs y has) [
   | inl here ↦ elim (Contains-push_cases [] x y here) [
@@ -35,7 +35,7 @@ contains_map f (h ∷ t) x has = elim (contains_cases h t x has) [
   | inr later ↦ contains_later (f h) (map f t) (f x) (contains_map f t x later)
 ]
 
--- where an item of a mapped list comes from
+-- the item from which an item of a mapped list is made
 pub record IsMapped {X Y : Type 0} (f : X → Y) (xs : List X) (y : Y) : Type 0 where
   pub item : X
   pub has : Contains xs item

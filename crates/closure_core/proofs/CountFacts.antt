@@ -33,7 +33,7 @@ without front back x y other has = elim (Contains-append_cases front (x ∷ back
   ]
 ]
 
--- Different items that all stand in a list are no more than the list is long.
+-- Different items that are all in a list are at most the length of the list.
 pub no_longer : {T : Type 0} (xs ys : List T) → AreDifferent xs → ((x : T) → Contains xs x → Contains ys x) → length xs ≤ length ys
 no_longer [] ys different within = omega arith
 no_longer {T = T} (x ∷ xs) ys different within =
@@ -68,7 +68,7 @@ no_more {T = T} f (x ∷ xs) ys different within =
       sum_by-cons f x cut.back,
     )
 
--- Two counts of one property are equal: so a call can return one number alone.
+-- Two counts of one property are equal: so a call can return only a number.
 pub one_count : {T : Type 0} (P : T → Type 0) (n k : ℕ) → IsCount P n → IsCount P k → n ≡ k
 one_count P n k a b =
     let less : length a.items ≤ length b.items = no_longer a.items b.items a.different (λ x has. (b.exactly x).1 ((a.exactly x).0 has)) in

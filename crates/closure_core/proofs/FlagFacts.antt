@@ -11,7 +11,7 @@ use Rattle.receipt_core.specs.Acceptance.{Meaning, IsMember}
 use Rattle.closure_core.proofs.ContainsFacts.{contains_first, contains_later, contains_cases, contains_map, mapped}
 use Rattle.closure_core.specs.Count.{AreDifferent, IsCount}
 use Rattle.closure_core.specs.Inside.Nodes.{is_raised}
-use Rattle.closure_core.specs.Inside.Flags.{raised_count, TellsMembers}
+use Rattle.closure_core.specs.Inside.Flags.{raised_count, ReportsMembers}
 
 -- the number is that of the first node with the document of one of these nodes
 abbrev pub IsFirstOf : List ℕ → List ℕ → ℕ → Type 0
@@ -52,7 +52,7 @@ passing-kept : (test : ℕ → Bool) (n : ℕ) (b : Bool) (k : ℕ) → Contains
 passing-kept test n true k c = contains_later n (passing test n) k c
 passing-kept test n false k c = c
 
--- A step lists its own number where that passes.
+-- A step lists its own number if that passes.
 passing-here : (test : ℕ → Bool) (n : ℕ) (b : Bool) → b ≡ true → Contains (cond b (n ∷ passing test n) (passing test n)) n
 passing-here test n true e = contains_first n (passing test n)
 passing-here test n false e = absurd (both_ways false refl e)
@@ -86,7 +86,7 @@ length-passing_no : (test : ℕ → Bool) (n : ℕ) (b : Bool) → b ≡ false �
 length-passing_no test n true e = absurd (both_ways true e refl)
 length-passing_no test n false e = refl
 
--- The raised flags before a place are as many as the numbers that are listed for it.
+-- The number of raised flags before a place is that of the numbers that are listed for it.
 pub length-passing_flags : (flags : List Bool) (n : ℕ) → n ≤ length flags → length (passing (λ k. is_raised flags k) n) ≡ count_by (λ flag. flag) (take n flags)
 length-passing_flags flags zero l = refl
 length-passing_flags flags (suc n) l =
@@ -103,7 +103,7 @@ length-passing_flags flags (suc n) l =
           length-passing_no (λ k. is_raised flags k) n (is_raised flags n) a ∙ before ∙ sym more ∙ ap (λ k. count_by (λ flag. flag) (take k flags)) (sym e)
     ]
 
--- All raised flags are as many as the numbers that are listed up to their end.
+-- The number of all raised flags is that of the numbers that are listed up to their end.
 pub count-passing : (flags : List Bool) (n : ℕ) → length flags ≤ n → length (passing (λ k. is_raised flags k) n) ≡ raised_count flags
 count-passing flags n l = more n (n - length flags) (omega (arith, l))
   where
@@ -123,8 +123,8 @@ module _ (narrow wide : ℕ → Bool) (within : (k : ℕ) → narrow k ≡ true 
   abbrev pub only_wide : ℕ → Bool
   only_wide k = wide k && not (narrow k)
 
-  -- Those that pass the narrow test, and those that pass the wide one alone, add up to all that
-  -- pass the wide one.
+  -- Those that pass the narrow test, and those that pass only the wide one, add up to all that pass
+  -- the wide one.
   pub length-only_wide : (n : ℕ) → length (passing only_wide n) + length (passing narrow n) ≡ length (passing wide n)
   length-only_wide zero = refl
   length-only_wide (suc n) =
@@ -159,7 +159,7 @@ module _ (narrow wide : ℕ → Bool) (within : (k : ℕ) → narrow k ≡ true 
 
 -- ---- how many are gained
 
--- Different items have different images where the function keeps them apart.
+-- Different items have different images if the function keeps them apart.
 pub different-map : {A B : Type 0} (f : A → B) (xs : List A) → AreDifferent xs
     → ((x y : A) → Contains xs x → Contains xs y → f x ≡ f y → x ≡ y) → AreDifferent (map f xs)
 different-map f [] d one = tt
@@ -168,10 +168,10 @@ different-map f (x ∷ xs) d one = (
   different-map f xs d.1 (λ a b ca cb e. one a b (contains_later x xs a ca) (contains_later x xs b cb) e),
 )
 
--- The flags of fewer accepted documents, and those of more: as many more are raised as are accepted
--- in the one and not in the other.
+-- The flags of fewer accepted documents, and those of more: the number of flags that are raised in
+-- addition is that of the documents that are accepted in the one and not in the other.
 module _ (none : Pair) (fewer more : Meaning) (some_pairs pairs : List Pair) (some_numbers numbers : List ℕ) (some_flags flags : List Bool)
-    (here : TellsMembers fewer some_pairs some_numbers some_flags) (there : TellsMembers more pairs numbers flags)
+    (here : ReportsMembers fewer some_pairs some_numbers some_flags) (there : ReportsMembers more pairs numbers flags)
     (kept : (n : ℕ) → is_raised some_flags n ≡ true → is_raised flags n ≡ true)
     (agree : (n : ℕ) (p : Pair) → is_raised flags n ≡ true → is_raised some_flags n ≡ true → slice_get some_pairs n ≡ Some p → slice_get pairs n ≡ Some p) where
   -- a number whose flag is raised has its pair
@@ -182,8 +182,8 @@ module _ (none : Pair) (fewer more : Meaning) (some_pairs pairs : List Pair) (so
       in
       (l, slice_get-get_or pairs n none (omega (arith, l, there.size)))
 
-  -- A flag that is raised only among the later ones is that of a document that is accepted in the
-  -- larger meaning alone.
+  -- A flag that is raised only among the later ones is that of a document that is accepted only in
+  -- the larger meaning.
   new-member : (n : ℕ) → is_raised flags n ≡ true → is_raised some_flags n ≡ false
       → IsMember more (get_or pairs n none) × (IsMember fewer (get_or pairs n none) → ⊥)
   new-member n e f =
@@ -262,11 +262,11 @@ passing-none : (test : ℕ → Bool) (n : ℕ) → ((k : ℕ) → test k ≡ fal
 passing-none test zero h = refl
 passing-none test (suc n) h = length-passing_no test n (test n) (h n) ∙ passing-none test n h
 
--- Where no flag is raised the count is 0.
+-- If no flag is raised the count is 0.
 pub count-lowered : (flags : List Bool) → ((k : ℕ) → is_raised flags k ≡ false) → raised_count flags ≡ 0
 count-lowered flags h = sym (count-passing flags (length flags) (omega arith)) ∙ passing-none (λ k. is_raised flags k) (length flags) h
 
--- Where each flag that is raised here is raised there, the count here is no larger.
+-- If each flag that is raised here is raised there, the count here is not larger.
 pub count-fewer : (fewer more : List Bool) → length fewer ≤ length more
     → ((k : ℕ) → is_raised fewer k ≡ true → is_raised more k ≡ true) → raised_count fewer ≤ raised_count more
 count-fewer fewer more l h =

@@ -7,9 +7,9 @@ use Rattle.receipt_core.specs.declared.distrust.Distrust.{Distrust}
 use Rattle.receipt_core.specs.Receipt.{Receipt, Pair, pair_of}
 use Rattle.receipt_core.specs.Acceptance.{IsFitting, Vouches, Leads, Meaning, IsMember, IsReleased, IsClosed, pair_of_seed}
 
--- ---- a chain goes on by one
+-- ---- a chain continues by one
 
--- A chain goes on by a receipt for which the document at its end vouches.
+-- A chain continues by a receipt for which the document at its end vouches.
 pub leads_more : (c : Configuration) (records : List Distrust) (from : Pair) (chain : List Receipt) (to : Pair)
     (r : Receipt) → Leads c records from chain to → IsFitting c r → Vouches records to r
     → Leads c records from (chain ++ r ∷ []) (pair_of r)
@@ -60,7 +60,7 @@ member_least m set closed p is = along m set closed (pair_of_seed is.seed) is.ch
 
 -- ---- more receipts and fewer records of distrust
 
--- With more receipts, and with fewer records of distrust, what was accepted stays so.
+-- With more receipts, and with fewer records of distrust, what was accepted is still accepted.
 pub member_more : (m n : Meaning) → m.config ≡ n.config → ((r : Receipt) → Contains m.held r → Contains n.held r)
     → ((x : Distrust) → Contains n.records x → Contains m.records x) → (p : Pair) → IsMember m p → IsMember n p
 member_more m n same more fewer =

@@ -23,17 +23,17 @@ next_skips pairs flags before after n e lowered =
     ∙ ap (λ b. cons_option (cond b (option_map (λ p. p.document) (slice_get pairs n)) None)
     (raised_documents pairs flags after)) lowered)
 
--- whether a count stands for a raised flag
+-- whether a count means a raised flag
 abbrev pub is_counted : ℕ → Bool
 is_counted count = not (count == 0)
 
 -- ---- flags of counts
 
--- There are as many flags as counts.
+-- The number of flags is the number of counts.
 pub length-flags : (counts : List ℕ) → length (flags_of counts) ≡ length counts
 length-flags counts = length-map counts is_counted
 
--- A flag is raised exactly where its count is not 0, also past the end.
+-- A flag is raised exactly if its count is not 0, also past the end.
 pub flag-counted : (counts : List ℕ) (n : ℕ)
     → is_raised (flags_of counts) n ≡ is_counted (count_at counts n)
 flag-counted counts n = elim (cases_lt n (length counts)) [
@@ -42,12 +42,12 @@ flag-counted counts n = elim (cases_lt n (length counts)) [
       ∙ ap is_counted (sym (get_or_past counts n 0 l))
 ]
 
--- A count that stands for a raised flag is above 0.
+-- A count that means a raised flag is above 0.
 counted-positive : (k : ℕ) → is_counted k ≡ true → 0 < k
 counted-positive zero e = absurd (both_ways false refl e)
 counted-positive (suc k) e = omega arith
 
--- A count above 0 stands for a raised flag.
+-- A count above 0 means a raised flag.
 pub positive-counted : (k : ℕ) → 0 < k → is_counted k ≡ true
 positive-counted k l = decide (eqb k 0) refl
   where
@@ -55,17 +55,17 @@ positive-counted k l = decide (eqb k 0) refl
     decide true e = absurd (omega (arith, l, eqb-true k 0 e))
     decide false e = not_from_false (eqb k 0) e
 
--- Where the flag is raised, the count is above 0.
+-- If the flag is raised, the count is above 0.
 pub raised-positive : (counts : List ℕ) (n : ℕ) → is_raised (flags_of counts) n ≡ true
     → 0 < count_at counts n
 raised-positive counts n e = counted-positive (count_at counts n) (sym (flag-counted counts n) ∙ e)
 
--- Where the count is above 0, the flag is raised.
+-- If the count is above 0, the flag is raised.
 pub positive-raised : (counts : List ℕ) (n : ℕ) → 0 < count_at counts n
     → is_raised (flags_of counts) n ≡ true
 positive-raised counts n l = flag-counted counts n ∙ positive-counted (count_at counts n) l
 
--- Where the count is 0, the flag is lowered: so the loops may look at counts alone.
+-- If the count is 0, the flag is lowered: so the loops may look only at counts.
 pub zero-lowered : (counts : List ℕ) (n : ℕ) → count_at counts n ≡ 0
     → is_raised (flags_of counts) n ≡ false
 zero-lowered counts n e = flag-counted counts n ∙ ap is_counted e
@@ -79,7 +79,7 @@ last_kept pairs flags before after n are e =
     let kept = All-pop (λ (k : ℕ). k < length pairs) before after (Some n) e are.within in
     (record { flagged = are.flagged; within = kept.0 }, kept.1)
 
--- The documents with these numbers end with that of the last one, where its flag is raised.
+-- The documents with these numbers end with that of the last one, if its flag is raised.
 documents-last : (pairs : List Pair) (flags : List Bool) (before after : List ℕ) (n : ℕ) → before ≡ after ++ n ∷ []
     → raised_documents pairs flags before ≡ raised_documents pairs flags after ++ raised_documents pairs flags (n ∷ [])
 documents-last pairs flags before after n e =
@@ -99,7 +99,7 @@ last_put : (o : Option Bundle) (ds : List Bundle) (d : Bundle) → Some d ≡ la
 last_put o [] d = refl
 last_put o (x ∷ ds) d = last_put (Some x) ds d
 
--- Where the flag of the last number is raised, its document is the last.
+-- If the flag of the last number is raised, its document is the last.
 pub last_given : (pairs : List Pair) (flags : List Bool) (before after : List ℕ) (n : ℕ) (d : Bundle) → before ≡ after ++ n ∷ []
     → is_raised flags n ≡ true → option_map (λ p. p.document) (slice_get pairs n) ≡ Some d
     → Some d ≡ last_or None (raised_documents pairs flags before)

@@ -1,4 +1,4 @@
--- Sets that are kept as rising lists
+-- Sets that are kept as strictly sorted lists
 use Rattle.std.proofs.Common.{◌≡◌, ℕ, zero, suc, ◌+◌, ◌<◌, ◌≤◌, ◌⊎◌, inl, inr, List, [], ◌∷◌, length, get_or, false}
 use Rattle.std.proofs.Common.{add-one, Less, Equal, Greater, refl, sym, ap, ap₂, ◌∙◌, subst, arith}
 use Rattle.std.specs.Cmp.{IsTotalOrder}
@@ -38,7 +38,7 @@ module _ {X : Type 0} {R : X → X → Ordering} (o : IsTotalOrder R) where
   pub not_again : (x : X) (others : List X) → Below x others → Contains others x → ⊥
   not_again x others h has = not_below_itself x (each_has _ others x h has)
 
-  -- Two rising lists with the same items begin with the same one.
+  -- Two strictly sorted lists with the same items begin with the same one.
   same_first : (x y : X) (others more : List X) → Below x others → Below y more → Contains (y ∷ more) x → Contains (x ∷ others) y → x ≡ y
   same_first x y others more p q there back = elim (contains_cases y more x there) [
     | inl e ↦ sym e
@@ -48,7 +48,7 @@ module _ {X : Type 0} {R : X → X → Ordering} (o : IsTotalOrder R) where
     ]
   ]
 
-  -- Where a list with the same first item has all items, its rest has all of the rest.
+  -- If a list with the same first item has all items, its rest has all of the rest.
   tail_has : (x z : X) (others more : List X) → Below x others
       → ((y : X) → Contains (x ∷ others) y → Contains (x ∷ more) y) → Contains others z → Contains more z
   tail_has x z others more below all has = elim (contains_cases x more z (all z (contains_later x others z has))) [
@@ -56,7 +56,7 @@ module _ {X : Type 0} {R : X → X → Ordering} (o : IsTotalOrder R) where
     | inr there ↦ there
   ]
 
-  -- Two rising lists with the same items are equal: a set is kept as one list.
+  -- Two strictly sorted lists with the same items are equal: a set is kept as one list.
   pub rising_same : (xs ys : List X) → IsStrictlySortedBy R xs → IsStrictlySortedBy R ys
       → ((x : X) → Contains xs x → Contains ys x) → ((x : X) → Contains ys x → Contains xs x) → xs ≡ ys
   unfolding IsStrictlySortedBy
@@ -73,7 +73,7 @@ module _ {X : Type 0} {R : X → X → Ordering} (o : IsTotalOrder R) where
 
   -- ---- one item more
 
-  -- One step of `with_item_has`, for each way the new item stands to the first.
+  -- One step of `with_item_has`, for each order of the new item and the first.
   placed_has : (r : Ordering) (x h y : X) (t longer : List X) → Contains (placed r x h t longer) y
       → (Contains longer y → (x ≡ y) ⊎ Contains t y) → (x ≡ y) ⊎ Contains (h ∷ t) y
   placed_has Less x h y t longer has rest = contains_cases x (h ∷ t) y has
@@ -91,7 +91,7 @@ module _ {X : Type 0} {R : X → X → Ordering} (o : IsTotalOrder R) where
   with_item_has x [] y has = contains_cases x [] y has
   with_item_has x (h ∷ t) y has = placed_has (R x h) x h y t (with_item R x t) has (with_item_has x t y)
 
-  -- One step of `with_item_keeps`, for each way the new item stands to the first.
+  -- One step of `with_item_keeps`, for each order of the new item and the first.
   placed_keeps : (r : Ordering) (x h y : X) (t longer : List X) → Contains (h ∷ t) y → (Contains t y → Contains longer y) → Contains (placed r x h t longer) y
   placed_keeps Less x h y t longer has rest = contains_later x (h ∷ t) y has
   placed_keeps Equal x h y t longer has rest = has
@@ -105,13 +105,13 @@ module _ {X : Type 0} {R : X → X → Ordering} (o : IsTotalOrder R) where
   with_item_keeps x [] y has = absurd (contains_none y has)
   with_item_keeps x (h ∷ t) y has = placed_keeps (R x h) x h y t (with_item R x t) has (with_item_keeps x t y)
 
-  -- One step of `with_item_gets`, for each way the new item stands to the first.
+  -- One step of `with_item_gets`, for each order of the new item and the first.
   placed_gets : (r : Ordering) (x h : X) (t longer : List X) → (r ≡ Equal → x ≡ h) → Contains longer x → Contains (placed r x h t longer) x
   placed_gets Less x h t longer same rest = contains_first x (h ∷ t)
   placed_gets Equal x h t longer same rest = subst (Contains (h ∷ t)) (sym (same refl)) (contains_first h t)
   placed_gets Greater x h t longer same rest = contains_later h longer x rest
 
-  -- The added item is there afterwards, where the order tells apart what differs.
+  -- The added item is there afterwards, if the order distinguishes what differs.
   pub with_item_gets : (x : X) (xs : List X) → ((y : X) → Contains xs y → R x y ≡ Equal → x ≡ y) → Contains (with_item R x xs) x
   with_item_gets x [] exact = contains_first x []
   with_item_gets x (h ∷ t) exact =
@@ -125,7 +125,7 @@ module _ {X : Type 0} {R : X → X → Ordering} (o : IsTotalOrder R) where
   pub turned_less : (x y : X) → R x y ≡ Less → R y x ≡ Greater
   turned_less x y e = o.antisymm y x ∙ ap ordering_reverse e
 
-  -- One step of `with_item_rising`, for each way the new item stands to the first.
+  -- One step of `with_item_rising`, for each order of the new item and the first.
   placed_rising : (r : Ordering) (x h : X) (t longer : List X) → R x h ≡ r → IsStrictlySortedBy R (h ∷ t)
       → IsStrictlySortedBy R longer → ((y : X) → Contains longer y → (x ≡ y) ⊎ Contains t y)
       → IsStrictlySortedBy R (placed r x h t longer)
@@ -141,13 +141,13 @@ module _ {X : Type 0} {R : X → X → Ordering} (o : IsTotalOrder R) where
     rest,
   )
 
-  -- Adding an item keeps a list rising.
+  -- Adding an item keeps a list strictly sorted.
   pub with_item_rising : (x : X) (xs : List X) → IsStrictlySortedBy R xs → IsStrictlySortedBy R (with_item R x xs)
   unfolding IsStrictlySortedBy
   with_item_rising x [] rising = (tt, tt)
   with_item_rising x (h ∷ t) rising = placed_rising (R x h) x h t (with_item R x t) refl rising (with_item_rising x t rising.1) (with_item_has x t)
 
-  -- One step of `with_item_longer`, for each way the new item stands to the first.
+  -- One step of `with_item_longer`, for each order of the new item and the first.
   placed_length : (r : Ordering) (x h : X) (t longer : List X) → length longer ≤ length t + 1 → length (placed r x h t longer) ≤ length t + 2
   placed_length Less x h t longer rest = omega arith
   placed_length Equal x h t longer rest = omega arith
@@ -164,8 +164,8 @@ module _ {X : Type 0} {R : X → X → Ordering} (o : IsTotalOrder R) where
   gap_step : (x h : X) (t longer : List X) (r : Ordering) → R x h ≡ r → placed (R x h) x h t longer ≡ placed r x h t longer
   gap_step x h t longer r e = ap (λ s. placed s x h t longer) e
 
-  -- An item is added by putting it where all before are below it and all after above: so a binary
-  -- search finds its place.
+  -- An item is added by putting it at the place with all before below it and all after above it: so
+  -- a binary search finds its place.
   pub with_item_at : (x : X) (xs : List X) (n : ℕ) → n ≤ length xs → AllWithin (λ y. R y x ≡ Less) xs 0 n
       → AllWithin (λ y. R y x ≡ Greater) xs n (length xs) → with_item R x xs ≡ insert xs n x
   with_item_at x [] zero within before after = refl
@@ -179,13 +179,13 @@ module _ {X : Type 0} {R : X → X → Ordering} (o : IsTotalOrder R) where
       (λ k d low high. after (suc k) d (omega arith) (omega arith)) in
       gap_step x h t (with_item R x t) Greater first ∙ ap (λ ys. h ∷ ys) rest
 
-  -- ---- a rising list is sorted
+  -- ---- a strictly sorted list is sorted
 
-  -- What is above an item is not less than it, in the words of a sorted list.
+  -- What is above an item is not less than it, as a sorted list says it.
   falls_back : (x y : X) → R x y ≡ Less → is_lt (R y x) ≡ false
   falls_back x y below = ap is_lt (turned_less x y below)
 
-  -- Each item of a rising list is not less than the one before it.
+  -- Each item of a strictly sorted list is not less than the one before it.
   sorted_at : (xs : List X) (k : ℕ) (d : X) → IsStrictlySortedBy R xs → suc k < length xs → is_lt (R (get_or xs (suc k) d) (get_or xs k d)) ≡ false
   unfolding IsStrictlySortedBy
   sorted_at [] k d rising below = absurd (omega arith)
@@ -193,11 +193,12 @@ module _ {X : Type 0} {R : X → X → Ordering} (o : IsTotalOrder R) where
   sorted_at (x ∷ y ∷ ys) zero d rising below = falls_back x y rising.0.0
   sorted_at (x ∷ y ∷ ys) (suc k) d rising below = sorted_at (y ∷ ys) k d rising.1 (omega arith)
 
-  -- A rising list is sorted, as the standard library's searches want it.
+  -- A strictly sorted list is sorted, as the standard library's searches want it.
   pub sorted : (xs : List X) → IsStrictlySortedBy R xs → IsSorted R xs
   sorted xs rising k d low below = subst (λ n. is_lt (R (get_or xs n d) (get_or xs k d)) ≡ false) (sym (add-one k)) (sorted_at xs k d rising (omega arith))
 
-  -- In a rising list the items below one that is sought come first, and those above it last.
+  -- In a strictly sorted list the items below one that is sought come first, and those above it
+  -- last.
   pub sought : (xs : List X) (x : X) → IsStrictlySortedBy R xs → IsNonDecreasingBy (λ y. ordering_index (R y x)) xs
   sought xs x rising = searchable_from_sorted o (λ y. y) xs x (sorted xs rising)
 
@@ -219,7 +220,7 @@ module _ {X : Type 0} {R : X → X → Ordering} (o : IsTotalOrder R) where
     ]
   ]
 
-  -- All added items are there afterwards, where the order tells apart what has the property.
+  -- All added items are there afterwards, if the order distinguishes what has the property.
   pub with_items_gets : (P : X → Type 0) → ((x y : X) → P x → P y → R x y ≡ Equal → x ≡ y) → (items set : List X)
       → ((x : X) → Contains items x → P x) → ((x : X) → Contains set x → P x) → (x : X) → Contains items x
       → Contains (with_items R items set) x
@@ -235,7 +236,7 @@ module _ {X : Type 0} {R : X → X → Ordering} (o : IsTotalOrder R) where
         | inr later ↦ with_items_gets P exact items (with_item R i set) (λ y more. all y (contains_later i items y more)) each x later
       ]
 
-  -- Adding many items keeps a list rising.
+  -- Adding many items keeps a list strictly sorted.
   pub with_items_rising : (items set : List X) → IsStrictlySortedBy R set → IsStrictlySortedBy R (with_items R items set)
   with_items_rising [] set rising = rising
   with_items_rising (i ∷ items) set rising = with_items_rising items (with_item R i set) (with_item_rising i set rising)

@@ -21,15 +21,15 @@ first = record { authorities = []; rank = Some 0; hint = None }
 abbrev second : Bundle
 second = record { authorities = []; rank = Some 1; hint = None }
 
--- An absent rank stands below 0.
+-- An absent rank is below 0.
 absent_comes_before_zero : document_cmp unranked first ≡ Less
 absent_comes_before_zero = refl
 
--- A smaller rank stands below a larger one.
+-- A smaller rank is below a larger one.
 zero_comes_before_one : document_cmp first second ≡ Less
 zero_comes_before_one = refl
 
--- A rank stands above an absent one: the order can be turned round.
+-- A rank is above an absent one: the order can be turned round.
 one_comes_behind_absent : document_cmp second unranked ≡ Greater
 one_comes_behind_absent = refl
 
@@ -38,7 +38,7 @@ raised_alone : raised_documents (document_of [] first ∷ document_of [] second 
     (true ∷ false ∷ true ∷ []) (2 ∷ 1 ∷ 0 ∷ []) ≡ unranked ∷ first ∷ []
 raised_alone = refl
 
--- Nothing is gained where nothing changes.
+-- Nothing is gained if nothing changes.
 no_gain : (m : Meaning) → IsGain m m 0
 no_gain m = record {
   items = [];

@@ -15,11 +15,11 @@ use Rattle.closure_core.specs.Changes.{union_of}
 
 -- ---- sets of receipts and of records
 
--- rising lists of receipts are sets
+-- strictly sorted lists of receipts are sets
 pub receipt_sets : AreSets IsReceipt receipt_cmp
 receipt_sets = AreSets-from_total IsReceipt receipt_cmp receipt_total one_receipt
 
--- rising lists of records of distrust are sets
+-- strictly sorted lists of records of distrust are sets
 pub record_sets : AreSets Always distrust_cmp
 record_sets = AreSets-from_total Always distrust_cmp distrust_total (λ x y p q e. one_distrust x y e)
 

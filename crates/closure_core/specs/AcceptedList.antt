@@ -12,7 +12,7 @@ use Rattle.receipt_core.specs.Receipt.{Receipt, Pair, receipt_id_of}
 use Rattle.receipt_core.specs.Acceptance.{Meaning, IsMember, IsPending}
 use Rattle.closure_core.specs.Count.{IsCount}
 
--- documents are ordered by rank, where an absent one stands below 0, and then by the bytes of their
+-- documents are ordered by rank, with an absent one below 0, and then by the bytes of their
 -- canonical texts
 abbrev pub document_cmp : Bundle → Bundle → Ordering
 document_cmp a b = ordering_then (option_cmp nat_cmp a.rank b.rank)
@@ -27,7 +27,7 @@ pub record IsAcceptedList (m : Meaning) (domain : List ℕ) (documents : List Bu
   pub sound : (d : Bundle) → Contains documents d → IsMember m (document_of domain d)
   pub complete : (d : Bundle) → IsMember m (document_of domain d) → Contains documents d
 
--- exactly so many held receipts are vouched for by no accepted document
+-- exactly this many held receipts are vouched for by no accepted document
 abbrev pub IsPendingCount : Meaning → ℕ → Type 0
 IsPendingCount m n = IsCount (IsPending m) n
 

@@ -1,4 +1,4 @@
--- What a caller cites stands in the first five; `Inside` has how what is lent and what is accepted
+-- What a caller cites is in the first five; `Inside` has how what is lent and what is accepted
 -- is known by numbers and flags.
 pub mod Count
 pub mod AcceptedList

@@ -65,7 +65,7 @@ pub record IsOneTooMany (m : Meaning) (r : Receipt) : Type 0 where
   pub unheld : Contains m.held r → ⊥
   pub full : receipt_limit ≤ length m.held
 
--- Nothing else stood in the way, and memory had to be asked for.
+-- Nothing else was in the way, and memory had to be asked for.
 pub record WantsMemory (m : Meaning) (room : Room) (r : Receipt) : Type 0 where
   pub fits : IsFitting m.config r
   pub unheld : Contains m.held r → ⊥
@@ -111,7 +111,7 @@ pub record IsOfConfig (m other : Meaning) : Type 0 where
   pub fitting : (r : Receipt) → Contains other.held r → IsFitting m.config r
   pub domains : (x : Distrust) → Contains other.records x → HasDomain m.config x.domain
 
--- Of what the other holds, a receipt or a record is of a domain unknown here.
+-- A receipt or a record that the other holds is of a domain unknown here.
 abbrev pub HasUnknownDomain : Meaning → Meaning → Type 0
 HasUnknownDomain m other = ((r : Receipt) × Contains other.held r × IsOfUnknownDomain m.config r)
     ⊎ ((x : Distrust) × Contains other.records x × (HasDomain m.config x.domain → ⊥))
@@ -129,7 +129,7 @@ abbrev pub AreTooMany : Meaning → Meaning → Type 0
 AreTooMany m other = (receipt_limit < length (all_receipts m other)) ⊎ (record_limit
     < length (all_records m other))
 
--- Nothing else stood in the way, and a receipt had to be copied.
+-- Nothing else was in the way, and a receipt had to be copied.
 pub record WantsCopies (m other : Meaning) : Type 0 where
   pub of_config : IsOfConfig m other
   pub few : length (all_receipts m other) ≤ receipt_limit

@@ -1,5 +1,5 @@
 //! What every closure does. The trait has one ghost member, `state` (meaning and room). Its
-//! contracts speak in the words of `specs/` alone; each change is one relation by cases on the
+//! contracts use only the definitions of `specs/`; each change is one relation by cases on the
 //! result.
 ghost use Rattle.std.specs.Prelude.{◌≡◌, ℕ, ◌≤◌, ◌↔◌, IsTrue, IsOk, OnOk, IfOk, length};
 ghost use Rattle.std.specs.Prelude.{Contains};
@@ -28,9 +28,9 @@ pub type NoMemory = AllocError;
 /// accepted document vouches for, the receipt's document (SPIFFE Federation, section 5.2, profile
 /// `https_spiffe`).
 ///
-/// A document vouches for a receipt where it is of the endpoint's trust domain, has the voucher's
+/// A document vouches for a receipt if it is of the endpoint's trust domain, has the voucher's
 /// id and an X.509 authority with the receipt's key, and that key is not distrusted in that domain.
-/// A receipt that no accepted document vouches for is pending, and stays held. At most 65,536
+/// A receipt that no accepted document vouches for is pending, and is still held. At most 65,536
 /// receipts and 4,096 records of distrust are held.
 pub trait Closure: Drop {
     ghost use Rattle.receipt_core.specs.Acceptance.{Meaning, IsMeaning, IsMember};
@@ -60,13 +60,13 @@ pub trait Closure: Drop {
     /// Takes a receipt: it is held from now on, whether or not an accepted document vouches for it.
     ///
     /// # Errors
-    /// The receipt comes back, and what is held stays. Of these the first that holds:
+    /// The receipt comes back, and what is held is unchanged. The first of these that holds:
     /// - [`TakeError::UnknownDomain`]: the configuration has no relationship with the receipt's
     ///   domain,
     /// - [`TakeError::WrongEndpoint`]: that relationship has another endpoint,
     /// - [`TakeError::BelowFloor`]: the receipt's document is below the floor of its domain,
     /// - [`TakeError::Full`]: the receipt is not held, and 65,536 are,
-    /// - [`TakeError::NoMemory`]: memory ran out. Never where the receipt and its offers are within
+    /// - [`TakeError::NoMemory`]: memory ran out. Never if the receipt and its offers are within
     ///   [`Closure::room`].
     fn take(&mut self, receipt: Receipt) -> Result<Taken, Refused>
         ensures { Takes (state self.old) receipt (state self.new) result };
@@ -90,8 +90,8 @@ pub trait Closure: Drop {
     /// Distrusts a key in a domain: it vouches for nothing there any more. It takes no memory.
     ///
     /// # Errors
-    /// What is held is as before. Of these the first that holds:
-    /// - [`TakeError::UnknownDomain`]: the domain is none of the configuration,
+    /// What is held is as before. The first of these that holds:
+    /// - [`TakeError::UnknownDomain`]: the domain is not one of the configuration,
     /// - [`TakeError::Full`]: the record is not held, and 4,096 are.
     fn distrust(&mut self, domain: &TrustDomain, key: KeyId) -> Result<Distrusted, TakeError>
         ensures meaning { TakesDistrust (state self.old).meaning
@@ -103,8 +103,8 @@ pub trait Closure: Drop {
         ensures { IsTrue result
             ↔ IsMember (state self.now).meaning (document_of domain.now document.now) };
 
-    /// The accepted documents of the domain, each once, rising by rank, where an absent one comes
-    /// first, and then by canonical text.
+    /// The accepted documents of the domain, each once, sorted by rank, with an absent one first,
+    /// and then by canonical text.
     fn accepted(&self, domain: &TrustDomain) -> Accepted<'_>
         ensures { IsAcceptedList (state self.now).meaning domain.now result };
 
@@ -117,7 +117,7 @@ pub trait Closure: Drop {
     fn receipts_of(&self, bucket: u8) -> Receipts<'_>
         ensures { result ≡ receipts_in bucket (state self.now).meaning.held };
 
-    /// The records of distrust, rising by key id and then by domain.
+    /// The records of distrust, sorted by key id and then by domain.
     fn distrusts(&self) -> Distrusts<'_>
         ensures { result ≡ (state self.now).meaning.records };
 
@@ -142,14 +142,14 @@ pub trait Closure: Drop {
     /// Makes room for this many more receipts, with this many offers together.
     ///
     /// # Errors
-    /// Memory ran out. What is held stays, and there is as much room as before, or more.
+    /// Memory ran out. What is held is unchanged, and there is at least the room of before.
     fn try_reserve(&mut self, receipts: usize, offers: usize) -> Result<(), NoMemory>
         ensures meaning { (state self.new).meaning ≡ (state self.old).meaning }
         ensures room { IsRoomier (state self.old).room (state self.new).room }
         ensures ok { OnOk result
             (IsRoomier (record { receipts = receipts; offers = offers }) (state self.new).room) }
 
-        // It is refused only where there was not so much room already.
+        // It is refused only if there was not this room already.
         ensures within { IsRoomier (record { receipts = receipts; offers = offers })
             (state self.old).room → IsOk result };
 

@@ -1,12 +1,12 @@
 //! Why a closure takes nothing.
 use thiserror::Error;
 
-/// Why a closure refuses. Of several causes the first of this list is returned; `ConfigDiffers`
-/// comes before all others, and `NoMemory` only where no other cause stands.
+/// Why a closure refuses. The first cause of this list that holds is returned; `ConfigDiffers`
+/// comes before all others, and `NoMemory` only if there is no other cause.
 #[derive(Clone, Copy, Debug, PartialEq, Eq, Error)]
 pub enum TakeError {
     /// The configuration has no relationship with the receipt's domain, or the domain of a record
-    /// of distrust is none of the configuration.
+    /// of distrust is not one of the configuration.
     #[error("G1 UnknownDomain")]
     UnknownDomain,
     /// The relationship with the receipt's domain has another endpoint.

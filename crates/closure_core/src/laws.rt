@@ -10,7 +10,7 @@ ghost use Rattle.closure_core.specs.AcceptedList.{IsAcceptedList, IsPendingCount
 
 use std::marker::Brand;
 
-/// A set of documents of domains. A caller's proof picks one where the call passes [`Brand`].
+/// A set of documents of domains. A caller's proof picks one if the call passes [`Brand`].
 pub trait DocumentSet {
     ghost use Rattle.receipt_core.specs.Receipt.{Pair};
 
@@ -21,9 +21,9 @@ impl DocumentSet for Brand {
     ghost has = { λ p. Unit {0} };
 }
 
-/// What is accepted is the least set that has the configured documents and, with a document, that
-/// of each held receipt that it vouches for: it is such a set, and each such set has all of it,
-/// also one that no test decides.
+/// What is accepted is the least set that has the configured documents and, with a document, the
+/// document of each held receipt that it vouches for: it is such a set, and each such set has all
+/// of it, also one that no test decides.
 pub fn least<S: DocumentSet>()
     ensures closed { (m : Meaning) → IsClosed m (IsMember m) }
     ensures least { (m : Meaning) → IsClosed m S.has → (p : Pair) → IsMember m p → S.has p }
@@ -32,7 +32,7 @@ pub fn least<S: DocumentSet>()
 {}
 
 /// With more receipts no less is accepted, and with more records of distrust no more. So what is
-/// accepted depends on the sets alone.
+/// accepted depends only on the sets.
 pub fn larger_and_smaller()
     ensures receipts { (old new : Meaning) → old.config ≡ new.config → old.records ≡ new.records
         → ((r : Receipt) → Contains old.held r → Contains new.held r) → (p : Pair) → IsMember old p
@@ -65,7 +65,7 @@ pub fn one_list()
 {}
 
 /// Two closures may be merged in any order, three in any grouping, and one with itself, which
-/// changes nothing. So replicas of one configuration that merge with each other come to one union.
+/// changes nothing. So replicas of one configuration that merge with each other reach one union.
 pub fn merges()
     ensures order { (m n : Meaning) → IsMeaning m → IsMeaning n → m.config ≡ n.config
         → union_of m n ≡ union_of n m }

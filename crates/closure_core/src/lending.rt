@@ -26,8 +26,8 @@ pub struct Receipts<'a> {
     bucket: Option<u8>,
 }
 
-/// Accepted documents of one domain, each once, rising by rank, where an absent one comes first,
-/// and then by canonical text.
+/// Accepted documents of one domain, each once, sorted by rank, with an absent one first, and then
+/// by canonical text.
 #[derive(Drop)]
 pub struct Accepted<'a> {
     numbers: Numbers<'a>,
@@ -36,7 +36,7 @@ pub struct Accepted<'a> {
     receipts: &'a [Receipt],
 }
 
-/// Records of distrust, rising by key id and then by domain.
+/// Records of distrust, sorted by key id and then by domain.
 #[derive(Drop)]
 pub struct Distrusts<'a> {
     domains: &'a [TrustDomain],
@@ -89,7 +89,7 @@ impl<'a> Receipts<'a> {
     }
 
     /// Those of the receipts that are lent whose id begins with the byte, for those who implement
-    /// [`crate::Closure`]. The id of each receipt is looked at, and computed where it does not keep
+    /// [`crate::Closure`]. The id of each receipt is looked at, and computed if it does not keep
     /// it.
     pub fn of_bucket(lent: Lent<'a, Receipt>, bucket: u8) -> Self
         ensures { result ≡ receipts_in bucket lent.entry }
@@ -122,7 +122,7 @@ impl<'a> Accepted<'a> {
         }
     }
 
-    /// The next document, as [`Iterator::next`] lends it, and its id as one of this domain. Where
+    /// The next document, as [`Iterator::next`] lends it, and its id as one of this domain. If
     /// the documents are of the domain, the ids of most are at hand; any other is computed, which
     /// takes time for each byte of its document.
     pub fn next_with_id(&mut self, domain: &TrustDomain) -> Option<(&'a Document, DocId)>

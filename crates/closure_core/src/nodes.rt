@@ -36,7 +36,7 @@ pub fn domain_at<'a>(seeds: &'a [Seed], receipts: &'a [Receipt], number: usize) 
     }
 }
 
-/// The document with a number, and its id as one of this domain, which is at hand where it is the
+/// The document with a number, and its id as one of this domain, which is at hand if it is the
 /// document's own domain and the document is a receipt's that offers something.
 pub(crate) fn document_with_id<'a>(
     seeds: &'a [Seed],

@@ -20,7 +20,7 @@ use Rattle.receipt_core.specs.Acceptance.{Meaning, IsMember}
 use Rattle.fed_config.specs.Configuration.{domain_cmp}
 use Rattle.sorted_order.specs.Sought.{IsRising, is_equal}
 use Rattle.closure_core.proofs.ContainsFacts.{contains_first, contains_later, contains_cases}
-use Rattle.closure_core.specs.Inside.Flags.{TellsMembers}
+use Rattle.closure_core.specs.Inside.Flags.{ReportsMembers}
 use Rattle.closure_core.specs.Inside.Nodes.{is_raised, raised_document, raised_documents, flags_of}
 use Rattle.closure_parts.specs.Pairs.{pair_cmp, no_documents, pair_at, DocumentTableView, AreRising, numbers_of, raised_of}
 use Rattle.closure_core.specs.AcceptedList.{document_cmp, document_of, IsAcceptedList}
@@ -195,7 +195,7 @@ module _ (pairs : List Pair) (x : List ℕ) where
 
 -- the domain's documents whose flags are raised are its accepted ones
 pub accepted-list : (m : Meaning) (pairs : List Pair) (p : DocumentTableView) (x : List ℕ)
-    → TellsMembers m pairs p.numbers (flags_of p.counts) → AreRising pairs p.numbers
+    → ReportsMembers m pairs p.numbers (flags_of p.counts) → AreRising pairs p.numbers
     → IsAcceptedList m x (raised_of pairs p x)
 accepted-list m pairs p x t rise =
     let test : ℕ → Bool = λ n. is_equal (domain_cmp (pair_at pairs n).domain x) in

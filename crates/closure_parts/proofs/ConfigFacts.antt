@@ -250,7 +250,7 @@ hoard_with : (c : Configuration) (stock : ArenaView Receipt) (buckets : Option S
     → IsWellHeld c stock buckets old → new ≡ old → IsWellHeld c stock buckets new
 hoard_with c stock buckets old new hoard e = subst (IsWellHeld c stock buckets) (sym e) hoard
 
--- What is held stays so after a record was added, was there, or had no place.
+-- What is held is still well held after a record was added, was there, or had no place.
 pub hoard_add : (c : Configuration) (stock : ArenaView Receipt) (buckets : Option Sequence) (old new : List Record) (x : Record)
     → IsWellHeld c stock buckets old → x.domain < length (domains_of c) → IsDigest x.key.0 → (a : Insertion)
     → InsertsRecord old x new a → IsWellHeld c stock buckets new

@@ -35,11 +35,11 @@ module _ (seeds : List Seed) (arrivals : List Receipt) where
       ∙ slice_get-right (map pair_of_seed seeds) (map pair_of arrivals) k
       ∙ slice_get-map_at pair_of arrivals k r at
 
--- Receipts of their form make sets: the order of lines tells them apart.
+-- Receipts of their form make sets: the order of lines distinguishes them.
 receipt-sets : AreSets IsReceipt receipt_cmp
 receipt-sets = AreSets-from_total IsReceipt receipt_cmp receipt_total one_receipt
 
--- Records of distrust make sets: their order tells any two apart.
+-- Records of distrust make sets: their order distinguishes any two.
 pub distrust-sets : AreSets Always distrust_cmp
 distrust-sets = AreSets-from_total Always distrust_cmp distrust_total (λ a b p q. one_distrust a b)
 

@@ -56,7 +56,7 @@ pub picked_all : {X : Type 0} (P : X → Type 0) (items : List X) → AllByRecur
 picked_all P items all [] = tt
 picked_all P items all (n ∷ ns) = cons_all P (slice_get items n) (picked items ns) (get_all P items all n) (picked_all P items all ns)
 
--- The items in order are as many as all items.
+-- The number of items in order is that of all items.
 pub length_in_order : (stock : ArenaView Receipt) → Arranges stock.order (length stock.items) → length (in_order stock) ≡ length stock.items
 length_in_order stock arranged = length-picked stock.items stock.order arranged.within ∙ arranged.counted
 
@@ -183,7 +183,7 @@ bucketed_more c stock buckets newer items records r place spot hoard is missing 
           (with_item_rising bucket_total r (picked stock.items buckets.items) hoard.bucketed.rising);
     }
 
--- What is held stays in order after a receipt is taken.
+-- What is held is still in order after a receipt is taken.
 pub hoard_more : (c : Configuration) (stock new : ArenaView Receipt) (buckets newer : Option Sequence) (records : List Record)
     (r : Receipt) (place : ℕ) → IsWellHeld c stock buckets records → IsReceipt r → IsFitting c r
     → length stock.items < 65536 → IsMissing (λ s. receipt_cmp s r) (in_order stock) place
@@ -271,7 +271,7 @@ unfolding IsStrictlySortedBy
 one_bucket b [] all rising = tt
 one_bucket b (x ∷ xs) all rising = (below_one b x xs all.0 all.1 rising.0, one_bucket b xs all.1 rising.1)
 
--- What is in the rest stays when an item is added or not.
+-- What is in the rest remains, whether an item is added or not.
 cond_later : {X : Type 0} (b : Bool) (x y : X) (rest : List X) → Contains rest y → Contains (cond b (x ∷ rest) rest) y
 cond_later true x y rest has = contains_later x rest y has
 cond_later false x y rest has = has

@@ -312,10 +312,10 @@ grown_next start now new all x (Ok NoPlace) among h grown = absurd h
 grown_next start now new all x (Err why) among h grown = stays_as start now new all h.1 grown
 
 -- If fewer may come than at the start, one of all is new. Otherwise all were held.
-pub grown_tells : (start now : Meaning) (all : List Distrust) (before after limit : ℕ) → HasGrown start all now
+pub grown_states : (start now : Meaning) (all : List Distrust) (before after limit : ℕ) → HasGrown start all now
     → now ≡ record start { records = with_items distrust_cmp all start.records } → length start.records + before ≡ limit
     → length now.records + after ≡ limit → MatchBool (ltb after before) (HasNewRecord start all) (AreOld start all)
-grown_tells start now all before after limit grown held left left_now = by_cases (ltb after before) refl
+grown_states start now all before after limit grown held left left_now = by_cases (ltb after before) refl
   where
     by_cases : (more : Bool) → ltb after before ≡ more → MatchBool more (HasNewRecord start all) (AreOld start all)
     by_cases true e = elim grown [
@@ -400,7 +400,7 @@ with_item_sum : {X : Type 0} (f : X → ℕ) (cmp : X → X → Ordering) (x : X
 with_item_sum f cmp x [] e = omega (arith, sum_by-cons f x [])
 with_item_sum f cmp x (h ∷ t) e = placed_sum f (cmp x h) x h t (with_item cmp x t) e (with_item_sum f cmp x t)
 
--- with these receipts a set is longer by at most as many
+-- with these receipts a set is longer by at most their number
 with_items_longest : (items held : List Receipt) → length (with_items receipt_cmp items held) ≤ length held + length items
 with_items_longest [] held = omega arith
 with_items_longest (r ∷ items) held =

@@ -69,7 +69,7 @@ abbrev pub IsLacking : {X : Type 0} → List X → List X → ℕ → Type 0
 IsLacking set [] n = n ≡ 0
 IsLacking set (x ∷ xs) n = (Contains set x × IsLacking set xs n) ⊎ ((Contains set x → ⊥) × ((m : ℕ) × (n ≡ m + 1) × IsLacking set xs m))
 
--- Sets that have the same of these items lack the same number of them.
+-- Sets with the same ones among these items lack the same number of them.
 IsLacking-other : {X : Type 0} (set more xs : List X) (n : ℕ)
     → ((x : X) → Contains xs x → Contains set x ↔ Contains more x) → IsLacking set xs n → IsLacking more xs n
 IsLacking-other set more [] n same lacking = lacking
@@ -80,7 +80,7 @@ IsLacking-other set more (x ∷ xs) n same lacking =
       | inr h ↦ inr (λ has. h.0 (here.1 has), (h.1.0, h.1.1, IsLacking-other set more xs h.1.0 (λ y has. same y (contains_later x xs y has)) h.1.2))
     ]
 
--- Adding items makes a set larger by as many as it lacked.
+-- Adding items makes a set larger by the number of those it lacked.
 lacking_count : {X : Type 0} (P : X → Type 0) (cmp : X → X → Ordering) → AreSets P cmp → (xs set : List X) (n : ℕ)
     → AllByRecursion P xs → AllByRecursion P set → IsStrictlySortedBy cmp xs → IsStrictlySortedBy cmp set
     → IsLacking set xs n → length (with_items cmp xs set) ≡ length set + n
@@ -255,7 +255,7 @@ IsCause c all rest (Some WrongEndpoint) = (r : Receipt) × Contains all r × IsO
 IsCause c all rest (Some BelowFloor) = IsPassed (λ r. IsOfWrongEndpoint c r → ⊥) all rest × ((r : Receipt) × Contains all r × IsBelowFloor c r)
 IsCause c all rest (Some why) = ⊥
 
--- What holds of each item that is passed, in other words.
+-- If a property holds of each item that is passed, so does one that follows from it.
 passed_as : {X : Type 0} (P Q : X → Type 0) (all rest : List X) → ((x : X) → P x → Q x) → IsPassed P all rest → IsPassed Q all rest
 passed_as P Q all rest turn passed = record {
   within = passed.within;

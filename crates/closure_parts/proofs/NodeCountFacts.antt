@@ -290,8 +290,8 @@ pub counts-from_zero : (heads nodes zeros counts : List ℕ) → ((n : ℕ) → 
     → AddsNodes heads nodes zeros counts → AreCounts heads nodes counts
 counts-from_zero heads nodes zeros counts none adds n = omega (arith, none n, adds.each n)
 
--- One count is set. As many counts are not 0 as before if both values are 0 or neither is, one more
--- if 0 has risen, and one fewer if it has fallen to 0.
+-- One count is set. The number of counts that are not 0 is the same if both values are 0 or neither
+-- is, one more if 0 has risen, and one fewer if it has fallen to 0.
 module _ (counts : List ℕ) (number value : ℕ) (l : number < length counts) where
   -- What one count that is set does to the number of those that are not 0: the three lemmas below
   -- are its cases.
@@ -305,7 +305,7 @@ module _ (counts : List ℕ) (number value : ℕ) (l : number < length counts) w
     ap {B = ℕ} (λ b. cond b 1 0) f,
   )
 
-  -- Neither is 0: as many as before.
+  -- Neither is 0: the same number.
   pub count-stays : 0 < count_at counts number → 0 < value
       → raised_count (flags_of (set counts number value)) ≡ raised_count (flags_of counts)
   count-stays some still = omega (

@@ -346,7 +346,7 @@ pairing-more pairs old new q number first h form e puts heads counts =
           ];
     }
 
--- Other counts, as many, leave each pair its number.
+-- The same number of other counts leaves each pair its number.
 pub pairing-counts : (pairs : List Pair) (p q : DocumentTableView) → IsDocumentTable pairs p → q.numbers ≡ p.numbers
     → q.heads ≡ p.heads → length q.counts ≡ length p.counts → IsDocumentTable pairs q
 pairing-counts pairs p q h numbers heads counts =

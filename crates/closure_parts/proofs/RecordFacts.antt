@@ -30,7 +30,7 @@ use Rattle.std.proofs.lemmas.List.Edits.{length-insert}
 pub record_total : IsTotalOrder record_cmp
 record_total = then_total (on_texts (λ (r : Record). r.key.0)) (on_total (λ (r : Record). r.domain) nat_cmp_total)
 
--- the order tells records apart
+-- the order distinguishes records
 pub one_record : (a b : Record) → record_cmp a b ≡ Equal → a ≡ b
 one_record a b h =
     let parts = both_equal (key_cmp a.key b.key) _ h in

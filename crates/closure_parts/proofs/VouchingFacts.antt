@@ -61,7 +61,7 @@ module _ {A : Type 0} (cmp : A → A → Ordering) (item : A) where
   placed-new Equal head rest longer exact c = subst (Contains (head ∷ rest)) (sym (exact refl)) (contains_first head rest)
   placed-new Greater head rest longer exact c = contains_later head longer item c
 
-  -- The added item is there if the order tells apart what differs.
+  -- The added item is there if the order distinguishes what differs.
   pub with_item-new : ((other : A) → cmp item other ≡ Equal → item ≡ other) → (set : List A) → Contains (with_item cmp item set) item
   with_item-new exact [] = contains_first item []
   with_item-new exact (head ∷ rest) = placed-new (cmp item head) head rest (with_item cmp item rest) (exact head) (with_item-new exact rest)

@@ -90,9 +90,9 @@ pub record IsAbsent (m : Meaning) (r : Receipt) (place : ℕ) : Type 0 where
   pub few : length m.held < receipt_limit
   pub missing : IsMissing (λ s. receipt_cmp s r) m.held place
 
-abbrev pub Stands : Meaning → Receipt → Lookup → Type 0
-Stands m r Present = Contains m.held r
-Stands m r (Absent place) = IsAbsent m r place
+abbrev pub IsPlaced : Meaning → Receipt → Lookup → Type 0
+IsPlaced m r Present = Contains m.held r
+IsPlaced m r (Absent place) = IsAbsent m r place
 
 abbrev pub RefusesNew : Meaning → Receipt → TakeError → Type 0
 RefusesNew m r UnknownDomain = IsOfUnknownDomain m.config r

@@ -41,7 +41,7 @@ pub(crate) fn plan_merge(held: &Held, other: &Held) -> Result<MergePlan, TakeErr
     }
 }
 
-/// Whether all may be taken in, but for memory.
+/// Whether all may be taken in, except for memory.
 fn judge(held: &Held, other: &Held) -> Result<(), TakeError>
     ensures { MatchResult result (λ _. IsMergeable (meaning_of held.now) (meaning_of other.now))
         (RefusesMerge (meaning_of held.now) (meaning_of other.now)) }

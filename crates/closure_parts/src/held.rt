@@ -6,7 +6,7 @@ ghost use Rattle.fed_config.specs.Configuration.{IsConfiguration};
 ghost use Rattle.receipt_core.specs.Receipt.{IsReceipt, with_receipt};
 ghost use Rattle.receipt_core.specs.Acceptance.{IsFitting, IsMeaning};
 ghost use Rattle.closure_core.specs.Refusals.{RefusesFit};
-ghost use Rattle.closure_parts.specs.Held.{HeldReceipts, meaning_of, IsAbsent, Stands};
+ghost use Rattle.closure_parts.specs.Held.{HeldReceipts, meaning_of, IsAbsent, IsPlaced};
 ghost use Rattle.closure_parts.specs.Held.{IsDistrustedIn};
 ghost use Rattle.closure_parts.specs.Held.{RefusesNew};
 ghost use Rattle.closure_parts.specs.Held.{AddsOrRefuses, addition_result};
@@ -100,9 +100,9 @@ impl Held {
     ///
     /// # Errors
     /// The receipt does not fit, and why [`check_fit`] says. Or it
-    /// is not held, and there are as many as there may be: `Full`.
+    /// is not held, and there may be no more: `Full`.
     pub fn standing(&self, receipt: &Receipt) -> Result<Lookup, TakeError>
-        ensures { MatchResult result (Stands (meaning_of self.now) receipt.now)
+        ensures { MatchResult result (IsPlaced (meaning_of self.now) receipt.now)
             (RefusesNew (meaning_of self.now) receipt.now) }
     {
         if let Err(why) = check_fit(&self.config, receipt) {
@@ -122,7 +122,7 @@ impl Held {
         self.domain_hint(receipt.domain())
     }
 
-    /// The same of the domain.
+    /// The same for the domain.
     pub fn domain_hint(&self, domain: &TrustDomain) -> u32 {
         let _domains = self.config.domains();
         match self.config.domain_no(domain) {
@@ -185,7 +185,7 @@ impl Held {
     ///
     /// # Errors
     /// The domain is not one of the configuration (`UnknownDomain`), or the record is new, and
-    /// there are as many as there may be (`Full`). Nothing has changed then.
+    /// there may be no more (`Full`). Nothing has changed then.
     pub fn add_record(&mut self, domain: &TrustDomain, key: KeyId) -> Result<Insertion, TakeError>
         ensures meaning { AddsOrRefuses (meaning_of self.old)
             (record { domain = domain.now; key = key }) (meaning_of self.new) result }

@@ -20,15 +20,15 @@ const NUMBER_BITS: u32 = 18;
 /// document's text differs from that of the first receipt that was held, then by the four bytes
 /// from there on, and then by the number at the text's end. The first bytes of a text say little,
 /// since most texts begin alike. Texts that differ from the first one at the same place mostly have
-/// the same keys, so their sequence numbers tell them apart.
+/// the same keys, so their sequence numbers distinguish them.
 pub(crate) fn receipt_hint(held: &[Receipt], receipt: &Receipt) -> u64 {
     match held.first() {
-        Some(first) => hint_beside(first.document().canonical(), receipt.document().canonical()),
+        Some(first) => hint_next(first.document().canonical(), receipt.document().canonical()),
         None => MIDDLE,
     }
 }
 
-fn hint_beside(first: &[u8], text: &[u8]) -> u64 {
+fn hint_next(first: &[u8], text: &[u8]) -> u64 {
     let nothing = Agreed {
         before: 0,
         after: 0,

@@ -20,7 +20,7 @@ pub enum Insertion {
     Full,
 }
 
-/// Records of distrust in their order, with room for as many as there may be.
+/// Records of distrust in their order, with room for 4,096.
 #[derive(Drop)]
 pub(crate) struct Records {
     items: Vec<Record>,

@@ -43,8 +43,8 @@ pub trait Mergeable {
         ensures takes { Takes (state self.old) receipt (state self.new) result }
         ensures same_work { work_done self.new ≡ work_done self.old };
 
-    /// Distrusts keys in domains of the configuration, as many as there may be. It takes no work if
-    /// none of the records is new.
+    /// Distrusts keys in domains of the configuration, no more than may be held. It takes no work
+    /// if none of the records is new.
     fn distrust_all(&mut self, records: Distrusts<'_>)
         requires { AreKnown (state self.old).meaning records }
         ensures meaning { (state self.new).meaning ≡ record (state self.old).meaning
@@ -96,7 +96,7 @@ pub fn merge_into<C: Mergeable>(closure: &mut C, other: &C) -> Result<usize, Tak
     Ok(count)
 }
 
-/// Holds records of distrust in domains of the configuration, as many as there may be, and returns
+/// Holds records of distrust in domains of the configuration, no more than may be held, and returns
 /// whether one of them is new. It takes no memory.
 pub fn hold_all(held: &mut Held, records: Distrusts<'_>) -> bool
     requires { AreKnown (meaning_of held.old) records }

@@ -32,7 +32,7 @@ pub(crate) fn answer_to_record<C: Closure>(here: &mut C, record: &Distrust) -> A
     }
 }
 
-/// Writes an answer, with the words for the number of documents after it.
+/// Writes an answer, with the text for the number of documents after it.
 pub(crate) fn say(answer: Answer, documents: &str, out: &mut String) -> Result<(), AllocError> {
     match answer {
         Ok(Some(number)) => writeln!(out, "{number} {documents}"),
@@ -76,7 +76,7 @@ pub(crate) fn distrust<C: Closure>(
 
 /// `merge`: the replica here takes what the other one holds.
 pub(crate) fn merge<C: Closure>(pair: &mut Pair<C>, out: &mut String) -> Result<(), RowFault> {
-    match pair.here.merge(&pair.beside) {
+    match pair.here.merge(&pair.with_it) {
         Ok(new) => writeln!(out, "{new} new")?,
         Err(error) => writeln!(out, "{error}")?,
     }

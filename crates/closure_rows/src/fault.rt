@@ -1,4 +1,4 @@
-//! Why a row comes to nothing.
+//! Why a row has no result.
 use bundle_doc::DocError;
 use bundle_view::ReportError;
 use fed_config::ConfigError;
@@ -8,14 +8,14 @@ use spiffe_name::NameError;
 use std::alloc::AllocError;
 use thiserror::Error;
 
-/// Why a row comes to nothing: a text that its call does not read, or a word that is not one of its
-/// own.
+/// Why a row has no result: a text that its call does not read, or an argument that is not one of
+/// its own.
 #[derive(Clone, Copy, Debug, Error)]
 pub(crate) enum RowFault {
     /// The verb is not one of this program.
     #[error("unknown verb")]
     UnknownVerb,
-    /// A word is not one that the verb takes, or names no text.
+    /// An argument is not one that the verb takes, or names no text.
     #[error("unknown word")]
     UnknownWord,
     /// Memory ran out.

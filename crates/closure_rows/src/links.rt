@@ -41,7 +41,7 @@ impl Chain<'_> {
     }
 }
 
-/// The chain that a row names by `DOMAIN ENDPOINT KEY`, and what comes after these words.
+/// The chain that a row names by `DOMAIN ENDPOINT KEY`, and what comes after these arguments.
 fn chain_of<'a>(
     alloc: Global,
     script: &Script,
@@ -189,7 +189,7 @@ pub(crate) fn prepared<C: Closure>(
 
 /// `reserved DOMAIN ENDPOINT KEY FIRST LAST = DOCUMENT`: the same, and then takes these receipts
 /// and distrusts a hundred keys that nothing has. After the reservation it asks for memory only for
-/// what it tells.
+/// what it reports.
 pub(crate) fn reserved<C: Closure>(
     alloc: Global,
     script: &Script,

@@ -11,7 +11,7 @@ use std::alloc::{AllocError, Global};
 #[derive(Drop)]
 pub(crate) struct Pair<C> {
     pub(crate) here: C,
-    pub(crate) beside: C,
+    pub(crate) with_it: C,
 }
 
 /// What rows leave to the next ones: replicas over each kind of closure, and a log of polls. Which
@@ -45,11 +45,11 @@ impl<I: Closure, E: Closure, P: Closure> World<I, E, P> {
 
 fn two_replicas<C: Closure>(alloc: Global, config: &Config) -> Result<Pair<C>, AllocError> {
     let here = C::new(alloc, config)?;
-    let beside = C::new(alloc, config)?;
-    Ok(Pair { here, beside })
+    let with_it = C::new(alloc, config)?;
+    Ok(Pair { here, with_it })
 }
 
-/// Makes a replica of the configuration of that name, after the word that says over which
+/// Makes a replica of the configuration of that name, after the argument that says over which
 /// closures, which is here from now on.
 pub(crate) fn make<C: Closure>(
     alloc: Global,
@@ -68,5 +68,5 @@ pub(crate) fn make<C: Closure>(
 
 /// Swaps the two replicas.
 pub(crate) fn swap<C: Closure>(pair: &mut Pair<C>) {
-    std::mem::swap(&mut pair.here, &mut pair.beside);
+    std::mem::swap(&mut pair.here, &mut pair.with_it);
 }

@@ -1,4 +1,4 @@
-//! The words of a row's head.
+//! The arguments of a row.
 use crate::fault::RowFault;
 use jiff::Timestamp;
 use jwk_set::KeyId;

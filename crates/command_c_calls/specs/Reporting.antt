@@ -1,4 +1,4 @@
--- What the lines of a text come to, under a configuration that is bytes too.
+-- What the lines of a text result in, under a configuration that is bytes too.
 use Rattle.std.specs.Prelude.{◌≡◌, ℕ, List, length}
 use Rattle.byte_lines.specs.Lines.{lines_of}
 use Rattle.fed_config.specs.Configuration.{Configuration}
@@ -6,7 +6,7 @@ use Rattle.fed_config.specs.Reading.{IsConfig, RefusesConfigBytes}
 use Rattle.receipt_core.specs.Receipt.{Receipt}
 use Rattle.bundle_view.specs.Report.{IsReport}
 use Rattle.fedbundle.specs.Report.{meaning_of_receipts}
-use Rattle.fedbundle.specs.Stream.{AreTaken, OverfillStore, Complaint, AreComplaints}
+use Rattle.fedbundle.specs.Stream.{AreTaken, OverfillStore, NumberedError, AreLineErrors}
 use Rattle.replica_c_calls.specs.declared.call_error.CallError.{CallError}
 use Rattle.replica_c_calls.specs.declared.call_error.CallError.TheVariants.{Config, Full, NoMemory}
 use Rattle.command_c_calls.specs.declared.reported_lines.ReportedLines.{ReportedLines}
@@ -17,9 +17,9 @@ pub record ReportsLineText (c : Configuration) (text : List ℕ)
   pub receipts : List Receipt
   pub taken : AreTaken c (lines_of text).whole receipts
   pub report : IsReport (meaning_of_receipts c receipts) reported.report.items
-  pub complaints : List Complaint
-  pub all : AreComplaints c (lines_of text) complaints
-  pub counted : reported.refused ≡ length complaints
+  pub line_errors : List NumberedError
+  pub all : AreLineErrors c (lines_of text) line_errors
+  pub counted : reported.refused ≡ length line_errors
 
 -- More receipts fit than are held, or memory ran out.
 abbrev pub RefusesLineText : Configuration → List ℕ → CallError → Type 0

@@ -40,8 +40,8 @@ fn report_text(alloc: Global, config: &Config, lines: &[u8]) -> Result<ReportedL
 {
     let mut source = source_of(alloc, lines)?;
     let mut sink = GrowingSink::new(alloc);
-    let mut complaints = DiscardingSink;
-    match run_report(alloc, config, &mut source, &mut sink, &mut complaints) {
+    let mut line_errors = DiscardingSink;
+    match run_report(alloc, config, &mut source, &mut sink, &mut line_errors) {
         Ok(refused) => Ok(ReportedLines {
             report: sink.into_text(),
             refused,

@@ -1,11 +1,12 @@
-//! A second look at files and input that were refused: what is wrong in them, and where.
+//! A second look at files and input that were refused: what is wrong in them, and at which place.
 use crate::reasons::state_path;
 use bundle_doc::{Document, MAX_DOCUMENT_BYTES};
 use byte_lines::{FromRead, read_up_to};
+use command_exits::CommandError;
+use command_line::{Call, OptionName, given};
 use command_streams::{options, quoted, say, shown, words_of};
 use fault_view::{Flaw, FlawPlace, FoundFlaw, UrlFlaw, find_flaw, is_ignored, json_fault};
 use fed_config::{Config, ConfigError};
-use fedbundle::{Call, CommandError, OptionName, given};
 use progress_line::ProgressMode;
 use replica_core::SyncError;
 use serde_json::Value;
@@ -43,7 +44,7 @@ fn say_unread(
 
 // ---- configurations
 
-/// Says where the configuration in the file is wrong, and returns whether it is.
+/// Says at which place the configuration in the file is wrong, and returns whether it is.
 pub(crate) fn say_config(
     rt: &HostRuntime,
     option: OptionName,
@@ -99,7 +100,9 @@ fn say_no_json(rt: &HostRuntime, lead: &str, bytes: &[u8]) -> Result<(), AllocEr
         let (line, column) = (fault.line, fault.column);
         say(
             rt,
-            format!(in rt.alloc(); "{lead}: no JSON at line {line}, column {column}")?.as_str(),
+            format!(in rt.alloc();
+                "{lead}: invalid JSON at line {line}, column {column}"
+            )?.as_str(),
         );
     }
     say_beginning(rt, lead, bytes)
@@ -241,7 +244,7 @@ fn say_ignored(rt: &HostRuntime, bundle: &Value) -> Result<(), AllocError> {
 
 // ---- states
 
-/// Which state or stream is refused, and where.
+/// Which state or stream is refused, and at which place.
 pub(crate) fn say_state(
     rt: &HostRuntime,
     call: &Call<'_>,

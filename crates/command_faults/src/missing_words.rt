@@ -1,6 +1,7 @@
 //! Arguments that clap takes and that are not a call: what is missing.
+use command_exits::Exit;
+use command_line::{OptionName, command_of};
 use command_streams::{is_verbose_unasked, print_exit, say};
-use fedbundle::{Exit, OptionName, command_of};
 use std::alloc::AllocError;
 
 /// Reports that the arguments are not a call, and what is missing, and returns the exit status.
@@ -37,12 +38,12 @@ fn say_lack(rt: &HostRuntime, words: &[&str]) -> Result<(), AllocError> {
 
 // What is wrong with an option among the arguments.
 fn lack_of<'a>(words: &[&str], option: OptionName, has_at: bool) -> Option<&'a str> {
-    let stands = has_option(words, option);
+    let placed = has_option(words, option);
     if has_at && option.is_place() {
-        return stands.then_some("may not stand beside --at");
+        return placed.then_some("may not stand beside --at");
     }
     let may_lack = option.may_be_left_out() || option.is_flag();
-    (!stands && !may_lack).then_some("is missing")
+    (!placed && !may_lack).then_some("is missing")
 }
 
 fn has_option(words: &[&str], option: OptionName) -> bool {

@@ -2,12 +2,11 @@
 //! the part of it that is wrong. An error keeps no more than numbers, so this looks a second time
 //! at what the command was given, and only if these lines are wanted.
 use crate::fault_places::{say_bundle, say_config, say_state, say_stream};
+use command_exits::{CommandError, Exit, Step, SystemFault, status};
+use command_line::{Call, CommandName, OptionName, given};
 use command_streams::options::{address, config, known_address, may_listen};
 use command_streams::{is_verbose_for, print_exit, quoted, say, shown, words_of};
 use fed_config::Config;
-use fedbundle::{
-    Call, CommandError, CommandName, Exit, OptionName, Step, SystemFault, given, status,
-};
 use spiffe_name::{NameError, SpiffeId, TrustDomain};
 use std::alloc::{AllocError, Global};
 use std::io;
@@ -30,7 +29,7 @@ pub fn status_of(rt: &HostRuntime, call: &Call<'_>, done: Result<u8, Exit>) -> u
     }
 }
 
-/// The same of a command that was given these bytes as a bundle.
+/// The same for a command that was given these bytes as a bundle.
 pub fn status_of_bundle(
     rt: &HostRuntime,
     call: &Call<'_>,

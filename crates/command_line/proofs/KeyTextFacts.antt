@@ -18,7 +18,7 @@ pub decoded_key : (text out bytes : List ℕ) (r : Result (Unit {0}) FromHexErro
     → MatchResult (decode_sized text 32) (λ found. (r ≡ Ok tt) × (out ≡ found)) (λ e. r ≡ Err e)
     → length bytes ≡ 32 → IsBytes bytes → encode_lower bytes ≡ text → (r ≡ Ok tt) × (out ≡ bytes)
 decoded_key text out bytes r h size octets e =
-    let told : decode_sized text 32 ≡ Ok bytes =
+    let stated : decode_sized text 32 ≡ Ok bytes =
     ap (λ t. decode_sized t 32) (sym e) ∙ by_pairs (encode_lower bytes) (sized bytes size)
     ∙ decode_pairs-encode_with lower_digits IsDigits-lower_digits 0 bytes octets in
-    subst (λ x. MatchResult x (λ found. (r ≡ Ok tt) × (out ≡ found)) (λ e. r ≡ Err e)) told h
+    subst (λ x. MatchResult x (λ found. (r ≡ Ok tt) × (out ≡ found)) (λ e. r ≡ Err e)) stated h

@@ -10,10 +10,10 @@ use Rattle.command_line.specs.Sessions.{IsSessions}
 whole : {E : Type 0} (n : ℕ) (text : List ℕ) (r : Result ℕ E) → ParsesUnsigned 32 10 text r → IsSessions text n → r ≡ Ok n
 whole n text r h is = parse-decimal 32 n text r (omega (arith, is.2)) (omega (arith, is.2)) is.0 h
 
--- a text that does not parse is no number of sessions
+-- a text that does not parse is not a number of sessions
 pub not_parsed : {E : Type 0} (n : ℕ) (text : List ℕ) (r : Result ℕ E) → false ≡ is_ok r → ParsesUnsigned 32 10 text r → IsSessions text n → ⊥
 not_parsed n text r none h is = let w = whole n text r h is in cc (ap is_ok w)
 
--- a text that parses is no other number of sessions than what it parses to
+-- a text that parses is only the number of sessions that it parses to
 pub parsed : {E : Type 0} (n x : ℕ) (text : List ℕ) (r : Result ℕ E) → Some x ≡ result_ok r → ParsesUnsigned 32 10 text r → IsSessions text n → x ≡ n
 parsed n x text r some h is = let w = ap result_ok (whole n text r h is) in cc

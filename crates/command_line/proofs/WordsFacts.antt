@@ -1,4 +1,4 @@
--- Building the command, and what it takes out of words
+-- Building the command, and what it reads from arguments
 use Rattle.std.proofs.Common.{rules, ◌≡◌, ℕ, ◌+◌, ◌<◌, Bool, true, false, ◌&&◌, not, List, [], ◌∷◌, ◌++◌, map, length}
 use Rattle.std.proofs.Common.{get_or, drop, take, drop-cons, add-one, fold, Option, Some, None, is_some, option_map, unwrap_or, refl}
 use Rattle.std.proofs.Common.{sym, ap, ◌∙◌, append_assoc, subst, inl, inr}
@@ -36,7 +36,7 @@ texts_more g xs k x low is o n t e found =
     ∙ append_assoc o (t ∷ []) (map g (drop (k + 1) xs)) ∙ (λ i. o ++ (sym found i ∷ map g (drop (k + 1) xs)))
     ∙ ap (λ ys. o ++ map g ys) (sym (next_at xs k x low is))
 
--- the option whose text was looked up has a text just where the rows give it one
+-- the option whose text was looked up has a text exactly if the rows give it one
 pub has_text : {X : Type 0} (f : X → Text) (o : Option X) (t : Option Text) → option_map f o ≡ t → is_some t ≡ is_some o
 has_text f None t e = ap is_some (sym e)
 has_text f (Some x) t e = ap is_some (sym e)
@@ -83,7 +83,7 @@ plain_leaf command.Pull = refl
 plain_leaf command.Replica = refl
 plain_leaf command.Stop = refl
 
--- the command is a simple one, and of such alone clap's contract says what is read of words
+-- the command is a simple one: only for such a one clap's contract says what is read of arguments
 pub simple_command : is_simple the_command ≡ true
 simple_command = refl
 
@@ -103,11 +103,12 @@ pub no_parts : {B : Type 0} (name : B → Text) (rows : B → List Row) (o : Opt
 no_parts name rows None e = refl
 no_parts name rows (Some b) e = absurd (cc)
 
--- no option has a rule on another, and of such a command alone clap's contract says at which words it gives an error
+-- no option has a rule on another: only for such a command clap's contract says at which arguments
+-- it gives an error
 pub free_command : is_simple_and_free the_command ≡ true
 free_command = refl
 
--- each word of a subcommand names it
+-- the text of each subcommand names it
 pub named_text : (name : CommandName) → named (name_text name) ≡ Some name
 named_text command.Canon = refl
 named_text command.Config = refl
@@ -130,11 +131,11 @@ named_text command.Pull = refl
 named_text command.Replica = refl
 named_text command.Stop = refl
 
--- two subcommands have two words
+-- two subcommands have two texts
 pub one_name : (m n : CommandName) → name_text m ≡ name_text n → m ≡ n
 one_name m n e = ap (λ o. unwrap_or o m) (sym (named_text m) ∙ ap named e ∙ named_text n)
 
--- clap's error, with its kind, is what words are refused for, unless memory ran out
+-- clap's error, with its kind, is what arguments are refused for, unless memory ran out
 pub refused_words : (place : WordsPlace) (words : List Text) (error : Error) (why : WordsError) → HasKind (fault_of the_command words) error
     → KeepsKind error why → (kind_of error ≡ OutOfMemory → why ≡ NoMemory) → RefusesWords place words why
 refused_words place words error (Words refused) (inl memory) kind lacks = (let clash = lacks memory in absurd (cc))
@@ -142,7 +143,7 @@ refused_words place words error (Words refused) (inr among) kind lacks = subst (
 refused_words place words error Usage has kind lacks = absurd kind
 refused_words place words error NoMemory has kind lacks = search rules
 
--- no subcommand is named that has all that it wants, so the words are no call
+-- no subcommand is named that has all that it needs, so the arguments are not a call
 pub no_call : (place : WordsPlace) (words : List Text) → fault_of the_command words ≡ []
     → ((name : CommandName) (rows : List Row) → subcommand_of the_command words ≡ Some (name_text name, rows)
     → list_all (is_settled_in place rows) (options_of name) ≡ true → ⊥) → IsNoCall place words
@@ -152,7 +153,7 @@ pub no_subcommand : (place : WordsPlace) (words : List Text) → fault_of the_co
     → IsNoCall place words
 no_subcommand place words taken none = no_call place words taken (λ name rows entered settled. let clash = sym none ∙ entered in cc)
 
--- both are what was read of the same words
+-- both are what was read of the same arguments
 same_word : (o : Option (Text × List Row)) (v w : Text) (r s : List Row) → o ≡ Some (v, r) → o ≡ Some (w, s) → v ≡ w
 same_word o v w r s e f = ap (λ p. let q : Text × List Row = unwrap_or p (v, r) in q.0) (sym e ∙ f)
 

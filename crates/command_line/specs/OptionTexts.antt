@@ -22,16 +22,16 @@ use Rattle.command_line.specs.declared.option_texts.BundleFormat.TheVariants.{Js
 use Rattle.command_line.specs.declared.option_texts.OutputForm.{OutputForm}
 use Rattle.command_line.specs.declared.option_texts.OutputForm.TheVariants as output
 
--- the text beside the first option of this name
-abbrev pub said_beside : List OptionName → List (Option (List ℕ)) → OptionName → Option (List ℕ)
-said_beside [] texts option = None
-said_beside (o ∷ os) [] option = None
-said_beside (o ∷ os) (text ∷ texts) option =
-    if bytes_eq (option_text o) (option_text option) then text else said_beside os texts option
+-- the text at the place of the first option of this name
+abbrev pub said_with : List OptionName → List (Option (List ℕ)) → OptionName → Option (List ℕ)
+said_with [] texts option = None
+said_with (o ∷ os) [] option = None
+said_with (o ∷ os) (text ∷ texts) option =
+    if bytes_eq (option_text o) (option_text option) then text else said_with os texts option
 
--- the text of the subcommand's option, where the words give it one
+-- the text of the subcommand's option, if the arguments give it one
 abbrev pub option_said : CommandName → List (Option (List ℕ)) → OptionName → Option (List ℕ)
-option_said name texts option = said_beside (options_of name) texts option
+option_said name texts option = said_with (options_of name) texts option
 
 abbrev pub SaysBundleFormat : Option (List ℕ) → BundleFormat → Type 0
 SaysBundleFormat text Json = (text ≡ None) ⊎ (text ≡ Some (codes "json"))
@@ -81,18 +81,18 @@ IsNoKeyText text = (bytes : List ℕ) → length bytes ≡ 32 → IsBytes bytes 
 -- ---- numbers
 
 -- The text is that of a number of at most `most`: decimal digits, and no other byte. Needless zeros
--- may stand before them.
+-- may come before them.
 pub record IsNumberText (most : ℕ) (text : List ℕ) (n : ℕ) : Type 0 where
   pub digits : IsNumeral 10 text
   pub value : n ≡ digits_value 10 text
   pub within : n ≤ most
 
--- the number of the text, and none where it is the text of none
+-- the number of the text, and `None` if it is not the text of a number
 abbrev pub ReadsNumber : (most : ℕ) → List ℕ → Option ℕ → Type 0
 ReadsNumber most text (Some n) = IsNumberText most text n
 ReadsNumber most text None = (n : ℕ) → IsNumberText most text n → ⊥
 
--- the same, and another number where there is no text
+-- the same, and another number if there is no text
 abbrev pub SaysNumber : (otherwise most : ℕ) → Option (List ℕ) → Option ℕ → Type 0
 SaysNumber otherwise most None said = said ≡ Some otherwise
 SaysNumber otherwise most (Some text) said = ReadsNumber most text said
@@ -105,14 +105,15 @@ SaysWait = SaysNumber 60 86400
 abbrev pub SaysMostBytes : Option (List ℕ) → Option ℕ → Type 0
 SaysMostBytes = SaysNumber 4294967296 18446744073709551615
 
--- what the words say of waiting, of the most bytes and of saying more
+-- what the arguments say of waiting, of the most bytes and of saying more
 pub record SaysManner (name : CommandName) (texts : List (Option (List ℕ)))
     (manner : Manner) : Type 0 where
   pub wait : SaysWait (option_said name texts Wait) (Some manner.wait_seconds)
   pub most : SaysMostBytes (option_said name texts MostBytes) (Some manner.most_bytes)
   pub verbose : SaysFlag (option_said name texts Verbose) manner.is_verbose
 
--- The wait is no number in its range; or it is, or is left out, and the most bytes are none.
+-- The wait is not a number in its range; or it is one or is left out, and the most bytes are not a
+-- number in their range.
 abbrev pub SaysNoManner : CommandName → List (Option (List ℕ)) → OptionError → Type 0
 SaysNoManner name texts (BadNumber Wait) = SaysWait (option_said name texts Wait) None
 SaysNoManner name texts (BadNumber MostBytes) =

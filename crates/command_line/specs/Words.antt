@@ -1,4 +1,4 @@
--- The words of the command line, as clap's definition of a command reads them.
+-- The arguments of the command line, as clap's definition of a command reads them.
 use Rattle.std.specs.Prelude.{Bool, true, false, ◌&&◌, ◌||◌, not, if◌then◌else◌}
 use Rattle.std.specs.Prelude.{◌≡◌, ℕ, List, [], ◌∷◌, map, fold, codes, Option, Some, is_some}
 use Rattle.std.specs.Prelude.{Result, MatchResult, find, option_map}
@@ -90,7 +90,7 @@ is_flag ListenAnywhere = true
 is_flag Keys = true
 is_flag option = false
 
--- the words may leave it out
+-- the arguments may leave it out
 abbrev pub may_be_left_out : OptionName → Bool
 may_be_left_out To = true
 may_be_left_out OptionalState = true
@@ -118,7 +118,7 @@ may_be_left_out Audit = true
 may_be_left_out option = false
 
 -- it names a file that a running replica has itself, or it is the format of a command that no such
--- replica carries out, so words with `--at` leave it out
+-- replica carries out, so arguments with `--at` leave it out
 abbrev pub is_place : OptionName → Bool
 is_place Config = true
 is_place State = true
@@ -183,7 +183,7 @@ all_names = command.Canon ∷ command.Config ∷ command.New ∷ command.Report 
     ∷ command.Observe ∷ command.Merge ∷ command.Migrate ∷ command.Reseed ∷ command.Polls
     ∷ command.Distrust ∷ command.Serve ∷ command.Pull ∷ command.Replica ∷ command.Stop ∷ []
 
--- the subcommand that has this word, if there is one
+-- the subcommand that has this text, if there is one
 abbrev pub named : Text → Option CommandName
 named word = find (λ name. bytes_eq (name_text name) word) all_names
 
@@ -195,7 +195,7 @@ text_rule option = record (new_rule (option_text option))
     { long = Some (option_text option); action = Some Set; value_names = 1 }
 
 -- an option without a text: clap takes it for one with the text `true`, and with the text `false`
--- where it is left out
+-- if it is left out
 abbrev pub flag_rule : OptionName → Rule
 flag_rule option = record (new_rule (option_text option))
     { long = Some (option_text option); action = Some SetTrue }
@@ -213,8 +213,8 @@ leaf name = fold with_option (new_app (name_text name)) (options_of name)
 abbrev pub with_name : App → CommandName → App
 with_name app name = with_subcommand app (leaf name).top
 
--- the command before it has its subcommands: its words begin after the program's name, and it has
--- a version
+-- the command before it has its subcommands: its arguments begin after the program's name, and it
+-- has a version
 abbrev pub bare_app : App
 bare_app = let app = new_app (codes "fedbundle") in record app
     { top = record app.top { no_binary_name = true; has_version = true } }
@@ -222,24 +222,24 @@ bare_app = let app = new_app (codes "fedbundle") in record app
 abbrev pub the_command : App
 the_command = fold with_name bare_app all_names
 
--- ---- what words call for
+-- ---- what arguments call for
 
--- the text that clap's definition of the command gives an option, where the words give it one
+-- the text that clap's definition of the command gives an option, if the arguments give it one
 abbrev pub given : List Row → OptionName → Option Text
 given rows option = first_of (option_text option) rows
 
--- Whether an option may stand as it does, with a text or without one. Words that ask a running
+-- Whether an option may be as it is, with a text or without one. Arguments that ask a running
 -- replica leave out the places, and others give them.
 abbrev pub is_settled : (asks has_text : Bool) → OptionName → Bool
 is_settled asks has_text option =
     if asks && is_place option then not has_text else (has_text || may_be_left_out option)
 
--- The words of a request ask the replica that reads them, and name none.
+-- The arguments of a request ask the replica that reads them, and do not name a replica.
 abbrev pub is_settled_asked : (has_text : Bool) → OptionName → Bool
 is_settled_asked has_text At = not has_text
 is_settled_asked has_text option = is_settled true has_text option
 
--- the same, by where the words stand; `at` says whether they have `--at`, which names a replica
+-- the same, by the place of the arguments; `at`: whether they have `--at`, which names a replica
 abbrev pub settled_at : WordsPlace → (at has_text : Bool) → OptionName → Bool
 settled_at CommandLine at has_text option = is_settled at has_text option
 settled_at Request at has_text option = is_settled_asked has_text option
@@ -248,8 +248,8 @@ abbrev pub is_settled_in : WordsPlace → List Row → OptionName → Bool
 is_settled_in place rows option =
     settled_at place (is_some (given rows At)) (is_some (given rows option)) option
 
--- Clap takes the words. They name the subcommand, give each of its options its text, and leave out
--- none that it wants.
+-- Clap takes the arguments. They name the subcommand, give each of its options its text, and leave
+-- out no option that it needs.
 pub record CallsFrom (place : WordsPlace) (words : List Text) (name : CommandName)
     (texts : List (Option Text)) : Type 0 where
   pub rows : List Row
@@ -258,24 +258,24 @@ pub record CallsFrom (place : WordsPlace) (words : List Text) (name : CommandNam
   pub given : map (given rows) (options_of name) ≡ texts
   pub settled : list_all (is_settled_in place rows) (options_of name) ≡ true
 
--- the same of the words of a request to a running replica
+-- the same for the arguments of a request to a running replica
 abbrev pub CallsInRequest : List Text → CommandName → List (Option Text) → Type 0
 CallsInRequest words name texts = CallsFrom Request words name texts
 
--- Clap takes the words, and they are no call.
+-- Clap takes the arguments, and they are not a call.
 pub record IsNoCall (place : WordsPlace) (words : List Text) : Type 0 where
   pub taken : fault_of the_command words ≡ []
   pub none : (name : CommandName) (texts : List (Option Text)) → CallsFrom place words name texts
       → ⊥
 
--- Why words are refused: by clap, and its error has a kind that clap gives at these words; since
--- they are no call; or memory ran out.
+-- Why arguments are refused: by clap, and its error has a kind that clap gives at these arguments;
+-- since they are not a call; or memory ran out.
 abbrev pub RefusesWords : WordsPlace → List Text → WordsError → Type 0
 RefusesWords place words (Words error) = IsAmong (kind_of error) (fault_of the_command words)
 RefusesWords place words Usage = IsNoCall place words
 RefusesWords place words NoMemory = Unit {0}
 
--- What comes of reading words: the call that they are, or why they are none.
+-- The result of reading arguments: the call that they are, or why they are not a call.
 abbrev pub ReadsWords : WordsPlace → List Text → Result Call WordsError → Type 0
 ReadsWords place words result = MatchResult result
     (λ call. CallsFrom place words call.name (map (option_map (λ t. t.now)) call.texts.items))

@@ -1,4 +1,4 @@
-//! The subcommands, and the options of each. A flag has the text `true` where it is given and else
+//! The subcommands, and the options of each. A flag has the text `true` if it is given, and else
 //! `false`; of the others some may be left out.
 ghost use Rattle.std.specs.Prelude.{◌≡◌, List};
 ghost use Rattle.command_line.specs.Words.{is_flag, is_place, may_be_left_out, option_text};
@@ -18,9 +18,9 @@ pub enum OptionName {
     Peer,
     To,
     RecordsOnly,
-    /// The state where the command does without one, too.
+    /// The state of a command that also works without one.
     OptionalState,
-    /// The domain where the command does without one, too.
+    /// The domain of a command that also works without one.
     OptionalDomain,
     With,
     At,
@@ -33,7 +33,7 @@ pub enum OptionName {
     Format,
     Short,
     Socket,
-    /// The address where the command does without one, too.
+    /// The address of a command that also works without one.
     OptionalListen,
     Peers,
     Every,
@@ -45,10 +45,10 @@ pub enum OptionName {
     ListenAnywhere,
     /// What is known of keys.
     Keys,
-    /// The key where the command does without one, too.
+    /// The key of a command that also works without one.
     OptionalKey,
     PublicKey,
-    /// The present moment where the command does without one, too.
+    /// The present time of a command that also works without one.
     OptionalNow,
     ExpiresWithin,
     PeerQuiet,
@@ -62,7 +62,7 @@ pub enum OptionName {
 pub enum CommandName {
     /// Prints a bundle document in its canonical form, with its ids.
     Canon,
-    /// Prints what a configuration says, or where two differ.
+    /// Prints what a configuration says, or what differs between two.
     Config,
     /// Writes a state file that holds nothing.
     New,
@@ -74,7 +74,7 @@ pub enum CommandName {
     Diff,
     /// Prints which document vouches for which, as a graph.
     Graph,
-    /// Prints how a replica stands.
+    /// Prints the status of a replica.
     Status,
     /// Prints the current bundle of a domain.
     Bundle,
@@ -127,7 +127,7 @@ pub(crate) static COMMANDS: [CommandName; 20] = [
 ];
 
 impl OptionName {
-    /// The option's name, which its word has after two hyphens.
+    /// The option's name, which its argument has after two hyphens.
     pub fn text<'a>(self) -> &'a str
         ensures { result.now ≡ option_text self }
     {
@@ -193,7 +193,7 @@ impl OptionName {
         )
     }
 
-    /// Whether the words may leave it out.
+    /// Whether the arguments may leave it out.
     pub fn may_be_left_out(self) -> bool
         ensures { result ≡ may_be_left_out self }
     {
@@ -226,7 +226,7 @@ impl OptionName {
     }
 
     /// Whether it names a file that a running replica has itself, or is the format of a command
-    /// that no such replica carries out: words with `--at` leave it out.
+    /// that no such replica carries out: arguments with `--at` leave it out.
     pub fn is_place(self) -> bool
         ensures { result ≡ is_place self }
     {
@@ -441,7 +441,7 @@ static REPLICA: [OptionName; 16] = [
 static STOP: [OptionName; 3] = [OptionName::Wait, OptionName::Verbose, OptionName::At];
 
 impl CommandName {
-    /// The subcommand's word.
+    /// The subcommand's name on the command line.
     pub fn text<'a>(self) -> &'a str
         ensures { result.now ≡ name_text self }
     {

@@ -59,9 +59,9 @@ const NEW_NOTES: &str = "\
 Reads the configuration, and nothing from standard input.
 
 Writes the state file of a replica that holds nothing, by way of FILE.new and under the
-lock of FILE.lock. Run it once, before a replica runs for the first time: `replica`, and
-each command that only looks at a state, refuses a missing state. So a disk that was not
-mounted is noticed. It prints nothing.
+lock of FILE.lock. Run it once, before a replica runs for the first time: `replica`,
+`report`, `list`, `diff`, `graph`, `status`, `migrate`, `reseed` and `distrust --dry-run`
+refuse a missing state. So a disk that was not mounted is noticed. It prints nothing.
 
 Ends with 0; with 1 if the configuration is refused, or if a state file or a journal is
 there already, which stays as it is; with 3 if the state is locked.";
@@ -549,7 +549,7 @@ impl CommandName {
         }
     }
 
-    /// The subcommand's usage: its word and its options, each with what its text is.
+    /// The subcommand's usage: its name and its options, each with what its text is.
     pub(crate) fn usage<'a>(self) -> &'a str {
         match self {
             CommandName::Canon =>

@@ -1,5 +1,6 @@
-//! The words of the command line, without a file, a stream or a replica: the subcommands and their
-//! options, what help says of them, the call that words make, and what the texts of options say.
+//! The arguments of the command line, without a file, a stream or a replica: the subcommands and
+//! their options, what help says of them, the call that arguments make, and what the texts of
+//! options say.
 #![tactic(auto)]
 
 mod command_name;

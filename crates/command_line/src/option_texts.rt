@@ -7,7 +7,7 @@ ghost use Rattle.command_line.specs.OptionTexts.{SaysNoManner, SaysNumber};
 ghost use Rattle.command_line.specs.OptionTexts.{SaysBundleFormat, SaysExplanationForm, SaysFlag};
 ghost use Rattle.command_line.specs.OptionTexts.{SaysNoBundleFormat, option_said};
 ghost use Rattle.command_line.specs.OptionTexts.{SaysExplanationIn, SaysNoExplanationIn};
-ghost use Rattle.command_line.specs.OptionTexts.{SaysNoOutputForm, SaysOutputForm, said_beside};
+ghost use Rattle.command_line.specs.OptionTexts.{SaysNoOutputForm, SaysOutputForm, said_with};
 ghost use Rattle.command_line.specs.declared.option_error.OptionError.TheVariants.{BadKey};
 ghost use Rattle.command_line.specs.declared.option_error.OptionError.TheVariants.{BadNumber};
 ghost use Rattle.command_line.specs.declared.option_error.OptionError.TheVariants.{Usage};
@@ -17,12 +17,12 @@ use crate::option_error::OptionError;
 use crate::words::Call;
 use jwk_set::KeyId;
 
-/// How many seconds the lock of a state is waited for where nothing else is said, and at most.
+/// How many seconds the lock of a state is waited for if nothing else is said, and at most.
 const WAIT_SECONDS: u64 = 60;
 
 const MAX_WAIT_SECONDS: u64 = 86_400;
 
-/// How many bytes are held at most where nothing else is said.
+/// How many bytes are held at most if nothing else is said.
 const MOST_BYTES: u64 = 4_294_967_296;
 
 /// How `bundle` writes a document.
@@ -60,28 +60,28 @@ pub enum ExplanationForm {
 pub struct Manner {
     /// How many seconds the lock of the state is waited for.
     pub wait_seconds: u64,
-    /// How many bytes the state file and what comes to it may have together.
+    /// How many bytes the state file and what is added to it may have together.
     pub most_bytes: u64,
     /// Whether more is said on standard error.
     pub is_verbose: bool,
 }
 
-/// The text that the words give the option of this name, where they give it one.
+/// The text that the arguments give the option of this name, if they give it one.
 pub fn given<'a>(call: &Call<'a>, wanted: OptionName) -> Option<&'a str>
     ensures { option_map (λ t. t.now) result ≡ option_said call.now.name
         (map (option_map (λ t. t.now)) call.now.texts.items) wanted }
 {
-    said_beside(call.name.options(), call.texts.as_slice(), wanted)
+    said_with(call.name.options(), call.texts.as_slice(), wanted)
 }
 
-// The text beside the option of this name.
-fn said_beside<'a>(
+// The text next to the option of this name.
+fn said_with<'a>(
     options: &[OptionName],
     texts: &[Option<&'a str>],
     wanted: OptionName,
 ) -> Option<&'a str>
     ensures { option_map (λ t. t.now) result
-        ≡ said_beside options.now (map (option_map (λ t. t.now)) texts.now) wanted }
+        ≡ said_with options.now (map (option_map (λ t. t.now)) texts.now) wanted }
 {
     let mut rest = texts;
     'options: for &option in options {
@@ -99,7 +99,7 @@ fn said_beside<'a>(
 /// The text of an option that the command wants.
 ///
 /// # Errors
-/// The words leave it out.
+/// The arguments leave it out.
 pub fn wanted<'a>(call: &Call<'a>, wanted: OptionName) -> Result<&'a str, OptionError>
     ensures ok { IfOk result (λ text. option_said call.now.name
         (map (option_map (λ t. t.now)) call.now.texts.items) wanted ≡ Some text.now) }
@@ -112,10 +112,10 @@ pub fn wanted<'a>(call: &Call<'a>, wanted: OptionName) -> Result<&'a str, Option
     }
 }
 
-/// What the words say of waiting, of the most bytes and of saying more.
+/// What the arguments say of waiting, of the most bytes and of saying more.
 ///
 /// # Errors
-/// A text is no number, or one out of its range.
+/// A text is not a number, or a number out of its range.
 pub fn manner_of(call: &Call<'_>) -> Result<Manner, OptionError>
     ensures ok { IfOk result (SaysManner call.now.name
         (map (option_map (λ t. t.now)) call.now.texts.items)) }
@@ -139,8 +139,8 @@ pub fn manner_of(call: &Call<'_>) -> Result<Manner, OptionError>
     })
 }
 
-/// The number of an option: that of its text, which is at most `most`, or `otherwise` if the words
-/// leave it out.
+/// The number of an option: that of its text, which is at most `most`, or `otherwise` if the
+/// arguments leave it out.
 ///
 /// # Errors
 /// The text is not a number, or it is a greater one.
@@ -173,7 +173,7 @@ fn number_up_to(text: Option<&str>, otherwise: u64, most: u64) -> Option<u64>
     }
 }
 
-// The number of the text, where it is at most the other one.
+// The number of the text, if it is at most the other one.
 fn number_of(text: &str, most: u64) -> Option<u64>
     ensures { ReadsNumber most text.now result }
 {
@@ -224,7 +224,7 @@ fn is_key_text(id: &[u8; 32], text: &str) -> bool
     digits.as_slice() == text.as_bytes()
 }
 
-/// The format of `bundle`: `json`, which is also meant where nothing is said, or `pem`.
+/// The format of `bundle`: `json`, which is also meant if nothing is said, or `pem`.
 ///
 /// # Errors
 /// The text is something else.
@@ -241,7 +241,7 @@ pub fn read_bundle_format(text: Option<&str>) -> Result<BundleFormat, OptionErro
     }
 }
 
-/// Whether the words have the flag, by its text.
+/// Whether the arguments have the flag, by its text.
 pub fn is_flag_given(text: Option<&str>) -> bool
     ensures { SaysFlag (option_map (λ t. t.now) text.entry) result }
 {
@@ -262,7 +262,7 @@ fn explanation_form(short: Option<&str>) -> ExplanationForm
     }
 }
 
-/// The form of `canon`, `config`, `report`, `list` and `polls`: `text`, which is also meant where
+/// The form of `canon`, `config`, `report`, `list` and `polls`: `text`, which is also meant if
 /// nothing is said, or `json`.
 ///
 /// # Errors

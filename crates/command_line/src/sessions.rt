@@ -8,7 +8,7 @@ use itoa::Buffer;
 const MAX_SESSIONS: u32 = 1_000_000;
 
 /// Reads a number of sessions from 1 to 1,000,000, as it is written in decimal: its digits, without
-/// a sign and without a needless zero. So `0`, `+1`, `01` and the empty text are none.
+/// a sign and without a needless zero. So `0`, `+1`, `01` and the empty text are refused.
 pub fn read_sessions(text: &str) -> Option<u32>
     ensures { ReadsSessions text.now result }
 {

@@ -1,4 +1,4 @@
-//! Reads the words of the command line. `specs/Words` has the command as `clap` knows it.
+//! Reads the arguments of the command line. `specs/Words` has the command as `clap` knows it.
 ghost use Rattle.std.specs.Prelude.{◌≡◌, ℕ, false, IfOk, IfSome, map, option_map};
 ghost use Rattle.std.specs.List.{list_all};
 ghost use Rattle.clap.specs.Words.{app_of, found_of, kind_of, rule_of, rows_of};
@@ -17,20 +17,20 @@ use clap::error::ErrorKind;
 use clap::{Arg, ArgAction, ArgMatches, Command};
 use std::alloc::{AllocError, AllocFailed, Global};
 
-/// What the words ask for.
+/// What the arguments ask for.
 #[derive(Debug, Drop)]
 pub struct Call<'a> {
     /// The subcommand.
     pub name: CommandName,
     /// The texts of its options, in the order of [`CommandName::options`]: none for an option that
-    /// the words leave out.
+    /// the arguments leave out.
     pub texts: Vec<Option<&'a str>>,
 }
 
-/// Why words are no call.
+/// Why arguments do not make a call.
 #[derive(Debug, Drop)]
 pub enum WordsError {
-    /// They are none that the command has, or ask for its help or version.
+    /// The command does not have them, or they ask for its help or version.
     Words(clap::Error),
     /// The subcommand, or one of its options, is missing.
     Usage,
@@ -38,7 +38,7 @@ pub enum WordsError {
     NoMemory,
 }
 
-/// Where words stand.
+/// The place of the arguments.
 #[derive(Clone, Copy, Debug)]
 pub(crate) enum WordsPlace {
     /// After the program's name.
@@ -47,15 +47,15 @@ pub(crate) enum WordsPlace {
     Request,
 }
 
-/// Reads the words after the program's name, as `clap` reads them for the command with these
+/// Reads the arguments after the program's name, as `clap` reads them for the command with these
 /// subcommands, each of whose options has one text: the subcommand, and the text of each of its
-/// options. A flag's text is `true` where it is given, and else `false`. Words with `--at` leave
+/// options. A flag's text is `true` if it is given, and else `false`. Arguments with `--at` leave
 /// out `--config` and `--state`, which a running replica has itself.
 ///
 /// # Errors
-/// - [`WordsError::Words`]: `clap` refuses the words, or they ask for help or for the version,
-/// - [`WordsError::Usage`]: `clap` takes the words, and the subcommand or an option that it wants
-///   is missing, or `--at` stands beside a file,
+/// - [`WordsError::Words`]: `clap` refuses the arguments, or they ask for help or for the version,
+/// - [`WordsError::Usage`]: `clap` takes the arguments, and the subcommand or an option that it
+///   wants is missing, or `--at` is given with a file,
 /// - [`WordsError::NoMemory`]: memory ran out.
 pub fn read_words<'a>(alloc: Global, words: &'a [&'a str]) -> Result<Call<'a>, WordsError>
     ensures { ReadsWords CommandLine (map (λ w. w.now) words.now) result }
@@ -63,11 +63,11 @@ pub fn read_words<'a>(alloc: Global, words: &'a [&'a str]) -> Result<Call<'a>, W
     read_call(alloc, words, WordsPlace::CommandLine)
 }
 
-/// Reads the words of a request to a running replica: those of the command line without `--at`,
+/// Reads the arguments of a request to a running replica: those of the command line without `--at`,
 /// and without `--config` and `--state`, which the replica has itself.
 ///
 /// # Errors
-/// Those of [`read_words`]; [`WordsError::Usage`] where one of these three is given.
+/// Those of [`read_words`]; [`WordsError::Usage`] if one of these three is given.
 pub fn read_request<'a>(alloc: Global, words: &'a [&'a str]) -> Result<Call<'a>, WordsError>
     ensures { ReadsWords Request (map (λ w. w.now) words.now) result }
 {
@@ -127,8 +127,8 @@ fn refusal_of(error: clap::Error) -> WordsError
     }
 }
 
-// For a word that is no subcommand clap tips the one that is closest to it. That may be `distrust`,
-// which cannot be taken back. So all are named instead.
+// If an argument is not a subcommand, clap suggests the closest one. That may be `distrust`, which
+// cannot be taken back. So all are named instead.
 fn with_all_names(alloc: Global, error: clap::Error) -> WordsError
     ensures { KeepsKind error result }
 {
@@ -204,7 +204,7 @@ fn argument<'a>(alloc: Global, option: OptionName) -> Arg<'a>
     }
 }
 
-/// The subcommand that has this word, if there is one.
+/// The subcommand of this name, if there is one.
 pub fn command_of(word: &str) -> Option<CommandName>
     ensures is { result ≡ named word.now }
     ensures text { IfSome result (λ name. word.now ≡ name_text name) }
@@ -217,7 +217,7 @@ pub fn command_of(word: &str) -> Option<CommandName>
     None
 }
 
-// Whether each option may stand as it does.
+// Whether each option may be given or left out as it is.
 fn are_settled(matches: &ArgMatches<'_>, options: &[OptionName], place: WordsPlace) -> bool
     ensures { result ≡ list_all (is_settled_in place (rows_of (found_of matches.now))) options.now }
 {
@@ -230,7 +230,7 @@ fn are_settled(matches: &ArgMatches<'_>, options: &[OptionName], place: WordsPla
     true
 }
 
-// The same of one option, where `at` says whether the words have `--at`.
+// The same for one option; `at` says whether the arguments have `--at`.
 fn is_settled_at(place: WordsPlace, at: bool, has_text: bool, option: OptionName) -> bool
     ensures { result ≡ settled_at place at has_text option }
 {

@@ -61,19 +61,19 @@ struct Asked<'a> {
 /// Carries out what the arguments ask for, over the devices.
 pub(crate) fn carry_out<C: Closure>(case: &Case<'_>, devices: &mut Devices) {
     if let Err(error) = read_and_do::<C>(case, devices) {
-        let is_told = write_fault(&error, &mut devices.errors).is_ok();
-        end(status(&error), is_told, devices);
+        let was_printed = write_fault(&error, &mut devices.errors).is_ok();
+        end(status(&error), was_printed, devices);
     }
 }
 
 // Ends with the exit status, or with 3 if that is greater and standard error failed.
-fn end(ended: u8, is_told: bool, devices: &mut Devices) {
-    devices.status = if is_told { ended } else { ended.max(3) };
+fn end(ended: u8, was_printed: bool, devices: &mut Devices) {
+    devices.status = if was_printed { ended } else { ended.max(3) };
 }
 
-pub(crate) fn tell(line: &[u8], ended: u8, devices: &mut Devices) {
-    let is_told = write_all(&mut devices.errors, line).is_ok();
-    end(ended, is_told, devices);
+pub(crate) fn print_out(line: &[u8], ended: u8, devices: &mut Devices) {
+    let was_printed = write_all(&mut devices.errors, line).is_ok();
+    end(ended, was_printed, devices);
 }
 
 fn read_and_do<C: Closure>(case: &Case<'_>, devices: &mut Devices) -> Result<(), CommandError> {
@@ -89,12 +89,12 @@ fn do_words<C: Closure>(
     match read_words(case.alloc, words) {
         Ok(call) => do_call::<C>(case, &call, devices),
         Err(WordsError::Usage) => {
-            tell(b"fedbundle: usage\n", 2, devices);
+            print_out(b"fedbundle: usage\n", 2, devices);
             Ok(())
         }
         Err(WordsError::NoMemory) => Err(CommandError::NoMemory),
         Err(WordsError::Words(_)) => {
-            tell(b"words that are not taken\n", 2, devices);
+            print_out(b"words that are not taken\n", 2, devices);
             Ok(())
         }
     }
@@ -108,7 +108,7 @@ fn do_call<C: Closure>(
     match (call.name, call.texts.as_slice()) {
         (CommandName::Canon, [Some(domain), form, ..]) => canon(case, domain, *form, devices),
         (CommandName::Serve, [_, _, _, Some(sessions), _]) if read_sessions(sessions).is_none() => {
-            tell(b"fedbundle: usage\n", 2, devices);
+            print_out(b"fedbundle: usage\n", 2, devices);
             Ok(())
         }
         (name, [Some(config), given @ ..]) => {
@@ -337,7 +337,7 @@ fn status_of<C: Closure>(
     devices: &mut Devices,
 ) -> Result<(), CommandError> {
     let Ok(format) = read_status_format(format) else {
-        tell(b"fedbundle: usage\n", 2, devices);
+        print_out(b"fedbundle: usage\n", 2, devices);
         return Ok(());
     };
     let limits = WarnLimits {
@@ -379,7 +379,7 @@ fn choice_of(records_only: Option<&str>) -> Choice {
     }
 }
 
-// Without another configuration what is held stays under its own.
+// Without another configuration what is held is still under its own.
 fn migrate<C: Closure>(
     case: &Case<'_>,
     closure: &C,
@@ -467,7 +467,7 @@ fn bundle<C: Closure>(
         run_bundle(closure, &domain, &mut devices.output)?
     };
     if !is_printed {
-        tell(b"fedbundle: no current bundle\n", 1, devices);
+        print_out(b"fedbundle: no current bundle\n", 1, devices);
     }
     Ok(())
 }
@@ -535,7 +535,7 @@ fn record_of(alloc: Global, domain: &str, key: &str) -> Result<Distrust, Command
     })
 }
 
-// The line `served` tells of the questions here, since there is one session.
+// The line `served` reports the questions here, since there is one session.
 fn serve<C: Closure>(
     case: &Case<'_>,
     closure: &C,

@@ -40,7 +40,7 @@ impl Rows for CommandRows {
             "asked" => answer_asked(alloc, script, row, answer),
             "full_after" => answer_trial(alloc, script, row, Trial::Full, answer),
             "broken_after" => answer_trial(alloc, script, row, Trial::Broken, answer),
-            "untold_after" => answer_trial(alloc, script, row, Trial::Untold, answer),
+            "untold_after" => answer_trial(alloc, script, row, Trial::Unprinted, answer),
             "words" => words::answer_words(alloc, script, row, answer),
             "shows" => words::answer_shown(alloc, script, row, answer),
             "refusal" => refusals::answer_refusal(alloc, row.words, answer),

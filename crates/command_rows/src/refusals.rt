@@ -18,8 +18,8 @@ const SHORT_ROOM: usize = 14;
 /// Room for a whole line.
 const LINE_ROOM: usize = 300;
 
-/// Tells the exit status of the refusal that the words name, its line, and what of it reaches a
-/// sink of 14 bytes.
+/// Reports the exit status of the refusal that the arguments name, its line, and what of it reaches
+/// a sink of 14 bytes.
 pub(crate) fn answer_refusal(
     alloc: Global,
     words: &str,
@@ -51,7 +51,7 @@ fn show_line(
     }
 }
 
-// The words are the kind of the refusal, the refusal, and its numbers.
+// The arguments are the kind of the refusal, the refusal, and its numbers.
 fn refusal_of(words: &str) -> Option<CommandError> {
     let (kind, rest) = words.split_once(' ').unwrap_or((words, ""));
     match kind {

@@ -17,14 +17,14 @@ pub(crate) enum Trial {
     /// The input fails after this many reads of 100 bytes.
     Broken,
     /// Standard error has room for this many bytes.
-    Untold,
+    Unprinted,
 }
 
 /// A longer input does not come in small pieces.
 const MAX_CUT_BYTES: usize = 100_000;
 
 /// Runs a row's command over both closures, with its text as the input: in pieces of 1, 7 and
-/// 65,536 bytes; if it is long, of 65,537; and once if there is none.
+/// 65,536 bytes; if it is long, of 65,537; and once if the row has no text.
 pub(crate) fn answer_run(
     alloc: Global,
     script: &Script,
@@ -108,7 +108,7 @@ fn add_own(case: &Case<'_>, answers: &mut Answers) -> Result<(), AllocError> {
     add::<PlainClosure>(&own, "own closure", Limits::in_pieces(65_536), answers)
 }
 
-/// Runs a row's command over both closures. The first word says how far a device goes before it
+/// Runs a row's command over both closures. The first argument says how far a device goes before it
 /// fails.
 pub(crate) fn answer_trial(
     alloc: Global,
@@ -144,7 +144,7 @@ fn limits_of(trial: Trial, number: u32) -> Limits {
             reads: u64::from(number),
             ..whole
         },
-        Trial::Untold => Limits {
+        Trial::Unprinted => Limits {
             error_room: number as usize,
             ..whole
         },

@@ -1,5 +1,5 @@
 //! The commands that write what they show in one of two forms.
-use crate::commands::{Case, tell};
+use crate::commands::{Case, print_out};
 use crate::devices::Devices;
 use bundle_view::write_report;
 use closure_core::Closure;
@@ -120,7 +120,7 @@ pub(crate) fn explain<C: Closure>(
     };
     let (input, output) = (&mut devices.input, &mut devices.output);
     if !run_explain(case.alloc, closure, &domain, form, input, output)? {
-        tell(b"fedbundle: not accepted\n", 1, devices);
+        print_out(b"fedbundle: not accepted\n", 1, devices);
     }
     Ok(())
 }
@@ -146,6 +146,6 @@ pub(crate) fn polls<C: Closure>(
 }
 
 pub(crate) fn usage(devices: &mut Devices) -> Result<(), CommandError> {
-    tell(b"fedbundle: usage\n", 2, devices);
+    print_out(b"fedbundle: usage\n", 2, devices);
     Ok(())
 }

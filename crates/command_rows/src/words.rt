@@ -31,7 +31,7 @@ pub(crate) fn split_words<'a>(alloc: Global, words: &'a str) -> Result<Vec<&'a s
         .collect(alloc)
 }
 
-/// Tells what the arguments ask for, on a line: the subcommand and the texts of its options, `-`
+/// Reports what the arguments ask for, on a line: the subcommand and the texts of its options, `-`
 /// for one that is left out; or that something is missing, or that they are refused.
 pub(crate) fn answer_words(
     alloc: Global,
@@ -62,7 +62,7 @@ fn show_call(call: &Call<'_>, answer: &mut String) -> Result<(), AllocError> {
     answer.push_str("\n")
 }
 
-/// Tells whether what the program prints for arguments that it does not take holds each piece of
+/// Reports whether what the program prints for arguments that it does not take holds each piece of
 /// the row's text, and each piece that it lacks. `|` separates the pieces.
 pub(crate) fn answer_shown(
     alloc: Global,

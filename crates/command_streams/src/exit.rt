@@ -1,11 +1,11 @@
 //! How the program ends before its command is done.
-use crate::streams::complaints;
-use fedbundle::{CommandError, Exit, exit_status, write_exit};
+use crate::streams::line_errors;
+use command_exits::{CommandError, Exit, exit_status, write_exit};
 
 /// Prints on standard error why the program ends, and returns its exit status, or 3 if that is
 /// greater and standard error failed.
 pub fn print_exit(rt: &HostRuntime, exit: &Exit) -> u8 {
-    let written = write_exit(exit, &mut complaints(rt)).is_ok();
+    let written = write_exit(exit, &mut line_errors(rt)).is_ok();
     let status = exit_status(exit);
     if written { status } else { status.max(3) }
 }

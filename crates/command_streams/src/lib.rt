@@ -16,7 +16,7 @@ mod verbose_lines;
 pub use exit::{print_clap, print_exit};
 pub use process_words::{texts_of, words_of_process};
 pub use streams::{
-    ClosedStreams, WholeLines, complaints, error_lines, input, output, output_line,
+    ClosedStreams, WholeLines, error_lines, input, line_errors, output, output_line,
     output_progress_mode, progress_mode, warn_of_anywhere,
 };
 pub use verbose_lines::{is_verbose_for, is_verbose_unasked, quoted, say, shown, words_of};

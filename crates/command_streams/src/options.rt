@@ -1,9 +1,8 @@
 //! The texts of options that name a file, a socket or a number, read.
 use byte_lines::FromRead;
+use command_exits::{CommandError, Exit, read_config};
+use command_line::{Call, OptionName, given, is_flag_given, read_sessions, wanted};
 use fed_config::Config;
-use fedbundle::{
-    Call, CommandError, Exit, OptionName, given, is_flag_given, read_config, read_sessions, wanted,
-};
 use std::alloc::Global;
 use std::fs::Files;
 use std::net::SocketAddr;

@@ -1,5 +1,5 @@
 //! The arguments of the command line, as the system gives them.
-use fedbundle::{CommandError, Exit};
+use command_exits::{CommandError, Exit};
 use std::alloc::{AllocError, Global};
 use std::rt::Env;
 use std::{env, io};

@@ -8,7 +8,7 @@ use std::io::{IsTerminal, Result, Stderr, Stdin, Stdout, Write};
 use std::net::SocketAddr;
 use std::os::unix::io::AsFd;
 
-/// Where nothing is, and what each read or each write of it says.
+/// The file that takes the place of a closed stream. It holds nothing.
 const NOWHERE: &str = "/dev/null";
 
 /// The most bytes of a line that goes out in one piece. A longer one goes out in pieces.
@@ -99,7 +99,7 @@ pub fn warn_of_anywhere(rt: &HostRuntime, address: SocketAddr) {
         // That it cannot be said changes nothing.
         let _ = writeln!(
             error_lines(rt),
-            "fedbundle: warning: {address} is no loopback address: whoever reaches it is given all"
+            "fedbundle: warning: {address} is not a loopback address: anyone can read what is held"
         );
     }
 }
@@ -113,8 +113,8 @@ pub fn progress_mode(rt: &HostRuntime) -> ProgressMode {
     }
 }
 
-/// The same of work that writes to standard output, if that is not a terminal: its lines would come
-/// between those of the output.
+/// The same for work that writes to standard output, if that is not a terminal: its lines would
+/// come between those of the output.
 pub fn output_progress_mode(rt: &HostRuntime) -> ProgressMode {
     if rt.stdout().is_terminal() {
         ProgressMode::Silent
@@ -129,7 +129,7 @@ pub fn error_lines(rt: &HostRuntime) -> WholeLines<Stderr> {
 }
 
 /// The same, as a sink.
-pub fn complaints(rt: &HostRuntime) -> FromWrite<WholeLines<Stderr>> {
+pub fn line_errors(rt: &HostRuntime) -> FromWrite<WholeLines<Stderr>> {
     FromWrite::new(error_lines(rt))
 }
 

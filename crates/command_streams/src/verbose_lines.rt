@@ -2,8 +2,8 @@
 //! and how they are written. What a stranger chose is between quotation marks in them, without
 //! bytes that do not print.
 use crate::streams::error_lines;
+use command_line::{Call, OptionName, given, is_flag_given};
 use fault_view::{push_quoted, push_shown};
-use fedbundle::{Call, OptionName, given, is_flag_given};
 use std::alloc::{AllocError, Global};
 use std::io;
 use std::io::{IsTerminal, Write};

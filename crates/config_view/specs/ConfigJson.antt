@@ -28,7 +28,7 @@ abbrev pub floor_json : Floor → List ℕ
 floor_json f = string_member (codes "{\"domain\":") f.domain
     ++ (number_member (codes ",\"sequence\":") (Some f.sequence) ++ codes "}")
 
--- where there are no floors there is no member for them
+-- if there are no floors there is no member for them
 abbrev pub floors_part : List (List ℕ) → List ℕ
 floors_part [] = []
 floors_part (floor ∷ floors) = array_member (codes ",\"floors\":") (floor ∷ floors)

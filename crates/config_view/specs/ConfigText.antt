@@ -37,7 +37,7 @@ config_lines c domains = config_line c
     ∷ (map relationship_line c.relationships
     ++ (map domain_line domains ++ (map seed_line c.seeds ++ map floor_line c.floors)))
 
--- the digest, the relationships, all domains, the seeds and the floors, each list rising
+-- the digest, the relationships, all domains, the seeds and the floors, each list sorted
 pub record AreConfigLines (c : Configuration) (lines : List (List ℕ)) : Type 0 where
   pub domains : List (List ℕ)
   pub are_domains : AreDomains c domains

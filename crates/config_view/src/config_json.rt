@@ -23,10 +23,10 @@ use text_lines::TextLine;
 /// | `relationships` | `domain`, `endpoint` and `url` of each relationship |
 /// | `domains` | the names of the trust domains that it speaks of |
 /// | `seeds` | `domain`, `document` and `sequence` of each seed: the id of its document, and the
-/// sequence number, which is `null` where it is absent |
-/// | `floors` | `domain` and `sequence` of each floor; the member is absent if there are none |
+/// sequence number, which is `null` if it is absent |
+/// | `floors` | `domain` and `sequence` of each floor; the member is absent if there is no floor |
 ///
-/// Each list rises, so equal configurations have one text. All memory is taken before the first
+/// Each list is sorted, so equal configurations have one text. All memory is taken before the first
 /// byte is written.
 ///
 /// # Errors

@@ -15,7 +15,7 @@ use text_lines::{write_difference, write_lines};
 /// Writes what the configuration says: a line `config` with its digest, a line `relationship` for
 /// each relationship, a line `domain` for each trust domain that it speaks of, and a line `seed`
 /// for each seed, with the id and the sequence number of its document, and a line `floor` for each
-/// floor. Each of these lists rises. So equal configurations have one text.
+/// floor. Each of these lists is sorted. So equal configurations have one text.
 ///
 /// All memory is taken before the first byte is written.
 ///
@@ -38,8 +38,8 @@ pub fn write_config<W: Sink>(
     write_lines(alloc, lines.as_slice(), sink)
 }
 
-/// Writes where two configurations differ: each line that [`write_config`] would write of `one`
-/// alone, after `- `, and then each that it would write of `other` alone, after `+ `. Of equal
+/// Writes what differs between two configurations: each line that [`write_config`] would write only
+/// of `one`, after `- `, and then each that it would write only of `other`, after `+ `. For equal
 /// configurations that is nothing. Returns whether they have one digest.
 ///
 /// All memory is taken before the first byte is written.

@@ -1,5 +1,5 @@
-//! What a configuration says, printed for operators: one of them, as lines or as JSON, or where two
-//! differ. Replicas exchange receipts only where their configurations are equal.
+//! What a configuration says, printed for operators: one of them, as lines or as JSON, or what
+//! differs between two. Replicas exchange receipts only if their configurations are equal.
 #![tactic(auto)]
 
 mod config_json;

@@ -1,6 +1,6 @@
 //! Answers that are absorbed.
 use crate::messages::config_id;
-use crate::replica::{is_record, receipt_of, record_of, tell_held};
+use crate::replica::{is_record, print_held, receipt_of, record_of};
 use crate::row_call::{RowCall, text_of_lines};
 use crate::stop::Stop;
 use byte_lines::Sink;
@@ -9,31 +9,31 @@ use fed_config::ConfigId;
 use receipt_core::{Distrust, Receipt};
 use replica_sync::{Give, SyncError, absorb, write_snapshot};
 
-/// Tells what comes of an answer that has the records and receipts of the text's lines and the
-/// configuration's digest of the third word, when it comes first and when it comes again. Writes
-/// what is held then.
-pub(crate) fn tell_absorbed<C: Closure, W: Sink>(
+/// Reports what comes of an answer that has the records and receipts of the text's lines and the
+/// configuration's digest of the third argument, when it comes first and when it comes again.
+/// Writes what is held then.
+pub(crate) fn print_absorbed<C: Closure, W: Sink>(
     row: RowCall<'_>,
     closure: &mut C,
     sink: &mut W,
     outcome: &mut String,
 ) -> Result<(), Stop> {
-    tell_answer(row, closure, outcome)?;
+    print_answer(row, closure, outcome)?;
     outcome.push_str("\nagain ")?;
-    tell_answer(row, closure, outcome)?;
+    print_answer(row, closure, outcome)?;
     Ok(write_snapshot(row.alloc, closure, sink)?)
 }
 
-fn tell_answer<C: Closure>(
+fn print_answer<C: Closure>(
     row: RowCall<'_>,
     closure: &mut C,
     outcome: &mut String,
 ) -> Result<(), Stop> {
-    tell_new(absorb(closure, give_of(row)?), outcome)?;
-    Ok(tell_held(closure, outcome)?)
+    print_new(absorb(closure, give_of(row)?), outcome)?;
+    Ok(print_held(closure, outcome)?)
 }
 
-fn tell_new(absorbed: Result<usize, SyncError>, outcome: &mut String) -> Result<(), Stop> {
+fn print_new(absorbed: Result<usize, SyncError>, outcome: &mut String) -> Result<(), Stop> {
     match absorbed {
         Ok(count) => write!(outcome, "new {count}; ")?,
         Err(fault) => write!(outcome, "{fault}; ")?,

@@ -1,4 +1,4 @@
-//! A pull whose answers come in pieces, taken by the machine of a replica that stays.
+//! A pull whose answers come in pieces, taken by the machine of a replica that runs.
 use byte_lines::{Sink, Source, write_all};
 use closure_core::Closure;
 use replica_sync::{PullFault, Pulling, SyncError};
@@ -22,13 +22,13 @@ pub(crate) fn pull_pieces<C: Closure, R: Source, W: Sink>(
     match Pulling::new(alloc, closure) {
         Ok(mut pulling) => {
             let pulled = take_pieces(alloc, closure, &mut pulling, source, sink, journal);
-            tell_count(pulled, pulling.taken())
+            print_count(pulled, pulling.taken())
         }
         Err(why) => Err(PullFault { why, taken: 0 }),
     }
 }
 
-fn tell_count(pulled: Result<(), SyncError>, taken: u64) -> Result<u64, PullFault> {
+fn print_count(pulled: Result<(), SyncError>, taken: u64) -> Result<u64, PullFault> {
     match pulled {
         Ok(()) => Ok(taken),
         Err(why) => Err(PullFault { why, taken }),
@@ -59,7 +59,7 @@ fn take_pieces<C: Closure, R: Source, W: Sink>(
 }
 
 // Each turn but the last takes a line's end, so there are no more turns than bytes. Every second
-// turn takes as many lines as it may.
+// turn takes all lines that it may.
 fn take_piece<C: Closure, W: Sink>(
     alloc: Global,
     closure: &mut C,

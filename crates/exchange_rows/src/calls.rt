@@ -1,14 +1,14 @@
 //! The calls that rows try.
-use crate::absorbing::tell_absorbed;
+use crate::absorbing::print_absorbed;
 use crate::answer_pieces::pull_pieces;
 use crate::devices::in_pieces;
-use crate::messages::tell_messages;
+use crate::messages::print_messages;
 use crate::places::AMPLE_ROOM;
-use crate::quiet::{QuietFault, pull_quietly, serve_quietly};
-use crate::replica::{replica, tell_held};
+use crate::quiet::{QuietFault, pull_marked, serve_quietly};
+use crate::replica::{print_held, replica};
 use crate::row_call::{RowCall, bucket_of};
 use crate::serving::serve_pieces;
-use crate::session::tell_session;
+use crate::session::print_session;
 use crate::stop::Stop;
 use byte_lines::{LineBuf, MemSink, MemSource, Sink, Source, write_all};
 use closure_core::Closure;
@@ -22,26 +22,26 @@ use std::alloc::{AllocError, Global};
 /// Written texts up to this length are shown line by line.
 const FEW_BYTES: usize = 4_096;
 
-/// Tells what comes of a call over the text in pieces of this size, and what it wrote.
-pub(crate) fn tell_whole<C: Closure>(
+/// Reports what comes of a call over the text in pieces of this size, and what it wrote.
+pub(crate) fn print_whole<C: Closure>(
     row: RowCall<'_>,
     size: usize,
     text: &mut String,
 ) -> Result<(), Stop> {
     let mut source = in_pieces(row.alloc, row.text, size)?;
-    tell_from::<C, MemSource>(row, &mut source, text)
+    print_from::<C, MemSource>(row, &mut source, text)
 }
 
-/// Tells what comes of a call that has no text to read.
-pub(crate) fn tell_without_text<C: Closure>(
+/// Reports what comes of a call that has no text to read.
+pub(crate) fn print_without_text<C: Closure>(
     row: RowCall<'_>,
     text: &mut String,
 ) -> Result<(), Stop> {
     let mut source = MemSource::new(Vec::new(row.alloc), Vec::new(row.alloc));
-    tell_from::<C, MemSource>(row, &mut source, text)
+    print_from::<C, MemSource>(row, &mut source, text)
 }
 
-fn tell_from<C: Closure, R: Source>(
+fn print_from<C: Closure, R: Source>(
     row: RowCall<'_>,
     source: &mut R,
     text: &mut String,
@@ -60,7 +60,7 @@ fn show(row: RowCall<'_>, written: &[u8], text: &mut String) -> Result<(), Alloc
     text.push_str("\n")
 }
 
-/// Makes the call over the devices, and tells what it answers.
+/// Makes the call over the devices, and reports what it answers.
 pub(crate) fn perform<C: Closure, R: Source, W: Sink>(
     row: RowCall<'_>,
     source: &mut R,
@@ -68,13 +68,13 @@ pub(crate) fn perform<C: Closure, R: Source, W: Sink>(
     outcome: &mut String,
 ) -> Result<(), Stop> {
     match row.call {
-        "haves" | "gives" => tell_messages(row, source, sink, outcome)?,
+        "haves" | "gives" => print_messages(row, source, sink, outcome)?,
         _ => perform_under::<C, R, W>(row, source, sink, outcome)?,
     }
-    Ok(tell_failed(source.failed(), sink.failed(), outcome)?)
+    Ok(print_failed(source.failed(), sink.failed(), outcome)?)
 }
 
-fn tell_failed(source: bool, sink: bool, outcome: &mut String) -> Result<(), AllocError> {
+fn print_failed(source: bool, sink: bool, outcome: &mut String) -> Result<(), AllocError> {
     if source {
         outcome.push_str(", source failed")?;
     }
@@ -93,7 +93,7 @@ fn perform_under<C: Closure, R: Source, W: Sink>(
     let config = row.config()?;
     if row.call == "snapshot" {
         let read = copy_snapshot::<C, R, W>(row.alloc, &config, source, sink);
-        return Ok(tell_done(read, outcome)?);
+        return Ok(print_done(read, outcome)?);
     }
     perform_of::<C, R, W>(row, &config, source, sink, outcome)
 }
@@ -118,30 +118,30 @@ fn perform_at<C: Closure, R: Source, W: Sink>(
 ) -> Result<(), Stop> {
     let alloc = row.alloc;
     match row.call {
-        "have" => Ok(tell_done(ask(row, closure, sink)?, outcome)?),
-        "answer" => Ok(tell_done(answer_one(alloc, closure, source, sink), outcome)?),
-        "serve" => Ok(tell_served(serve_one(alloc, closure, source, sink), outcome)?),
-        "serving" => Ok(tell_done(serve_pieces(alloc, closure, source, sink), outcome)?),
+        "have" => Ok(print_done(ask(row, closure, sink)?, outcome)?),
+        "answer" => Ok(print_done(answer_one(alloc, closure, source, sink), outcome)?),
+        "serve" => Ok(print_served(serve_one(alloc, closure, source, sink), outcome)?),
+        "serving" => Ok(print_done(serve_pieces(alloc, closure, source, sink), outcome)?),
         "pull" => {
             let pulled = pull(alloc, closure, source, sink);
-            tell_pulled(closure, pulled, outcome)
+            print_pulled(closure, pulled, outcome)
         }
         "pulling" => {
             let mut journal = Vec::new(alloc);
             let pulled = pull_pieces(alloc, closure, source, sink, &mut journal);
-            tell_pulled(closure, pulled, outcome)
+            print_pulled(closure, pulled, outcome)
         }
-        "asked" => Ok(tell_done(serve_quietly(alloc, closure, source, sink), outcome)?),
+        "asked" => Ok(print_done(serve_quietly(alloc, closure, source, sink), outcome)?),
         "marked" => {
-            let pulled = pull_quietly(alloc, closure, source, sink);
-            tell_pulled_quietly(closure, pulled, outcome)
+            let pulled = pull_marked(alloc, closure, source, sink);
+            print_pulled_quietly(closure, pulled, outcome)
         }
         "journal" => {
             let pulled = pull_into_journal(alloc, closure, source, sink);
-            tell_pulled(closure, pulled, outcome)
+            print_pulled(closure, pulled, outcome)
         }
-        "absorb" => tell_absorbed(row, closure, sink, outcome),
-        "session" => tell_session(row, closure, sink, outcome),
+        "absorb" => print_absorbed(row, closure, sink, outcome),
+        "session" => print_session(row, closure, sink, outcome),
         _ => Err(Stop::Verb),
     }
 }
@@ -182,7 +182,7 @@ fn no_memory() -> PullFault {
     }
 }
 
-// Asks about the bucket that the third word tells.
+// Asks about the bucket that the third argument gives.
 fn ask<C: Closure, W: Sink>(
     row: RowCall<'_>,
     closure: &C,
@@ -215,37 +215,37 @@ fn answer_next<C: Closure, R: Source, W: Sink>(
     write_answer(alloc, answer(closure, &have), sink)
 }
 
-fn tell_done(done: Result<(), SyncError>, outcome: &mut String) -> Result<(), AllocError> {
+fn print_done(done: Result<(), SyncError>, outcome: &mut String) -> Result<(), AllocError> {
     match done {
         Ok(()) => outcome.push_str("done"),
         Err(fault) => write!(outcome, "{fault}"),
     }
 }
 
-fn tell_served(served: Result<u64, SyncError>, outcome: &mut String) -> Result<(), AllocError> {
+fn print_served(served: Result<u64, SyncError>, outcome: &mut String) -> Result<(), AllocError> {
     match served {
         Ok(count) => write!(outcome, "served {count}"),
         Err(fault) => write!(outcome, "{fault}"),
     }
 }
 
-fn tell_pulled_quietly<C: Closure>(
+fn print_pulled_quietly<C: Closure>(
     closure: &C,
     pulled: Result<u64, QuietFault>,
     outcome: &mut String,
 ) -> Result<(), Stop> {
     match pulled {
-        Ok(count) => tell_pulled(closure, Ok(count), outcome),
+        Ok(count) => print_pulled(closure, Ok(count), outcome),
         Err(found) => {
             if found.is_unanswered {
                 outcome.push_str("unanswered, ")?;
             }
-            tell_pulled(closure, Err(found.fault), outcome)
+            print_pulled(closure, Err(found.fault), outcome)
         }
     }
 }
 
-fn tell_pulled<C: Closure>(
+fn print_pulled<C: Closure>(
     closure: &C,
     pulled: Result<u64, PullFault>,
     outcome: &mut String,
@@ -255,5 +255,5 @@ fn tell_pulled<C: Closure>(
         Err(fault) => write!(outcome, "{fault}")?,
     }
     outcome.push_str("; ")?;
-    Ok(tell_held(closure, outcome)?)
+    Ok(print_held(closure, outcome)?)
 }

@@ -1,5 +1,5 @@
 //! Worlds of replicas to which events happen.
-use crate::replica::{receipt_of, record_of, tell_held};
+use crate::replica::{print_held, receipt_of, record_of};
 use crate::row_call::{RowCall, bucket_of, number_of, text_of_lines, word_of};
 use crate::stop::Stop;
 use bundle_view::{ReportError, write_report};
@@ -10,11 +10,11 @@ use trust_closure::ExchangeClosure;
 /// The most bytes of a snapshot or a report.
 const MOST_BYTES: usize = 65_536;
 
-/// Tells what each replica holds after the events of the text's lines. The second word is the
+/// Reports what each replica holds after the events of the text's lines. The second argument is the
 /// number of replicas.
-pub(crate) fn tell_world(row: RowCall<'_>, answer: &mut String) -> Result<(), Stop> {
+pub(crate) fn print_world(row: RowCall<'_>, answer: &mut String) -> Result<(), Stop> {
     let replicas = world_of(row)?;
-    tell_replicas(row, &replicas, answer)
+    print_replicas(row, &replicas, answer)
 }
 
 // The replicas after the events.
@@ -24,9 +24,9 @@ fn world_of(row: RowCall<'_>) -> Result<Vec<ExchangeClosure>, Stop> {
     Ok(run_world(row.alloc, &config, row.number(1)?, events.as_slice())?)
 }
 
-/// Tells the report of the first replica after the events, and of each other one whether it writes
+/// Writes the report of the first replica after the events, and of each other one whether it writes
 /// the same snapshot and the same report, byte for byte.
-pub(crate) fn tell_agreement(row: RowCall<'_>, answer: &mut String) -> Result<(), Stop> {
+pub(crate) fn print_agreement(row: RowCall<'_>, answer: &mut String) -> Result<(), Stop> {
     let replicas = world_of(row)?;
     let Some((first, others)) = replicas.split_first() else {
         return Ok(answer.push_str("no replica\n")?);
@@ -59,14 +59,14 @@ fn report_of(row: RowCall<'_>, replica: &ExchangeClosure) -> Result<MemSink, Sto
     }
 }
 
-fn tell_replicas(
+fn print_replicas(
     row: RowCall<'_>,
     replicas: &[ExchangeClosure],
     answer: &mut String,
 ) -> Result<(), Stop> {
     for (number, replica) in replicas.iter().enumerate() {
         write!(answer, "{number}: ")?;
-        tell_held(replica, answer)?;
+        print_held(replica, answer)?;
         answer.push_str("\n")?;
         show_held(row, replica, answer)?;
     }

@@ -48,7 +48,7 @@ impl Rows for ExchangeRows {
             words: row.words,
             text: row.text.as_slice(),
         };
-        match settings::tell(call, answer) {
+        match settings::print_out(call, answer) {
             Ok(()) => Ok(()),
             Err(Stop::NoMemory) => Err(AllocError),
             Err(stop) => writeln!(answer, "{stop}"),

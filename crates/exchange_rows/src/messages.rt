@@ -11,7 +11,7 @@ use std::alloc::{AllocError, Global};
 const AMPLE_COUNT: u32 = 1_000;
 
 /// Reads message after message up to the first error, and writes each.
-pub(crate) fn tell_messages<R: Source, W: Sink>(
+pub(crate) fn print_messages<R: Source, W: Sink>(
     row: RowCall<'_>,
     source: &mut R,
     sink: &mut W,
@@ -89,18 +89,18 @@ fn write_receipt<W: Sink>(alloc: Global, receipt: &Receipt, sink: &mut W) -> Res
     Ok(write_all(sink, b"\n")?)
 }
 
-/// Tells the have about the bucket of the first word, with the configuration's digest of the second
-/// one and the ids of the text's lines.
-pub(crate) fn tell_made(row: RowCall<'_>, answer: &mut String) -> Result<(), Stop> {
+/// Reports the have about the bucket of the first argument, with the configuration's digest of the
+/// second one and the ids of the text's lines.
+pub(crate) fn print_made(row: RowCall<'_>, answer: &mut String) -> Result<(), Stop> {
     let bucket = bucket_of(row.number(0)?)?;
     let config = config_id(row.word(1)?.as_bytes())?;
     match Have::new(bucket, config, ids_of(row)?) {
-        Some(have) => tell_have(row, &have, answer),
+        Some(have) => print_have(row, &have, answer),
         None => Ok(answer.push_str("none\n")?),
     }
 }
 
-fn tell_have(row: RowCall<'_>, have: &Have, answer: &mut String) -> Result<(), Stop> {
+fn print_have(row: RowCall<'_>, have: &Have, answer: &mut String) -> Result<(), Stop> {
     let mut sink = MemSink::new(row.alloc, 4_096)?;
     write_have(row.alloc, have, &mut sink)?;
     Ok(row.script.show_lines(sink.as_bytes(), answer)?)

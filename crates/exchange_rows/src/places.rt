@@ -32,9 +32,9 @@ struct Trial<'a> {
 /// More bytes than any row writes.
 pub(crate) const AMPLE_ROOM: usize = 1_048_576;
 
-/// Tells what comes at each place. The last two words are the name of what is written if nothing
-/// fails, and how many bytes lie between two places, or come with one read.
-pub(crate) fn tell_places<C: Closure>(
+/// Reports what comes at each place. The last two arguments are the name of what is written if
+/// nothing fails, and how many bytes lie between two places, or come with one read.
+pub(crate) fn print_places<C: Closure>(
     row: RowCall<'_>,
     device: Device,
     answer: &mut String,
@@ -47,11 +47,11 @@ pub(crate) fn tell_places<C: Closure>(
         step: row.number(place.saturating_add(1))?,
     };
     let mut runs = Runs::new(row.alloc);
-    tell_runs::<C>(trial, &mut runs, answer)?;
+    print_runs::<C>(trial, &mut runs, answer)?;
     Ok(runs.end(answer)?)
 }
 
-// The place of the word that names what is written.
+// The place of the argument that names what is written.
 fn place_of_name(call: &str) -> usize {
     match call {
         "haves" | "gives" => 0,
@@ -60,7 +60,7 @@ fn place_of_name(call: &str) -> usize {
     }
 }
 
-fn tell_runs<C: Closure>(
+fn print_runs<C: Closure>(
     trial: Trial<'_>,
     runs: &mut Runs,
     answer: &mut String,
@@ -102,37 +102,41 @@ fn add_place<C: Closure>(
 ) -> Result<(), Stop> {
     let mut outcome = String::new(trial.row.alloc);
     match trial.device {
-        Device::Cut => tell_cut::<C>(trial, place, &mut outcome)?,
-        Device::Reads => tell_reads::<C>(trial, place, &mut outcome)?,
-        Device::Room => tell_room::<C>(trial, place, &mut outcome)?,
+        Device::Cut => print_cut::<C>(trial, place, &mut outcome)?,
+        Device::Reads => print_reads::<C>(trial, place, &mut outcome)?,
+        Device::Room => print_room::<C>(trial, place, &mut outcome)?,
     }
     Ok(runs.add(place, outcome.as_str(), answer)?)
 }
 
-fn tell_cut<C: Closure>(trial: Trial<'_>, length: usize, outcome: &mut String) -> Result<(), Stop> {
+fn print_cut<C: Closure>(
+    trial: Trial<'_>,
+    length: usize,
+    outcome: &mut String,
+) -> Result<(), Stop> {
     let text = trial.row.text.get(..length).unwrap_or(trial.row.text);
     let mut source = in_pieces(trial.row.alloc, text, text.len())?;
-    tell_written::<C, _>(trial, AMPLE_ROOM, &mut source, outcome)
+    print_written::<C, _>(trial, AMPLE_ROOM, &mut source, outcome)
 }
 
-fn tell_reads<C: Closure>(
+fn print_reads<C: Closure>(
     trial: Trial<'_>,
     reads: usize,
     outcome: &mut String,
 ) -> Result<(), Stop> {
     let source = in_pieces(trial.row.alloc, trial.row.text, trial.step)?;
     let mut source = FuseSource::new(source, reads as u64);
-    tell_written::<C, _>(trial, AMPLE_ROOM, &mut source, outcome)
+    print_written::<C, _>(trial, AMPLE_ROOM, &mut source, outcome)
 }
 
-fn tell_room<C: Closure>(trial: Trial<'_>, room: usize, outcome: &mut String) -> Result<(), Stop> {
+fn print_room<C: Closure>(trial: Trial<'_>, room: usize, outcome: &mut String) -> Result<(), Stop> {
     let text = trial.row.text;
     let mut source = in_pieces(trial.row.alloc, text, text.len())?;
-    tell_written::<C, _>(trial, room, &mut source, outcome)
+    print_written::<C, _>(trial, room, &mut source, outcome)
 }
 
-// Tells what comes of the call, and how much it wrote of what is wanted.
-fn tell_written<C: Closure, R: Source>(
+// Reports what comes of the call, and how much it wrote of what is wanted.
+fn print_written<C: Closure, R: Source>(
     trial: Trial<'_>,
     room: usize,
     source: &mut R,
@@ -140,10 +144,10 @@ fn tell_written<C: Closure, R: Source>(
 ) -> Result<(), Stop> {
     let mut sink = MemSink::new(trial.row.alloc, room)?;
     perform::<C, R, MemSink>(trial.row, source, &mut sink, outcome)?;
-    tell_part(trial, sink.as_bytes(), room, outcome)
+    print_part(trial, sink.as_bytes(), room, outcome)
 }
 
-fn tell_part(
+fn print_part(
     trial: Trial<'_>,
     written: &[u8],
     room: usize,

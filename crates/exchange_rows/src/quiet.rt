@@ -1,5 +1,6 @@
-//! Sessions that begin with sums, over the machines of a replica that keeps running.
-use bucket_sums::{KeptSums, QuietPulling, QuietServing};
+//! Sessions that begin with sums: served by the machine of a running replica, and asked by the
+//! driver of the command `pull`.
+use bucket_sums::{KeptSums, QuietPulling, QuietServing, pull_quietly};
 use byte_lines::{Sink, Source, write_all};
 use closure_core::Closure;
 use replica_sync::{PullFault, SyncError};
@@ -76,19 +77,18 @@ fn write_answer_part<W: Sink>(
     Ok(())
 }
 
-/// Gives the machine that asks for sums the pieces of the source, writes what is due in two parts,
-/// and says how the stream ends, and whether nothing was answered.
-pub(crate) fn pull_quietly<C: Closure, R: Source, W: Sink>(
+/// A session that asks for sums, as the command `pull` has it; and whether nothing was answered.
+pub(crate) fn pull_marked<C: Closure, R: Source, W: Sink>(
     alloc: Global,
     closure: &mut C,
     source: &mut R,
     sink: &mut W,
 ) -> Result<u64, QuietFault> {
     let mut kept = KeptSums::new(alloc);
-    match QuietPulling::new(alloc, closure, &mut kept) {
-        Ok(mut pulling) => {
-            let pulled = take_pieces(alloc, closure, &mut pulling, source, sink);
-            tell_count(pulled, &pulling)
+    match QuietPulling::new(alloc, &*closure, &mut kept) {
+        Ok(mut session) => {
+            let pulled = pull_quietly(alloc, closure, &mut session, source, sink);
+            print_count(pulled, &session)
         }
         Err(why) => Err(QuietFault {
             fault: PullFault { why, taken: 0 },
@@ -105,7 +105,7 @@ pub(crate) struct QuietFault {
     pub(crate) is_unanswered: bool,
 }
 
-fn tell_count(pulled: Result<(), SyncError>, pulling: &QuietPulling) -> Result<u64, QuietFault> {
+fn print_count(pulled: Result<(), SyncError>, pulling: &QuietPulling) -> Result<u64, QuietFault> {
     match pulled {
         Ok(()) => Ok(pulling.taken()),
         Err(why) => Err(QuietFault {
@@ -116,62 +116,4 @@ fn tell_count(pulled: Result<(), SyncError>, pulling: &QuietPulling) -> Result<u
             is_unanswered: matches!(why, SyncError::Truncated) && pulling.is_unanswered(),
         }),
     }
-}
-
-fn take_pieces<C: Closure, R: Source, W: Sink>(
-    alloc: Global,
-    closure: &mut C,
-    pulling: &mut QuietPulling,
-    source: &mut R,
-    sink: &mut W,
-) -> Result<(), SyncError> {
-    let mut buffer = [0; PIECE_BYTES];
-    write_due(pulling, sink)?;
-    for _ in 0..MAX_READS {
-        if pulling.is_over() {
-            return Ok(());
-        }
-        let count = source.read(&mut buffer)?;
-        if count == 0 {
-            return pulling.end();
-        }
-        take_piece(alloc, closure, pulling, &buffer[..count], sink)?;
-    }
-    Err(SyncError::Io)
-}
-
-// Each turn but the last takes a line's end, so there are no more turns than bytes.
-fn take_piece<C: Closure, W: Sink>(
-    alloc: Global,
-    closure: &mut C,
-    pulling: &mut QuietPulling,
-    piece: &[u8],
-    sink: &mut W,
-) -> Result<(), SyncError> {
-    let mut journal = Vec::new(alloc);
-    let mut rest = piece;
-    for _ in 0..piece.len() {
-        let used = pulling.read_lines(alloc, closure, rest, &mut journal)?;
-        write_due(pulling, sink)?;
-        rest = rest.get(used..).unwrap_or(b"");
-    }
-    Ok(())
-}
-
-fn write_due<W: Sink>(pulling: &mut QuietPulling, sink: &mut W) -> Result<(), SyncError> {
-    let first = pulling.output().len() / 2;
-    write_due_part(pulling, first, sink)?;
-    let rest = pulling.output().len();
-    write_due_part(pulling, rest, sink)
-}
-
-fn write_due_part<W: Sink>(
-    pulling: &mut QuietPulling,
-    count: usize,
-    sink: &mut W,
-) -> Result<(), SyncError> {
-    let count = count.min(pulling.output().len());
-    write_all(sink, &pulling.output()[..count])?;
-    pulling.wrote(count);
-    Ok(())
 }

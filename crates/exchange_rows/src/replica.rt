@@ -62,9 +62,9 @@ pub(crate) fn record_of(alloc: Global, line: &[u8]) -> Result<Distrust, Stop> {
     Ok(Distrust::read_line(alloc, line)?)
 }
 
-/// Tells how many receipts are held, how many of them are pending, how many records are held, and
+/// Reports how many receipts are held, how many of them are pending, how many records are held, and
 /// the sequence numbers of what is accepted for each trust domain.
-pub(crate) fn tell_held<C: Closure>(closure: &C, text: &mut String) -> Result<(), AllocError> {
+pub(crate) fn print_held<C: Closure>(closure: &C, text: &mut String) -> Result<(), AllocError> {
     let receipts = closure.receipt_count();
     let pending = closure.pending_count();
     let records = closure.distrusts().count();
@@ -73,12 +73,12 @@ pub(crate) fn tell_held<C: Closure>(closure: &C, text: &mut String) -> Result<()
         "receipts {receipts} pending {pending} records {records}"
     )?;
     for domain in closure.config().domains() {
-        tell_accepted(closure, domain, text)?;
+        print_accepted(closure, domain, text)?;
     }
     Ok(())
 }
 
-fn tell_accepted<C: Closure>(
+fn print_accepted<C: Closure>(
     closure: &C,
     domain: &TrustDomain,
     text: &mut String,
@@ -86,12 +86,12 @@ fn tell_accepted<C: Closure>(
     let name = domain.as_str();
     write!(text, ", {name} accepts")?;
     for document in closure.accepted(domain) {
-        tell_number(document.rank(), text)?;
+        print_number(document.rank(), text)?;
     }
     Ok(())
 }
 
-fn tell_number(number: Option<u64>, text: &mut String) -> Result<(), AllocError> {
+fn print_number(number: Option<u64>, text: &mut String) -> Result<(), AllocError> {
     match number {
         Some(number) => write!(text, " {number}"),
         None => text.push_str(" unnumbered"),

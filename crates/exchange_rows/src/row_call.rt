@@ -4,7 +4,7 @@ use fed_config::Config;
 use row_script::Script;
 use std::alloc::Global;
 
-/// What a row asks: a call, its words, and the text of its template.
+/// What a row asks: a call, its arguments, and the text of its template.
 #[derive(Clone, Copy)]
 pub(crate) struct RowCall<'a> {
     pub(crate) alloc: Global,
@@ -15,7 +15,7 @@ pub(crate) struct RowCall<'a> {
 }
 
 impl<'a> RowCall<'a> {
-    /// The word at this place; the first one is at 0.
+    /// The argument at this place; the first one is at 0.
     pub(crate) fn word(&self, place: usize) -> Result<&'a str, Stop> {
         word_of(self.words, place)
     }
@@ -25,7 +25,7 @@ impl<'a> RowCall<'a> {
         number_of(self.words, place)
     }
 
-    /// The text whose name is the word at this place.
+    /// The text whose name is the argument at this place.
     pub(crate) fn named(&self, place: usize) -> Result<&'a [u8], Stop> {
         self.text_of(self.word(place)?)
     }
@@ -35,13 +35,13 @@ impl<'a> RowCall<'a> {
         self.script.text(name).ok_or(Stop::Name)
     }
 
-    /// The configuration that the first word names.
+    /// The configuration that the first argument names.
     pub(crate) fn config(&self) -> Result<Config, Stop> {
         Ok(Config::read(self.alloc, self.named(0)?)?)
     }
 }
 
-/// The word at this place of several with one space between them.
+/// The argument at this place of several with one space between them.
 pub(crate) fn word_of(words: &str, place: usize) -> Result<&str, Stop> {
     words.split(' ').nth(place).ok_or(Stop::Word)
 }

@@ -1,4 +1,4 @@
-//! What came at each of many places, told once for each run of places at which it was the same.
+//! What came at each of many places, reported once for each run of places at which it was the same.
 use std::alloc::{AllocError, Global};
 
 /// The places in turn at which the same came last.
@@ -37,7 +37,7 @@ impl Runs {
         Ok(())
     }
 
-    /// Tells the last places.
+    /// Reports the last places.
     pub(crate) fn end(&self, answer: &mut String) -> Result<(), AllocError> {
         let Runs {
             first,

@@ -1,4 +1,4 @@
-//! A session whose haves come in pieces, answered by the machine of a replica that stays.
+//! A session whose haves come in pieces, answered by the machine of a replica that runs.
 use byte_lines::{Sink, Source, write_all};
 use closure_core::Closure;
 use replica_sync::{Serving, SyncError};

@@ -1,7 +1,7 @@
 //! Whole sessions between two replicas.
 use crate::devices::in_pieces;
 use crate::places::AMPLE_ROOM;
-use crate::replica::{replica, tell_held};
+use crate::replica::{print_held, replica};
 use crate::row_call::RowCall;
 use crate::stop::Stop;
 use byte_lines::{MemSink, Sink};
@@ -10,16 +10,16 @@ use replica_sync::{SyncError, have, pull, serve_one, write_have, write_snapshot}
 use std::alloc::Global;
 
 /// Lets two replicas pull from one another: the first one, then the other, and the first one again.
-/// The second and the third word name what they hold. Tells of the sessions, and writes what each
-/// replica holds then.
-pub(crate) fn tell_session<C: Closure, W: Sink>(
+/// The second and the third argument name what they hold. Reports the sessions, and writes what
+/// each replica holds then.
+pub(crate) fn print_session<C: Closure, W: Sink>(
     row: RowCall<'_>,
     closure: &mut C,
     sink: &mut W,
     outcome: &mut String,
 ) -> Result<(), Stop> {
     let mut other: C = other_replica(row, closure)?;
-    tell_pulls(row, closure, &mut other, outcome)?;
+    print_pulls(row, closure, &mut other, outcome)?;
     write_snapshot(row.alloc, closure, sink)?;
     Ok(write_snapshot(row.alloc, &other, sink)?)
 }
@@ -28,21 +28,21 @@ fn other_replica<C: Closure>(row: RowCall<'_>, closure: &C) -> Result<C, Stop> {
     replica(row, closure.config(), row.named(2)?)
 }
 
-fn tell_pulls<C: Closure>(
+fn print_pulls<C: Closure>(
     row: RowCall<'_>,
     first: &mut C,
     second: &mut C,
     outcome: &mut String,
 ) -> Result<(), Stop> {
-    tell_pull(row, first, second, outcome)?;
+    print_pull(row, first, second, outcome)?;
     outcome.push_str("\n")?;
-    tell_pull(row, second, first, outcome)?;
+    print_pull(row, second, first, outcome)?;
     outcome.push_str("\n")?;
-    tell_pull(row, first, second, outcome)
+    print_pull(row, first, second, outcome)
 }
 
 // The asker pulls from the answerer, of which it is asked beforehand what the asker will ask.
-fn tell_pull<C: Closure>(
+fn print_pull<C: Closure>(
     row: RowCall<'_>,
     asker: &mut C,
     answerer: &C,
@@ -50,7 +50,7 @@ fn tell_pull<C: Closure>(
 ) -> Result<(), Stop> {
     let mut haves = MemSink::new(row.alloc, AMPLE_ROOM)?;
     ask_all(row.alloc, asker, &mut haves)?;
-    tell_answered(row, asker, answerer, haves.as_bytes(), outcome)
+    print_answered(row, asker, answerer, haves.as_bytes(), outcome)
 }
 
 fn ask_all<C: Closure, W: Sink>(alloc: Global, asker: &C, sink: &mut W) -> Result<(), SyncError> {
@@ -61,7 +61,7 @@ fn ask_all<C: Closure, W: Sink>(alloc: Global, asker: &C, sink: &mut W) -> Resul
     Ok(())
 }
 
-fn tell_answered<C: Closure>(
+fn print_answered<C: Closure>(
     row: RowCall<'_>,
     asker: &mut C,
     answerer: &C,
@@ -70,7 +70,7 @@ fn tell_answered<C: Closure>(
 ) -> Result<(), Stop> {
     let mut answers = MemSink::new(row.alloc, AMPLE_ROOM)?;
     serve_text(row.alloc, answerer, haves, &mut answers)?;
-    tell_taken(row, asker, haves, answers.as_bytes(), outcome)
+    print_taken(row, asker, haves, answers.as_bytes(), outcome)
 }
 
 fn serve_text<C: Closure, W: Sink>(
@@ -84,8 +84,8 @@ fn serve_text<C: Closure, W: Sink>(
     Ok(())
 }
 
-// The asker takes the answers. Tells what was new, and what was asked and answered.
-fn tell_taken<C: Closure>(
+// The asker takes the answers. Reports what was new, and what was asked and answered.
+fn print_taken<C: Closure>(
     row: RowCall<'_>,
     asker: &mut C,
     haves: &[u8],
@@ -93,14 +93,14 @@ fn tell_taken<C: Closure>(
     outcome: &mut String,
 ) -> Result<(), Stop> {
     let mut written = MemSink::new(row.alloc, AMPLE_ROOM)?;
-    tell_new(row.alloc, asker, answers, &mut written, outcome)?;
+    print_new(row.alloc, asker, answers, &mut written, outcome)?;
     if written.as_bytes() != haves {
         outcome.push_str("; other haves than before")?;
     }
-    tell_texts(row, haves, answers, outcome)
+    print_texts(row, haves, answers, outcome)
 }
 
-fn tell_new<C: Closure, W: Sink>(
+fn print_new<C: Closure, W: Sink>(
     alloc: Global,
     asker: &mut C,
     answers: &[u8],
@@ -112,10 +112,10 @@ fn tell_new<C: Closure, W: Sink>(
         Ok(count) => write!(outcome, "new {count}; ")?,
         Err(fault) => write!(outcome, "{fault}; ")?,
     }
-    Ok(tell_held(asker, outcome)?)
+    Ok(print_held(asker, outcome)?)
 }
 
-fn tell_texts(
+fn print_texts(
     row: RowCall<'_>,
     haves: &[u8],
     answers: &[u8],

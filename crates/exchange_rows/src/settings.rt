@@ -1,8 +1,8 @@
 //! The settings in which a row runs.
-use crate::calls::{tell_whole, tell_without_text};
-use crate::events::{tell_agreement, tell_world};
-use crate::messages::tell_made;
-use crate::places::{Device, tell_places};
+use crate::calls::{print_whole, print_without_text};
+use crate::events::{print_agreement, print_world};
+use crate::messages::print_made;
+use crate::places::{Device, print_places};
 use crate::row_call::RowCall;
 use crate::stop::Stop;
 use closure_core::Closure;
@@ -11,33 +11,33 @@ use row_script::Answers;
 use std::alloc::AllocError;
 use trust_closure::IndexedClosure;
 
-/// Tells what comes of the row.
-pub(crate) fn tell(row: RowCall<'_>, answer: &mut String) -> Result<(), Stop> {
+/// Reports what comes of the row.
+pub(crate) fn print_out(row: RowCall<'_>, answer: &mut String) -> Result<(), Stop> {
     let Some((call, device)) = row.call.split_once('_') else {
-        return tell_call(row, answer);
+        return print_call(row, answer);
     };
     let row = RowCall { call, ..row };
     match device {
         "cut" => at_places(row, Device::Cut, answer),
-        "cut_indexed" => tell_places::<IndexedClosure>(row, Device::Cut, answer),
+        "cut_indexed" => print_places::<IndexedClosure>(row, Device::Cut, answer),
         "reads" => at_places(row, Device::Reads, answer),
         "room" => at_places(row, Device::Room, answer),
         _ => Err(Stop::Verb),
     }
 }
 
-fn tell_call(row: RowCall<'_>, answer: &mut String) -> Result<(), Stop> {
+fn print_call(row: RowCall<'_>, answer: &mut String) -> Result<(), Stop> {
     match row.call {
-        "show" => Ok(tell_text(row, answer)?),
-        "make" => tell_made(row, answer),
-        "world" => tell_world(row, answer),
-        "agree" => tell_agreement(row, answer),
+        "show" => Ok(print_text(row, answer)?),
+        "make" => print_made(row, answer),
+        "world" => print_world(row, answer),
+        "agree" => print_agreement(row, answer),
         "have" | "absorb" | "session" => without_text(row, answer),
         _ => in_all_pieces(row, answer),
     }
 }
 
-fn tell_text(row: RowCall<'_>, answer: &mut String) -> Result<(), AllocError> {
+fn print_text(row: RowCall<'_>, answer: &mut String) -> Result<(), AllocError> {
     row.script.show(row.text, answer)?;
     answer.push_str("\n")
 }
@@ -55,7 +55,7 @@ fn add_without_text<C: Closure>(
     answers: &mut Answers,
 ) -> Result<(), Stop> {
     let mut text = String::new(row.alloc);
-    tell_without_text::<C>(row, &mut text)?;
+    print_without_text::<C>(row, &mut text)?;
     Ok(answers.add(setting, text.as_str())?)
 }
 
@@ -79,7 +79,7 @@ fn add_pieces<C: Closure>(
     answers: &mut Answers,
 ) -> Result<(), Stop> {
     let mut text = String::new(row.alloc);
-    tell_whole::<C>(row, size, &mut text)?;
+    print_whole::<C>(row, size, &mut text)?;
     Ok(answers.add(setting, text.as_str())?)
 }
 
@@ -97,6 +97,6 @@ fn add_places<C: Closure>(
     answers: &mut Answers,
 ) -> Result<(), Stop> {
     let mut text = String::new(row.alloc);
-    tell_places::<C>(row, device, &mut text)?;
+    print_places::<C>(row, device, &mut text)?;
     Ok(answers.add(setting, text.as_str())?)
 }

@@ -1,16 +1,16 @@
-//! Why a row comes to nothing.
+//! Why a row has no result.
 use fed_config::ConfigError;
 use receipt_core::LineError;
 use replica_sync::SyncError;
 use std::alloc::{AllocError, AllocFailed};
 use std::fmt;
 
-/// Why a row comes to nothing.
+/// Why a row has no result.
 #[derive(Clone, Copy, Debug, PartialEq, Eq)]
 pub(crate) enum Stop {
     /// The row has a verb that means nothing.
     Verb,
-    /// A word is missing, or is not a number although one is needed.
+    /// An argument is missing, or is not a number although one is needed.
     Word,
     /// No text has the name.
     Name,

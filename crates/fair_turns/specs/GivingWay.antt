@@ -1,4 +1,4 @@
--- Who gives way if a table is full.
+-- Which connection makes room if a table is full.
 use Rattle.std.specs.Prelude.{◌≡◌, ◌<◌, ◌≤◌, ◌⊎◌}
 use Rattle.fair_turns.specs.declared.giving_way.Candidate.{Candidate}
 

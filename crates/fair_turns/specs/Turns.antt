@@ -4,8 +4,8 @@ use Rattle.fair_turns.specs.declared.turns.Turns.{Turns}
 use Rattle.fair_turns.specs.declared.turns.Work.{Work}
 use Rattle.fair_turns.specs.declared.turns.Work.TheVariants.{Change, Long, Short}
 
--- After `last` had its turn, that of `first` comes before that of `second`: the numbers above
--- `last` come first, and those up to it after them, each from the least on.
+-- After `last` had its turn, `first` has its turn before `second`: the numbers above `last` come
+-- first, and those up to it after them, each from the least on.
 abbrev pub ComesFirst : ℕ → ℕ → ℕ → Type 0
 ComesFirst first second last = (last < first) × ((second ≤ last) ⊎ (first < second))
     ⊎ (first ≤ last) × (second ≤ last) × (first < second)

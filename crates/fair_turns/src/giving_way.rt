@@ -1,8 +1,8 @@
-//! Who gives way if a table is full.
+//! Which connection makes room if a table is full.
 ghost use Rattle.std.specs.Prelude.{◌≡◌, ◌⊎◌};
 ghost use Rattle.fair_turns.specs.GivingWay.{GoesFirst};
 
-/// A connection that may give way.
+/// A connection that may make room.
 #[derive(Clone, Copy, Debug)]
 pub struct Candidate {
     /// Its number: one that came earlier has a lower one.
@@ -11,7 +11,7 @@ pub struct Candidate {
     pub quiet: u64,
 }
 
-/// Which of two gives way: the one that has asked nothing whole for longer, or, if it is the same
+/// Which of two makes room: the one that has asked nothing whole for longer, or, if it is the same
 /// for both, the one that came earlier.
 pub fn first_to_go(one: Candidate, other: Candidate) -> Candidate
     ensures among { (result ≡ one) ⊎ (result ≡ other) }

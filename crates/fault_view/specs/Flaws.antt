@@ -1,4 +1,4 @@
--- Where a configuration is at fault, and with what.
+-- A flaw of a configuration, and its place.
 use Rattle.std.specs.Prelude.{◌≡◌, ◌≢◌, ℕ, ◌<◌, Bool, false, true, ◌||◌, List, [], codes, Option}
 use Rattle.std.specs.Prelude.{Some, None, IsSome, IsTrue, option_and_then, Ok, length}
 use Rattle.std.specs.Str.{bytes_eq}
@@ -34,14 +34,14 @@ use Rattle.fault_view.specs.declared.flaws.FoundFlaw.{FoundFlaw}
 
 -- ---- places
 
--- what stands at the place, where there is something
+-- what is at the place, if there is something
 abbrev pub part_of : Data → FlawPlace → Option Data
 part_of tree Whole = Some tree
 part_of tree (Relationship number) = option_and_then (at number) (get (codes "relationships") tree)
 part_of tree (Seed number) = option_and_then (at number) (get (codes "seeds") tree)
 part_of tree Floors = get (codes "floors") tree
 
--- the members that what stands there has to have
+-- the members that the part there has to have
 abbrev pub is_needed_at : FlawPlace → List ℕ → Bool
 is_needed_at Whole name = bytes_eq name (codes "relationships") || bytes_eq name (codes "seeds")
 is_needed_at (Relationship number) name = bytes_eq name (codes "domain")
@@ -57,8 +57,8 @@ is_member_at (Relationship number) name = is_needed_at (Relationship number) nam
 is_member_at (Seed number) name = is_needed_at (Seed number) name
 is_member_at Floors name = true
 
--- Of these members the first are texts, the second are arrays, and the third are numbers. The
--- `bundle` of a seed is none of these: it is read as a bundle.
+-- The first of these members are texts, the second are arrays, and the third are numbers. The
+-- `bundle` of a seed is not among these: it is read as a bundle.
 abbrev pub is_text_at : FlawPlace → List ℕ → Bool
 is_text_at Whole name = false
 is_text_at (Relationship number) name = is_needed_at (Relationship number) name
@@ -83,7 +83,7 @@ IsAfter earlier Floors = ⊥
 
 -- ---- flaws
 
--- why a text is no URL of an endpoint
+-- why a text is not a URL of an endpoint
 abbrev pub IsUrlFlaw : List ℕ → UrlFlaw → Type 0
 IsUrlFlaw text TooLong = url_limit < length text
 IsUrlFlaw text NoUrl = (parts : Parts) → parse_url None text ≡ Ok parts → ⊥
@@ -110,8 +110,8 @@ abbrev pub HasSequence : Data → Option ℕ → Type 0
 HasSequence value rank = (bundle : Data) × (get (codes "bundle") value ≡ Some bundle)
     × HasNumberMember bundle (codes "spiffe_sequence") rank
 
--- What stands at the place has the flaw. The configuration is there for what is compared with
--- another of its parts.
+-- What is at the place has the flaw. The configuration is there for what is compared with another
+-- of its parts.
 abbrev pub HasFlaw : Data → FlawPlace → Data → Flaw → Type 0
 HasFlaw tree place value flaw.NotObject = as_object value ≡ None
 HasFlaw tree place value (flaw.UnknownMember name) = IsSome (get name.now value)
@@ -166,16 +166,16 @@ cause_of_flaw (flaw.BadBundle why) = BadSeed
 cause_of_flaw (flaw.BelowFloor rank floor) = BadSeed
 cause_of_flaw (flaw.NoSequence floor) = BadSeed
 
--- what stands at the place has the flaw, whatever else the configuration has, and the flaw is of
--- this cause
+-- what is at the place has the flaw, whatever else the configuration has, and the flaw is of this
+-- cause
 abbrev pub IsFlawOf : ConfigError → FlawPlace → Data → Flaw → Type 0
 IsFlawOf cause place value f = ((tree : Data) → HasFlaw tree place value f)
     × (cause_of_flaw f ≡ cause)
 
--- what is named really is at fault there, and is of this cause
+-- the named flaw really is there, and is of this cause
 pub record IsFoundFlaw (tree : Data) (cause : ConfigError) (found : FoundFlaw) : Type 0 where
   pub part : Data
-  pub stands : part_of tree found.place ≡ Some part
+  pub placed : part_of tree found.place ≡ Some part
   pub flaw : HasFlaw tree found.place part found.flaw
   pub of_cause : cause_of_flaw found.flaw ≡ cause
 

@@ -6,7 +6,7 @@ use Rattle.std.specs.Prelude.{◌++◌, length, slice_range, flat_map, Bool, if�
 abbrev pub is_ascii_print : ℕ → Bool
 is_ascii_print b = nat_le 32 b && nat_le b 126
 
--- it stands for itself: it prints, and is neither a quotation mark nor a backslash
+-- it is shown as itself: it prints, and is neither a quotation mark nor a backslash
 abbrev pub is_plain : ℕ → Bool
 is_plain b = is_ascii_print b && not (b == 34) && not (b == 92)
 
@@ -30,7 +30,7 @@ shown_limit = 64
 abbrev pub front : List ℕ → List ℕ
 front text = if nat_le (length text) shown_limit then text else slice_range text 0 shown_limit
 
--- a quotation mark, and two full stops before it where not all of the text was shown
+-- a quotation mark, and two full stops before it if not all of the text was shown
 abbrev pub ending : List ℕ → List ℕ
 ending text = if nat_le (length text) shown_limit then 34 ∷ [] else 46 ∷ 46 ∷ 34 ∷ []
 

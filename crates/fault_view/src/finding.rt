@@ -1,4 +1,4 @@
-//! The first part of a configuration that is at fault.
+//! The first part of a configuration that has a flaw.
 ghost use Rattle.std.specs.Prelude.{◌≡◌, IfSome};
 ghost use Rattle.serde_json.specs.View.{view};
 ghost use Rattle.fault_view.specs.Flaws.{HasFlaw, IsFoundFlaw, cause_of_flaw};
@@ -12,10 +12,10 @@ use fed_config::ConfigError;
 use serde_json::Value;
 use std::alloc::Global;
 
-/// A part of the configuration that is at fault with this cause, which `Config::read` returned for
-/// it. The whole is looked at first, then the relationships, the seeds and the floors; a part is
-/// passed over if memory runs out for it. `None` if none is found, and for the causes that are of
-/// no one part: no JSON, and too many parts.
+/// A part of the configuration that has a flaw of this cause, which `Config::read` returned for it.
+/// The whole is looked at first, then the relationships, the seeds and the floors; a part is passed
+/// over if memory runs out for it. `None` if none is found, and for the causes that are of no one
+/// part: no JSON, and too many parts.
 ///
 /// The work grows with the length of the configuration. For relationships with one domain it grows
 /// with the square of their number up to 1,024; those after that are compared with the first 1,024.

@@ -7,15 +7,15 @@ use spiffe_name::NameError;
 /// What is wrong with a part of a configuration. Texts are lent by its JSON value.
 #[derive(Clone, Copy, Debug)]
 pub enum Flaw<'a> {
-    /// It is no object.
+    /// It is not an object.
     NotObject,
     /// It has a member of this name, which it may not have.
     UnknownMember(&'a str),
     /// It lacks the member of this name.
     MissingMember(&'a str),
-    /// This member is no text.
+    /// This member is not a text.
     NotText(&'a str),
-    /// This member is no array.
+    /// This member is not an array.
     NotArray(&'a str),
     /// The floor of this name is not a whole number from 0 to 2^64 - 1.
     NotNumber(&'a str),
@@ -25,7 +25,7 @@ pub enum Flaw<'a> {
     UnknownDomain(&'a str),
     /// Its `domain` is this text, which names no trust domain.
     BadDomain(&'a str, NameError),
-    /// Its `endpoint` is this text, which is no SPIFFE ID.
+    /// Its `endpoint` is this text, which is not a SPIFFE ID.
     BadEndpoint(&'a str, NameError),
     /// Its `url` is not that of an endpoint.
     BadUrl(UrlFlaw),
@@ -33,7 +33,7 @@ pub enum Flaw<'a> {
     OtherProfile(&'a str),
     /// Its `domain` is this text, as that of the relationship with this number.
     SameDomain(&'a str, usize),
-    /// Its `bundle` is no bundle.
+    /// Its `bundle` is not a bundle.
     BadBundle(DocError),
     /// The sequence number of its `bundle` is the first, and the floor of its domain is the second,
     /// which is above it.
@@ -45,7 +45,7 @@ pub enum Flaw<'a> {
 /// A place in a configuration, and what is wrong there.
 #[derive(Clone, Copy, Debug)]
 pub struct FoundFlaw<'a> {
-    /// Where it is.
+    /// Its place.
     pub place: FlawPlace,
     /// What is wrong there.
     pub flaw: Flaw<'a>,

@@ -91,7 +91,7 @@ fn floor_of(config: &Value, part: &Value) -> Option<u64>
     FlawPlace::Floors.part_in(config)?.get(domain)?.as_u64()
 }
 
-/// The sequence number of a seed's document, or `None` inside where it has none.
+/// The sequence number of a seed's document, or `None` inside if it has none.
 fn sequence_of(alloc: Global, part: &Value) -> Option<Option<u64>>
     ensures { IfSome result (HasSequence (view part.now)) }
 {

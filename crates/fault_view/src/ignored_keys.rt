@@ -11,7 +11,7 @@ use serde_json::Value;
 use std::alloc::Global;
 
 /// Whether the element of `keys` with this number, from 0, is passed over when the bundle is read,
-/// since it says no authority. Not so where there is no such element, or memory ran out.
+/// since it says no authority. Not so if there is no such element, or memory ran out.
 pub fn is_ignored(alloc: Global, bundle: &Value, number: usize) -> bool
     ensures { IsTrue result → IsIgnored (view bundle.now) number }
 {

@@ -1,4 +1,4 @@
-//! Where bytes stop being JSON.
+//! The place at which bytes stop being JSON.
 ghost use Rattle.std.specs.Prelude.{IfSome};
 ghost use Rattle.serde_json.specs.Data.{Data};
 ghost use Rattle.jwk_set.specs.Json.{IsJson};
@@ -11,12 +11,13 @@ use std::alloc::Global;
 pub struct JsonFault {
     /// The line, counted from 1.
     pub line: usize,
-    /// The byte in that line, counted from 1, or how many bytes the last line has where the text
+    /// The byte in that line, counted from 1, or the number of bytes of the last line if the text
     /// ends too early.
     pub column: usize,
 }
 
-/// Where the bytes stop being a JSON text, or `None` where they are one or memory ran out.
+/// The place at which the bytes stop being a JSON text, or `None` if they are one or memory ran
+/// out.
 pub fn json_fault(alloc: Global, bytes: &[u8]) -> Option<JsonFault>
     ensures { IfSome result (λ _. (tree : Data) → IsJson bytes.now tree → ⊥) }
 {

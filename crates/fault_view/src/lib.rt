@@ -1,8 +1,9 @@
-//! Where an input is at fault: a second look at what was refused, for a message to an operator.
+//! The place of an error in an input: a second look at what was refused, for a message to an
+//! operator.
 //!
-//! Reading a configuration or a bundle returns the first cause alone, and no place. What is found
-//! here is looked for only where a message is wanted. Each contract says that what is named really
-//! is at fault where it is named; no clause says that something is found, which rows show.
+//! Reading a configuration or a bundle returns only the first cause, and no place. What is found
+//! here is looked for only if a message is wanted. Each contract says that the named error really
+//! is at the named place; no clause says that something is found, which rows show.
 #![tactic(auto)]
 
 mod finding;

@@ -18,7 +18,7 @@ use std::alloc::Global;
 /// How many relationships are compared with those before them.
 const MOST_COMPARED: usize = 1_024;
 
-/// A `domain` or an `endpoint` that is no name.
+/// A `domain` or an `endpoint` that is not a name.
 pub(crate) fn name_flaw<'a>(alloc: Global, part: &'a Value, place: FlawPlace) -> Option<Flaw<'a>>
     ensures { IfSome result (IsFlawOf ConfigError.BadName place (view part.now)) }
 {
@@ -100,7 +100,7 @@ fn has_domain(part: &Value, text: &str) -> bool
     }
 }
 
-/// A `bundle` that is none.
+/// A `bundle` that is not a bundle.
 pub(crate) fn bundle_flaw<'a>(alloc: Global, part: &'a Value, _place: FlawPlace) -> Option<Flaw<'a>>
     ensures { IfSome result (IsFlawOf ConfigError.BadSeed _place (view part.now)) }
 {

@@ -21,7 +21,7 @@ pub enum FlawPlace {
 }
 
 impl FlawPlace {
-    /// Whether what stands there may have a member of this name.
+    /// Whether what is there may have a member of this name.
     pub(crate) fn has_member(self, name: &str) -> bool
         ensures { result ≡ is_member_at self name.now }
     {
@@ -75,7 +75,7 @@ impl FlawPlace {
         }
     }
 
-    /// What stands there.
+    /// What is there.
     pub(crate) fn part_in<'a>(self, config: &'a Value) -> Option<&'a Value>
         ensures { option_map (λ v. view v.now) result ≡ part_of (view config.now) self }
     {

@@ -10,9 +10,9 @@ use std::alloc::AllocError;
 const MOST_SHOWN: usize = 64;
 
 /// Writes the first 64 bytes of a text between quotation marks, with two full stops before the last
-/// one where there are more, after what is there. A byte that does not print stands as a backslash,
-/// an `x` and two hexadecimal digits, and so do a quotation mark, a backslash, and each byte of a
-/// character that is not ASCII.
+/// one if there are more, after what is there. A byte that does not print is written as a
+/// backslash, an `x` and two hexadecimal digits, and so are a quotation mark, a backslash, and each
+/// byte of a character that is not ASCII.
 ///
 /// # Errors
 /// Memory ran out. Nothing is said then of what is there.

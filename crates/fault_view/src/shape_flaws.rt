@@ -12,7 +12,7 @@ use crate::place::FlawPlace;
 use fed_config::ConfigError;
 use serde_json::{Map, Value};
 
-/// What is wrong with the shape of what stands at a place.
+/// What is wrong with the shape of what is at a place.
 pub(crate) fn shape_flaw<'a>(part: &'a Value, place: FlawPlace) -> Option<Flaw<'a>>
     ensures { IfSome result (IsFlawOf ConfigError.Shape place (view part.now)) }
 {

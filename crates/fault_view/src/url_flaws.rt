@@ -1,4 +1,4 @@
-//! Why a text is no URL of an endpoint.
+//! Why a text is not a URL of an endpoint.
 ghost use Rattle.std.specs.Prelude.{◌≡◌, ◌↔◌, [], IsTrue, IfSome, codes};
 ghost use Rattle.fault_view.specs.Flaws.{IsUrlFlaw};
 
@@ -8,12 +8,12 @@ use url::{ParseError, Url};
 /// The most bytes that the URL of an endpoint has as it is written.
 const MAX_URL_BYTES: usize = 2_048;
 
-/// Why a text is no URL of an endpoint.
+/// Why a text is not a URL of an endpoint.
 #[derive(Clone, Copy, Debug, PartialEq, Eq)]
 pub enum UrlFlaw {
     /// It has more than 2,048 bytes.
     TooLong,
-    /// It is no URL.
+    /// It is not a URL.
     NoUrl,
     /// Its scheme is not `https`.
     OtherScheme,
@@ -23,7 +23,7 @@ pub enum UrlFlaw {
     HasPassword,
 }
 
-/// Why the text is no URL of an endpoint, or `None` where it is one or memory ran out.
+/// Why the text is not a URL of an endpoint, or `None` if it is one or memory ran out.
 pub(crate) fn url_flaw(alloc: Global, text: &str) -> Option<UrlFlaw>
     ensures { IfSome result (IsUrlFlaw text.now) }
 {

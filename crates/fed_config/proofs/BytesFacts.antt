@@ -12,7 +12,7 @@ use Rattle.fed_config.specs.Reading.{Fails, IsConfig, IsRead, RefusesConfigBytes
 use Rattle.fed_config.specs.declared.error.ConfigError.{ConfigError}
 use Rattle.fed_config.specs.declared.error.ConfigError.TheVariants.{NotJson, Shape, BadName, BadUrl, BadProfile, DoubleRelationship, BadSeed, TooMany, NoMemory}
 
--- the empty text is no JSON text
+-- the empty text is not a JSON text
 none_of_nothing : read [] ≡ None
 unfolding serde_json_on_literals
 none_of_nothing = refl
@@ -26,8 +26,7 @@ some_bytes (b ∷ bytes) tree json = omega arith
 pub json_of : (bytes text : List ℕ) (tree : Data) → IsUtf8 bytes → text ≡ bytes → read text ≡ Some tree → IsJson bytes tree
 json_of bytes text tree utf8 same found = (utf8, subst (λ t. read t ≡ Some tree) same found)
 
--- where a value lacks the shape of a configuration, or memory ran out over it, its bytes are
--- refused
+-- if a value lacks the shape of a configuration, or memory ran out over it, its bytes are refused
 pub shape_exit : (bytes : List ℕ) (tree : Data) (e : ConfigError) → IsJson bytes tree
     → Fails Shape ((w : Written) × SaysWritten tree w) e → RefusesConfigBytes bytes e
 shape_exit bytes tree e json (inl is) = subst (RefusesConfigBytes bytes) (sym is) (json.0, some_bytes bytes tree json)

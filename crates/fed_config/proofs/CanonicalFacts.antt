@@ -106,7 +106,7 @@ flat_floors : (fs : List Floor) → members_depth (floor_members fs) ≤ 0
 flat_floors [] = omega arith
 flat_floors (f ∷ fs) = omega (arith, flat_floors fs)
 
--- beside other members it nests no deeper than one level, or these
+-- together with other members it nests no deeper than one level, or these
 shallow_floors : (fs : List Floor) (others : Members) (n : ℕ) → 1 ≤ n → members_depth others ≤ n → members_depth (with_floors fs others) ≤ n
 shallow_floors [] others n some h = h
 shallow_floors (f ∷ fs) others n some h = omega (arith, flat_floors (f ∷ fs), h, some)
@@ -144,8 +144,7 @@ keeps_itself url h short =
 
 -- ---- lists of one image
 
--- lists are equal where their images are, if elements with the property are equal where their
--- images are
+-- lists with equal images are equal, if elements with the property and with equal images are
 map_one : {X Y : Type 0} (P : X → Type 0) (f : X → Y) → ((x y : X) → P x → P y → f x ≡ f y → x ≡ y) → (xs ys : List X)
     → AllByRecursion P xs → AllByRecursion P ys → map f xs ≡ map f ys → xs ≡ ys
 map_one P f one [] [] p q e = refl
@@ -178,7 +177,7 @@ same_seed s u a b = let same : seed_from s.domain s.document ≡ seed_from u.dom
 same_configuration : (b c : Configuration) → b.relationships ≡ c.relationships → b.seeds ≡ c.seeds → b.floors ≡ c.floors → b ≡ c
 same_configuration b c p q r = let same : configuration_of b.relationships b.seeds b.floors ≡ configuration_of c.relationships c.seeds c.floors = cc in same
 
--- a rising list is the list of its own set
+-- a strictly sorted list is the list of its own set
 itself : {X : Type 0} (cmp : X → X → Ordering) (xs : List X) → IsStrictlySortedBy cmp xs → IsSetOf cmp xs xs
 itself cmp xs rising = record { rising = rising; members = λ x. (λ h. h, λ h. h) }
 
@@ -241,7 +240,7 @@ module _ (plain_domain : (text : List ℕ) → IsDomainText text → IsPlainText
     plain_floors c fs rising.1 each.1,
   )
 
-  -- so are they beside other members whose names are above theirs
+  -- so are they together with other members whose names are above theirs
   plain_with_floors : (c : Configuration) (fs : List Floor) → IsStrictlySortedBy floor_cmp fs → AllByRecursion (IsFloor c) fs → (others : Members)
       → IsBelowNames (codes "floors") others → HasPlainMembers others → HasPlainMembers (with_floors fs others)
   plain_with_floors c [] rising each others below plain = plain
@@ -272,7 +271,7 @@ module _ (plain_domain : (text : List ℕ) → IsDomainText text → IsPlainText
   unfolding config_text
   is_text c h = record { tree = config_tree c; json = reads (config_tree c) (plain_configuration c h) (omega (arith, shallow c)); says = says_texts c }
 
-  -- ---- a text stands for one configuration
+  -- ---- a text is that of one configuration
 
   module _ (one_id : (one other : Id) → IsId one → IsId other → one.text ≡ other.text
       → one ≡ other) (one_document : (b c : Bundle) → IsBundle b → IsBundle c → canonical_text b ≡ canonical_text c
@@ -299,7 +298,7 @@ module _ (plain_domain : (text : List ℕ) → IsDomainText text → IsPlainText
         (map_one IsRelationship text_of one_relationship b.relationships c.relationships p.each_relationship q.each_relationship (ap (λ w. w.relationships) e))
         (map_one IsSeed seed_text_of one_seed b.seeds c.seeds p.each_seed q.each_seed (ap (λ w. w.seeds) e)) (ap (λ w. w.floors) e)
 
-    -- configurations are equal exactly where their canonical texts are, as `laws::canonical_texts`
+    -- configurations are equal exactly if their canonical texts are, as `laws::canonical_texts`
     -- says
     pub one_text : (b c : Configuration) → IsConfiguration b → IsConfiguration c → (b ≡ c) ↔ (config_text b ≡ config_text c)
     one_text b c p q = (
@@ -310,7 +309,7 @@ module _ (plain_domain : (text : List ℕ) → IsDomainText text → IsPlainText
   -- ---- what is written is read as the configuration
 
   module _ (means_document : (b : Bundle) → IsBundle b → Means (document_tree b) b) where
-    -- the texts of relationships say them, where their URLs are short enough to be read
+    -- the texts of relationships say them, if their URLs are short enough to be read
     each_relationship : (rs : List Relationship) → AllByRecursion IsRelationship rs
         → AllByRecursion (λ r. length r.url ≤ 2048) rs → AllZip SaysRelationship (map text_of rs) rs
     unfolding text_of

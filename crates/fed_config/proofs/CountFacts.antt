@@ -8,7 +8,7 @@ use Rattle.serde_json.specs.View.{members_view}
 use Rattle.serde_json.specs.declared.value.Value.{Value}
 use Rattle.fed_config.specs.Written.{member_count, HasCount}
 
--- an object in memory has as many members as entries
+-- an object in memory has the same number of members and of entries
 pub member_count-members : (es : List (String Global × Value)) → member_count (members_view es) ≡ length es
 member_count-members [] = refl
 member_count-members (e ∷ es) = ap suc (member_count-members es)

@@ -1,4 +1,4 @@
--- A seed whose bundle is no document.
+-- A seed whose bundle is not a document.
 use Rattle.std.proofs.Common.{◌≡◌, inl, inr, refl}
 use Rattle.serde_json.specs.Data.{Data}
 use Rattle.bundle_doc.specs.Bundle.{Bundle, Means, Fits}

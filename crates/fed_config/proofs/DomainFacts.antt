@@ -1,4 +1,5 @@
--- The domains of a configuration have one rising list, and are found in it; so are relationships and floors.
+-- The domains of a configuration have one strictly sorted list, and are found in it; so are
+-- relationships and floors.
 use Rattle.std.proofs.Common.{◌≡◌, ℕ, inl, inr, List, [], ◌∷◌, length, get_or, Result, Ok, Err, Some, Less, Equal, Greater, refl, sym, ap, ◌∙◌, subst}
 use Rattle.std.specs.Ordering.{nat_cmp, ordering_index}
 use Rattle.std.specs.Result.{result_ok}
@@ -12,15 +13,15 @@ use Rattle.fed_config.specs.declared.floor.Floor.{Floor}
 use Rattle.fed_config.specs.declared.relationship.Relationship.{Relationship}
 use Rattle.fed_config.proofs.SetFacts.{Has, each_has, Has-Contains, Contains-Has, slice_get_at, rising_same, sorted, not_found}
 
--- the domains of a configuration have one rising list
+-- the domains of a configuration have one strictly sorted list
 pub one_list : (c : Configuration) (ds es : List (List ℕ)) → AreDomains c ds → AreDomains c es → ds ≡ es
 one_list c ds es p q =
     rising_same nat_list_cmp_total ds es p.rising q.rising
     (λ d h. Has-Contains es d (q.complete d (p.sound d (Contains-Has ds d h))))
     (λ d h. Has-Contains ds d (p.complete d (q.sound d (Contains-Has es d h))))
 
--- a binary search returns the domain's place among the configuration's domains, or none where it is
--- none of them
+-- a binary search returns the domain's place among the configuration's domains, or none if it is
+-- not one of them
 pub place_found : (c : Configuration) (ds : List (List ℕ)) (domain : List ℕ) (r : Result ℕ ℕ) → AreDomains c ds
     → IsSearchInRange r (length ds) → IsBinarySearchResult (λ d. slice_cmp nat_cmp d domain) ds r
     → IsPlace c domain (result_ok r)
@@ -31,7 +32,7 @@ place_found c ds domain (Ok i) are within position =
 place_found c ds domain (Err i) are within position =
     λ h. not_found nat_list_cmp_total (λ d. d) ds domain i (sorted nat_list_cmp_total ds are.rising) position domain (are.complete domain h) refl
 
--- where a binary search finds none, no relationship has the domain
+-- if a binary search finds none, no relationship has the domain
 pub relationship_not_found : (rs : List Relationship) (domain : List ℕ) (i : ℕ) → IsStrictlySortedBy relationship_cmp rs
     → (IsNonDecreasingBy (λ r. ordering_index (slice_cmp nat_cmp r.domain domain)) rs
     → IsPartitionPoint (λ r. slice_cmp nat_cmp r.domain domain ≡ Less)
@@ -40,7 +41,7 @@ pub relationship_not_found : (rs : List Relationship) (domain : List ℕ) (i : �
 relationship_not_found rs domain i rising splits =
     not_found nat_list_cmp_total (λ r. r.domain) rs domain i (sorted (on_total (λ (r : Relationship). r.domain) nat_list_cmp_total) rs rising) splits
 
--- where a binary search finds none, no floor has the domain
+-- if a binary search finds none, no floor has the domain
 pub floor_not_found : (fs : List Floor) (domain : List ℕ) (i : ℕ) → IsStrictlySortedBy floor_cmp fs
     → (IsNonDecreasingBy (λ f. ordering_index (slice_cmp nat_cmp f.domain domain)) fs
     → IsPartitionPoint (λ f. slice_cmp nat_cmp f.domain domain ≡ Less)
@@ -56,7 +57,7 @@ below_differs f g others below has same =
     let less : floor_cmp f g ≡ Less = each_has _ others g below has in
     let tied : floor_cmp f g ≡ Equal = subst (λ d. slice_cmp nat_cmp f.domain d ≡ Equal) same (tied_itself nat_list_cmp_total f.domain) in cc
 
--- of floors that rise one at most has a domain
+-- at most one of strictly sorted floors has a domain
 one_floor : (fs : List Floor) (f g : Floor) → IsStrictlySortedBy floor_cmp fs → Has fs f → Has fs g → f.domain ≡ g.domain → f ≡ g
 unfolding IsStrictlySortedBy
 one_floor [] f g rising p q same = absurd p
@@ -69,7 +70,7 @@ one_floor (x ∷ fs) f g rising (inr p) (inr q) same = one_floor fs f g rising.1
 pub same_floor : (fs : List Floor) (f g : Floor) → IsStrictlySortedBy floor_cmp fs → Contains fs f → Contains fs g → f.domain ≡ g.domain → f ≡ g
 same_floor fs f g rising p q = one_floor fs f g rising (Has-Contains fs f p) (Has-Contains fs g q)
 
--- where a binary search finds none, the domain is not a member
+-- if a binary search finds none, the domain is not a member
 pub domain_not_found : (ds : List (List ℕ)) (domain : List ℕ) (i : ℕ) → IsStrictlySortedBy domain_cmp ds
     → (IsNonDecreasingBy (λ d. ordering_index (slice_cmp nat_cmp d domain)) ds
     → IsPartitionPoint (λ d. slice_cmp nat_cmp d domain ≡ Less)

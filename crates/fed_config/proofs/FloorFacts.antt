@@ -86,7 +86,7 @@ below_names k f (e ∷ es) (g ∷ fs) same is below =
     let rest : members_view es ≡ floor_members fs = cc in
     (ap₂ (slice_cmp nat_cmp) same (sym name) ∙ below.0, below_names k f es fs same rest below.1)
 
--- the floors of members in order rise
+-- the floors of members in order are strictly sorted
 pub rising_floors : (es : List (String Global × Value)) (fs : List Floor) → members_view es ≡ floor_members fs
     → IsStrictlySortedBy string_cmp (keys_of es) → IsStrictlySortedBy floor_cmp fs
 unfolding IsStrictlySortedBy

@@ -37,7 +37,7 @@ pub taken_next : {X : Type 0} (xs : List X) (i : ℕ) (x : X) (out : List X) →
     → x ≡ get_or xs i x → out ++ drop i xs ≡ (out ++ x ∷ []) ++ drop (i + 1) xs
 taken_next xs i x out below at = ap (λ l. out ++ l) (from_drop xs i x below at) ∙ sym (append_assoc out (x ∷ []) (drop (i + 1) xs))
 
--- gathered domains, sorted and each once, are the rising list of their set
+-- gathered domains, sorted and each once, are the strictly sorted list of their set
 pub IsSetOf-dedup : (all ys : List (List ℕ)) → IsPermutation all ys → IsSorted domain_cmp ys → IsSetOf domain_cmp all (dedup bytes_eq ys)
 IsSetOf-dedup all ys moved sorted = record {
   rising = IsStrictlySortedBy-dedup nat_list_cmp_total texts_ties ys sorted;
@@ -155,7 +155,7 @@ module _ (ns : List Names) (us : List (List ℕ)) (ds : List (List ℕ)) (bs : L
       (subst (Has (flat_map both_domains ns)) p.2 (endpoint_there ns us p.0 (from_ys p.0 p.1)))
   complete d (inr (inr p)) = right (flat_map both_domains ns) ds d (subst (Has ds) p.2 (seed_there ds bs p.0 (from_zs p.0 p.1)))
 
-  -- the rising list of the gathered domains is that of the configuration's domains
+  -- the strictly sorted list of the gathered domains is that of the configuration's domains
   pub are_domains : length ns ≡ length us → length ds ≡ length bs → (all : List (List ℕ))
       → IsSetOf domain_cmp (gathered ns ds) all → AreDomains (of ys zs floors) all
   are_domains same same_ds all set = record {

@@ -1,4 +1,4 @@
--- A text has one meaning, or a cause for which it is none.
+-- A text has one meaning, or a cause for which it is refused.
 use Rattle.std.proofs.Common.{◌≡◌, ℕ, zero, suc, ◌<◌, inl, inr, List, [], ◌∷◌, ◌++◌, length, get_or, take, Option, None, Some, codes, Contains}
 use Rattle.std.proofs.Common.{refl, sym, ap, ap₂, ◌∙◌, subst, arith}
 use Rattle.std.specs.List.{AllByRecursion, AllZip}
@@ -139,7 +139,7 @@ one_url text u v p q =
 seed_from : List ℕ → Bundle → Seed
 seed_from domain document = record { domain = domain; document = document }
 
--- a set has one rising list
+-- a set has one strictly sorted list
 same_set : {X : Type 0} {cmp : X → X → Ordering} (o : IsTotalOrder cmp) (xs ys set other : List X) → xs ≡ ys
     → IsSetOf cmp xs set → IsSetOf cmp ys other → set ≡ other
 same_set {X} o xs ys set other e p q =
@@ -192,23 +192,23 @@ module _ (one_id : (one other : Id) → IsId one → IsId other → one.text ≡
   -- a domain of the configuration is one that is written
   names_domain : (w : Written) (c : Configuration) → IsMeant w c → (d : List ℕ) → HasDomain c d → NamesDomain w d
   names_domain w c p d (inl h) =
-      let beside = zip_left SaysRelationship w.relationships p.relationships h.0 p.each_relationship
+      let with_it = zip_left SaysRelationship w.relationships p.relationships h.0 p.each_relationship
       (Has-Contains p.relationships h.0 ((p.relationship_set.members h.0).0 h.1)) in
-      inl (beside.0, Contains-Has w.relationships beside.0 beside.1, sym beside.2.domain ∙ h.2)
+      inl (with_it.0, Contains-Has w.relationships with_it.0 with_it.1, sym with_it.2.domain ∙ h.2)
   names_domain w c p d (inr (inl h)) =
-      let beside = zip_left SaysRelationship w.relationships p.relationships h.0 p.each_relationship
+      let with_it = zip_left SaysRelationship w.relationships p.relationships h.0 p.each_relationship
       (Has-Contains p.relationships h.0 ((p.relationship_set.members h.0).0 h.1)) in
       inr (inl (
-        beside.0,
-        Contains-Has w.relationships beside.0 beside.1,
+        with_it.0,
+        Contains-Has w.relationships with_it.0 with_it.1,
         h.0.endpoint.path,
-        subst (λ x. IsIdText beside.0.endpoint x h.0.endpoint.path) h.2
-            (subst (λ text. IsIdText text h.0.endpoint.domain h.0.endpoint.path) beside.2.endpoint beside.2.is_id),
+        subst (λ x. IsIdText with_it.0.endpoint x h.0.endpoint.path) h.2
+            (subst (λ text. IsIdText text h.0.endpoint.domain h.0.endpoint.path) with_it.2.endpoint with_it.2.is_id),
       ))
   names_domain w c p d (inr (inr h)) =
-      let beside = zip_left SaysSeed w.seeds p.seeds h.0 p.each_seed
+      let with_it = zip_left SaysSeed w.seeds p.seeds h.0 p.each_seed
       (Has-Contains p.seeds h.0 ((p.seed_set.members h.0).0 h.1)) in
-      inr (inr (beside.0, Contains-Has w.seeds beside.0 beside.1, sym beside.2.domain ∙ h.2))
+      inr (inr (with_it.0, Contains-Has w.seeds with_it.0 with_it.1, sym with_it.2.domain ∙ h.2))
 
   -- the texts of a relationship have names in their forms
   named : (t : RelationshipText) (r : Relationship) → SaysRelationship t r → HasName t
@@ -248,12 +248,12 @@ module _ (one_id : (one other : Id) → IsId one → IsId other → one.text ≡
   passes bytes c p Shape = tt
   passes bytes c p NoMemory = tt
 
-  -- what is written and refused is no configuration
+  -- what is written and refused is not a configuration
   no_cause : (bytes : List ℕ) (e : ConfigError) (c : Configuration) (w : Written) → IsText bytes w → RefusesWritten w e → IsConfig bytes c → ⊥
   no_cause bytes e c w text refuses p = refuses.failed (subst (λ v. Passes v e) (same_written bytes p.written w p.text text) (passes bytes c p e))
 
-  -- bytes that are refused, other than for memory, are no configuration, as `laws::configurations`
-  -- says
+  -- bytes that are refused, other than for memory, are not a configuration, as
+  -- `laws::configurations` says
   pub refused_none : (bytes : List ℕ) (e : ConfigError) (c : Configuration) → RefusesConfigBytes bytes e → (e ≡ NoMemory → ⊥) → IsConfig bytes c → ⊥
   refused_none bytes NotJson c h other p = h p.text.tree p.text.json
   refused_none bytes Shape c h other p =
@@ -269,13 +269,13 @@ module _ (one_id : (one other : Id) → IsId one → IsId other → one.text ≡
 
 -- ---- floors of unknown domains
 
--- a list is what stands before one of its elements, that element, and what stands after it
+-- a list is the part before one of its elements, the element, and the part after it
 split_at : (fs : List Floor) (i : ℕ) (f : Floor) → i < length fs → f ≡ get_or fs i f → (after : List Floor) × (fs ≡ take i fs ++ f ∷ after)
 split_at [] i f below at = absurd (omega arith)
 split_at (g ∷ fs) zero f below at = (fs, ap (λ x. x ∷ fs) (sym at))
 split_at (g ∷ fs) (suc i) f below at = let rest = split_at fs i f (omega arith) at in (rest.0, ap (λ l. g ∷ l) rest.1)
 
--- a loop that comes to a name that fails has found the first one
+-- a loop that reaches a name that fails has found the first one
 pub finds_here : (P : List ℕ → Type 0) (fs : List Floor) (i : ℕ) (f : Floor) (name : List ℕ) → i < length fs → f ≡ get_or fs i f → f.domain ≡ name
     → AllByRecursion (λ g. P g.domain) (take i fs) → (P name → ⊥) → IsFirstFailing P fs name
 finds_here P fs i f name below at same passed fails = let rest = split_at fs i f below at in record {

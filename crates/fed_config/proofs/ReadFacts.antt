@@ -41,8 +41,8 @@ use Rattle.fed_config.proofs.ZipFacts.{each_left, each_right, each_unmap, zip_ma
 
 -- ---- exits
 
--- a step that fails refuses what is written: for lack of memory at once, and for its cause if the
--- failed test does
+-- a step that fails refuses what is written: for lack of memory immediately, and for its cause if
+-- the failed test does
 pub exits : (w : Written) (cause : ConfigError) (P : Type 0) (e : ConfigError) → Fails cause P e → ((P → ⊥) → RefusesRead w cause) → RefusesRead w e
 exits w cause P e (inl is) go = subst (RefusesRead w) (sym is) tt
 exits w cause P e (inr f) go = subst (RefusesRead w) (sym f.0) (go f.1)
@@ -113,7 +113,7 @@ seed_in t s h = record { domain = h.is_domain; bundle = h.means.is; fits = h.fit
 pub each_of_set : {X : Type 0} (cmp : X → X → Ordering) (P : X → Type 0) (xs set : List X) → IsSetOf cmp xs set → AllByRecursion P xs → AllByRecursion P set
 each_of_set cmp P xs set is each = each_from_has P set (λ x h. each_has P xs x each (Has-Contains xs x ((is.members x).0 (Contains-Has set x h))))
 
--- a list, put in another order that rises strictly, is the list of its set
+-- a list, put in another order that is strictly sorted, is the list of its set
 pub set_of_sorted : (xs ys : List Relationship) → IsPermutation xs ys → IsStrictlySortedBy relationship_cmp ys → IsSetOf relationship_cmp xs ys
 set_of_sorted xs ys moved rising = record {
   rising = rising;
@@ -130,7 +130,7 @@ one_if d r = cond (bytes_eq r.domain d) 1 0
 abbrev pub Single : List Relationship → Type 0
 Single rs = (d : List ℕ) → count_by (λ r. bytes_eq r.domain d) rs ≤ 1
 
--- as many texts as relationships have the domain
+-- the same number of texts and of relationships have the domain
 count_written : (ts : List RelationshipText) (rs : List Relationship) (d : List ℕ) → AllZip SaysRelationship ts rs
     → count_by (λ t. bytes_eq t.domain d) ts ≡ count_by (λ r. bytes_eq r.domain d) rs
 count_written [] [] d zip = refl
@@ -154,7 +154,7 @@ none_above r (s ∷ rs) all d is =
     ] in
     sum_by-cons (one_if d) s rs ∙ ap₂ (λ m n. m + n) (ap (λ b. cond b 1 0) differ) (none_above r rs all.1 d is)
 
--- relationships that rise strictly have different domains
+-- strictly sorted relationships have different domains
 strict_single : (rs : List Relationship) → IsStrictlySortedBy relationship_cmp rs → Single rs
 unfolding IsStrictlySortedBy
 strict_single [] rising d = omega arith
@@ -166,7 +166,7 @@ strict_single (r ∷ rs) rising d =
       | inr other ↦ let rest = strict_single rs rising.1 d in let zero_here : one_if d r ≡ 0 = ap (λ b. cond b 1 0) other in omega arith
     ]
 
--- if the sorted relationships rise strictly, no two that are written have one domain
+-- if the sorted relationships are strictly sorted, no two that are written have one domain
 pub single_in : (ts : List RelationshipText) (seeds : List SeedText) (floors : List Floor) (rs ys : List Relationship)
     → AllZip SaysRelationship ts rs → IsPermutation rs ys → IsStrictlySortedBy relationship_cmp ys
     → HasSingle (record { relationships = ts; seeds = seeds; floors = floors })
@@ -184,11 +184,11 @@ twice x y rs same single =
     let other : one_if y.domain y ≡ 1 = ap (λ b. cond b 1 0) ((bytes_eq-Decides y.domain y.domain).1 refl) in
     let few = single y.domain in omega arith
 
--- different domains stay so without the first relationship
+-- different domains are still different without the first relationship
 tail_single : (x : Relationship) (rs : List Relationship) → Single (x ∷ rs) → Single rs
 tail_single x rs single d = let counts = sum_by-cons (one_if d) x rs in let few = single d in omega arith
 
--- a sorted list stays so without its first relationship
+-- a sorted list is still sorted without its first relationship
 tail_sorted : (x : Relationship) (rs : List Relationship) → IsSorted relationship_cmp (x ∷ rs) → IsSorted relationship_cmp rs
 tail_sorted x rs sorted k d low below = let more : suc k + 1 ≡ suc (k + 1) = omega arith in
     subst (λ n. is_lt (relationship_cmp (get_or (x ∷ rs) n d) (get_or rs k d)) ≡ false) more
@@ -202,7 +202,7 @@ next_below x y rs sorted single =
     [ inl same ↦ absurd (twice x y rs same single) | inr other ↦ other ] in
     below_by x y (relationship_cmp x y) refl (sorted 0 x (omega arith) (omega arith)) differ
 
--- a sorted list of different domains rises strictly
+-- a sorted list of different domains is strictly sorted
 sorted_strict : (rs : List Relationship) → IsSorted relationship_cmp rs → Single rs → IsStrictlySortedBy relationship_cmp rs
 unfolding IsStrictlySortedBy
 sorted_strict [] sorted single = tt
@@ -212,7 +212,7 @@ sorted_strict (x ∷ y ∷ rs) sorted single =
     let first = next_below x y rs sorted single in
     ((first, below_all x y rs first rest.0), rest)
 
--- if the sorted relationships do not rise strictly, two that are written have one domain
+-- if the sorted relationships are not strictly sorted, two that are written have one domain
 pub not_single_in : (ts : List RelationshipText) (seeds : List SeedText) (floors : List Floor) (rs ys : List Relationship)
     → AllZip SaysRelationship ts rs → IsPermutation rs ys → IsSorted relationship_cmp ys
     → (IsStrictlySortedBy relationship_cmp ys → ⊥) → HasSingle (record { relationships = ts; seeds = seeds; floors = floors }) → ⊥
@@ -454,12 +454,12 @@ module _ (ts : List RelationshipText) (es : List SeedEntry) (fs : List Floor) (n
           }
 
           module _ (rising : IsStrictlySortedBy relationship_cmp ys) where
-            -- sorted relationships that rise strictly pass the test for a second one
+            -- strictly sorted relationships pass the test for a second one
             pub single : HasSingle (written ts es fs)
             single = single_in ts (map seed_text es) fs rs ys said moved rising
 
-            -- a seed that is no document, or that is below its floor, refuses what is written, since
-            -- all tests before are passed
+            -- a seed that is not a document, or that is below its floor, refuses what is written,
+            -- since all tests before are passed
             pub bad_seed : (HasDocuments (written ts es fs) → ⊥) → RefusesWritten (written ts es fs) BadSeed
             bad_seed none = record { passed = (has_names, (urls_in ts us urls, (profiles, (single, tt)))); failed = none }
 

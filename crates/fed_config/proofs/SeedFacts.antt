@@ -30,7 +30,7 @@ OneText = (b c : Bundle) → IsBundle b → IsBundle c → canonical_text b ≡ 
 seed : List ℕ → Bundle → Seed
 seed domain document = record { domain = domain; document = document }
 
--- seeds that the order does not tell apart are equal
+-- seeds that compare as equal are equal
 pub one_seed : OneText → (s t : Seed) → IsSeed s → IsSeed t → seed_cmp s t ≡ Equal → s ≡ t
 unfolding seed
 one_seed one s t p q tied =
@@ -41,7 +41,7 @@ one_seed one s t p q tied =
     (exact_bytes (canonical_text s.document) (canonical_text t.document) both.1) in
     let same : seed s.domain s.document ≡ seed t.domain t.document = cc in same
 
--- seeds, sorted and each once, are the rising list of their set
+-- seeds, sorted and each once, are the strictly sorted list of their set
 pub IsSetOf-dedup : OneText → (xs ys : List Seed) → AllByRecursion IsSeed xs → IsPermutation xs ys
     → IsSorted seed_cmp ys → IsSetOf seed_cmp xs (dedup same_seed ys)
 IsSetOf-dedup one xs ys each moved sorted =

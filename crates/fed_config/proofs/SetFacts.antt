@@ -1,4 +1,5 @@
--- Finite sets, kept as lists that rise strictly: a set has one such list, and a binary search finds its members.
+-- Finite sets, kept as strictly sorted lists: a set has one such list, and a binary search finds
+-- its members.
 use Rattle.std.proofs.Common.{◌≡◌, ℕ, zero, suc, ◌<◌, ◌≤◌, ◌⊎◌, inl, inr, ⊎_elim, List, [], ◌∷◌, length, get_or, false}
 use Rattle.std.proofs.Common.{Some, Less, Equal, Greater, refl, sym, ap, ap₂, ◌∙◌, subst, arith, add-one}
 use Rattle.std.specs.Cmp.{IsTotalOrder}
@@ -50,7 +51,7 @@ slice_get_at [] k d below = absurd (omega arith)
 slice_get_at (y ∷ ys) zero d below = refl
 slice_get_at (y ∷ ys) (suc k) d below = slice_get_at ys k d (omega arith)
 
--- ---- a set has one rising list
+-- ---- a set has one strictly sorted list
 
 module _ {X : Type 0} {R : X → X → Ordering} (o : IsTotalOrder R) where
   -- the element is below each of these
@@ -65,13 +66,13 @@ module _ {X : Type 0} {R : X → X → Ordering} (o : IsTotalOrder R) where
   not_both : (x y : X) → R x y ≡ Less → R y x ≡ Less → ⊥
   not_both x y p q = let above : R x y ≡ Greater = o.antisymm x y ∙ ap ordering_reverse q in cc
 
-  -- the first of a rising list is the first of any other with the same members
+  -- the first of a strictly sorted list is the first of any other with the same members
   same_first : (x y : X) (others more : List X) → Below x others → Below y more → Has (y ∷ more) x → Has (x ∷ others) y → x ≡ y
   same_first x y others more p q (inl e) there = e
   same_first x y others more p q (inr here) (inl e) = sym e
   same_first x y others more p q (inr here) (inr there) = absurd (not_both x y (each_has _ others y p there) (each_has _ more x q here))
 
-  -- an element that is below a list is no member of it
+  -- an element that is below a list is not a member of it
   not_again : (x : X) (others : List X) → Below x others → Has others x → ⊥
   not_again x others h has = not_below_itself x (each_has _ others x h has)
 
@@ -82,7 +83,7 @@ module _ {X : Type 0} {R : X → X → Ordering} (o : IsTotalOrder R) where
     | inr there ↦ there
   ]
 
-  -- rising lists with the same members are equal
+  -- strictly sorted lists with the same members are equal
   pub rising_same : (xs ys : List X) → IsStrictlySortedBy R xs → IsStrictlySortedBy R ys
       → ((x : X) → Has xs x → Has ys x) → ((x : X) → Has ys x → Has xs x) → xs ≡ ys
   unfolding IsStrictlySortedBy
@@ -97,13 +98,13 @@ module _ {X : Type 0} {R : X → X → Ordering} (o : IsTotalOrder R) where
       ap₂ (λ z l. z ∷ l) first
       (rising_same xs ys p.1 q.1 (λ z. tail_has x z xs ys p.0 forward) (λ z. tail_has x z ys xs below backward))
 
-  -- ---- a rising list is sorted
+  -- ---- a strictly sorted list is sorted
 
   -- what is above is not less
   falls_back : (x y : X) → R x y ≡ Less → is_lt (R y x) ≡ false
   falls_back x y below = let above : R y x ≡ Greater = o.antisymm y x ∙ ap ordering_reverse below in ap is_lt above
 
-  -- in a list that rises strictly no element is less than the one before it
+  -- in a strictly sorted list no element is less than the one before it
   sorted_at : (xs : List X) (k : ℕ) (d : X) → IsStrictlySortedBy R xs → suc k < length xs → is_lt (R (get_or xs (suc k) d) (get_or xs k d)) ≡ false
   unfolding IsStrictlySortedBy
   sorted_at [] k d rising below = absurd (omega arith)
@@ -111,7 +112,7 @@ module _ {X : Type 0} {R : X → X → Ordering} (o : IsTotalOrder R) where
   sorted_at (x ∷ y ∷ ys) zero d rising below = falls_back x y rising.0.0
   sorted_at (x ∷ y ∷ ys) (suc k) d rising below = sorted_at (y ∷ ys) k d rising.1 (omega arith)
 
-  -- a list that rises strictly is sorted
+  -- a strictly sorted list is sorted
   pub sorted : (xs : List X) → IsStrictlySortedBy R xs → IsSorted R xs
   sorted xs rising k d low below = subst (λ n. is_lt (R (get_or xs n d) (get_or xs k d)) ≡ false) (sym (add-one k)) (sorted_at xs k d rising (omega arith))
 
@@ -122,7 +123,7 @@ module _ {X K : Type 0} {R : K → K → Ordering} (o : IsTotalOrder R) (key : X
   abbrev by_key : X → X → Ordering
   by_key a b = R (key a) (key b)
 
-  -- what a binary search does not find is no key of a member
+  -- what a binary search does not find is not a key of a member
   pub not_found : (xs : List X) (x : K) (i : ℕ) → IsSorted by_key xs
       → (IsNonDecreasingBy (λ y. ordering_index (R (key y) x)) xs
       → IsPartitionPoint (λ y. R (key y) x ≡ Less) (λ y. R (key y) x ≡ Greater) xs i) → (y : X) → Contains xs y

@@ -28,7 +28,7 @@ same_at xs k d e below = let both : Some (get_or xs k d) ≡ Some (get_or xs k e
 abbrev pub Rises : List Relationship → ℕ → Type 0
 Rises rs n = (k : ℕ) (d : Relationship) → suc k < n → relationship_cmp (get_or rs k d) (get_or rs (suc k) d) ≡ Less
 
--- in a list that rises strictly each element is below the next
+-- in a strictly sorted list each element is below the next
 less_at : (rs : List Relationship) (k : ℕ) (d : Relationship) → IsStrictlySortedBy relationship_cmp rs
     → suc k < length rs → relationship_cmp (get_or rs k d) (get_or rs (suc k) d) ≡ Less
 unfolding IsStrictlySortedBy
@@ -47,7 +47,7 @@ below_by a b Greater is up differ =
     let less : relationship_cmp b a ≡ Less = relationships_total.antisymm b a ∙ ap ordering_reverse (sym is) in
     let falls : is_lt (relationship_cmp b a) ≡ true = ap is_lt less in absurd (cc)
 
--- where the next two domains differ, the list rises one element further
+-- if the next two domains differ, the list is strictly sorted one element further
 more_at : (rs : List Relationship) (n : ℕ) (a b : Relationship) → IsSorted relationship_cmp rs → suc n < length rs
     → a ≡ get_or rs n a → b ≡ get_or rs (suc n) b → bytes_eq a.domain b.domain ≡ false → Rises rs (suc n)
     → Rises rs (suc n + 1)
@@ -80,7 +80,7 @@ single_more rs (suc n) a b sorted some below first second differ rises =
     let before : suc n - 1 ≡ n = omega arith in
     more_at rs n a b sorted below (subst (λ m. a ≡ get_or rs m a) before first) second differ rises
 
--- where the next two domains are the same, the list does not rise strictly
+-- if the next two domains are the same, the list is not strictly sorted
 pub not_single : (rs : List Relationship) (place : ℕ) (a b : Relationship) → IsStrictlySortedBy relationship_cmp rs
     → 1 ≤ place → place < length rs → a ≡ get_or rs (place - 1) a → b ≡ get_or rs place b
     → bytes_eq a.domain b.domain ≡ true → ⊥
@@ -96,13 +96,13 @@ not_single rs (suc n) a b rising some below first second same =
     let domains : a.domain ≡ b.domain = (bytes_eq-Decides a.domain b.domain).0 same in
     let tied : relationship_cmp a b ≡ Equal = subst (λ d. slice_cmp nat_cmp a.domain d ≡ Equal) domains (tied_itself nat_list_cmp_total a.domain) in cc
 
--- what is below the first of a rising list is below all of it
+-- what is below the first of a strictly sorted list is below all of it
 pub below_all : (x y : Relationship) (ys : List Relationship) → relationship_cmp x y ≡ Less
     → AllByRecursion (λ z. relationship_cmp y z ≡ Less) ys → AllByRecursion (λ z. relationship_cmp x z ≡ Less) ys
 below_all x y [] less all = tt
 below_all x y (z ∷ ys) less all = (relationships_total.trans x y z less all.0, below_all x y ys less all.1)
 
--- a list whose elements rise one by one rises strictly
+-- a list whose elements are each below the next is strictly sorted
 pub strict_from : (rs : List Relationship) → Rises rs (length rs) → IsStrictlySortedBy relationship_cmp rs
 unfolding IsStrictlySortedBy
 strict_from [] rises = tt
@@ -112,6 +112,6 @@ strict_from (x ∷ y ∷ ys) rises =
     let first : relationship_cmp x y ≡ Less = rises 0 x (omega arith) in
     ((first, below_all x y ys first rest.0), rest)
 
--- a loop that comes to the end found a list that rises strictly
+-- a loop that reaches the end found a strictly sorted list
 pub single_all : (rs : List Relationship) (place : ℕ) → length rs ≤ place → Rises rs place → IsTrue true ↔ IsStrictlySortedBy relationship_cmp rs
 single_all rs place past rises = (λ h. strict_from rs (λ k d below. rises k d (omega arith)), λ h. refl)

@@ -1,5 +1,5 @@
--- Configurations, texts that are none, and canonical texts, said of the definitions: a slip in one of these does not
--- check.
+-- Configurations, texts that are not configurations, and canonical texts, said of the definitions:
+-- a slip in one of these does not check.
 use Rattle.std.proofs.Common.{◌≡◌, ℕ, List, [], ◌∷◌, inl, inr, length, None, Some, Result, Ok, Err, codes, refl, sym, ap, ◌∙◌, Less, Greater, arith, lit≤}
 use Rattle.url.specs.Parts.{Parts}
 use Rattle.url.specs.Parser.{parse_url}
@@ -58,7 +58,7 @@ texts = object (member (codes "domain") (string (codes "a"))
 pub says_texts : SaysRelationshipText texts (record { domain = codes "a"; endpoint = codes "b"; profile = codes "c"; url = codes "d" })
 says_texts = record { count = (_, refl, refl); domain = refl; endpoint = refl; profile = refl; url = refl }
 
--- an object with one member more is no relationship
+-- an object with one member more is not a relationship
 pub more : (t : RelationshipText)
     → SaysRelationshipText
     (object (member (codes "a") (string [])
@@ -67,7 +67,7 @@ pub more : (t : RelationshipText)
     (member (codes "profile") (string []) (member (codes "url") (string []) no_members)))))) t → ⊥
 more t h = let same = h.count.1 in let five = h.count.2 in cc
 
--- an object without the URL is no relationship
+-- an object without the URL is not a relationship
 pub fewer : (t : RelationshipText)
     → SaysRelationshipText
     (object (member (codes "domain") (string [])
@@ -75,7 +75,7 @@ pub fewer : (t : RelationshipText)
     (member (codes "name") (string []) (member (codes "profile") (string []) no_members))))) t → ⊥
 fewer t h = let none = h.url in cc
 
--- an array is no configuration
+-- an array is not a configuration
 pub no_array : (w : Written) → SaysWritten (array no_items) w → ⊥
 no_array w h = elim h.floors [ inl two ↦ (let none = two.0.1 in cc) | inr three ↦ (let none = three.0.1 in cc) ]
 

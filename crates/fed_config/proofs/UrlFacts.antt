@@ -7,8 +7,8 @@ use Rattle.url.specs.Input.{is_empty}
 use Rattle.url.proofs.InputLemmas.{is_empty_nonempty}
 use denote.Ref.{Bor}
 
--- the code's test for a password, which the library returns as none where it is empty, decides
--- whether the URL has one
+-- the code's test for a password, which the library returns as none if it is empty, decides whether
+-- the URL has one
 pub no_password : (password : List ℕ) (o : Option (Bor (List ℕ))) (r : Bool)
     → option_copied o ≡ cond (is_empty password) None (Some password) → is_some o ≡ not r → IsTrue r ↔ (password ≡ [])
 no_password [] o true e is = (λ h. refl, λ h. refl)

@@ -18,7 +18,7 @@ module _ {X Y : Type 0} (R : X → Y → Type 0) where
       → AllZip R (take i xs) ys → R x y → AllZip R (take (i + 1) xs) (ys ++ y ∷ [])
   zip_more xs ys i x y below at zip one = subst (λ n. AllZip R (take n xs) (ys ++ y ∷ [])) (sym (add-one i)) (push_suc xs ys i x y below at zip one)
 
-  -- a loop that comes to the end has read all
+  -- a loop that reaches the end has read all
   pub zip_all : (xs : List X) (ys : List Y) (i : ℕ) → length xs ≤ i → AllZip R (take i xs) ys → AllZip R xs ys
   zip_all [] ys zero past zip = zip
   zip_all [] ys (suc i) past zip = zip
@@ -26,7 +26,7 @@ module _ {X Y : Type 0} (R : X → Y → Type 0) where
   zip_all (x ∷ xs) [] (suc i) past zip = absurd zip
   zip_all (x ∷ xs) (y ∷ ys) (suc i) past zip = (zip.0, zip_all xs ys i (omega arith) zip.1)
 
-  -- lists are not side by side where an element can have nothing beside it
+  -- lists are not side by side if an element can have nothing next to it
   pub zip_none : (xs : List X) (ys : List Y) (i : ℕ) (x : X) → i < length xs → x ≡ get_or xs i x → ((y : Y) → R x y → ⊥) → AllZip R xs ys → ⊥
   zip_none [] ys i x below at none zip = absurd (omega arith)
   zip_none (z ∷ xs) [] i x below at none zip = zip
@@ -40,7 +40,7 @@ module _ {X Y : Type 0} (R : X → Y → Type 0) where
   zip_length (x ∷ xs) [] zip = absurd zip
   zip_length (x ∷ xs) (y ∷ ys) zip = ap suc (zip_length xs ys zip.1)
 
-  -- where each element determines what is beside it, the list determines the other
+  -- if each element determines what is next to it, the list determines the other
   pub zip_one : ((x : X) (y z : Y) → R x y → R x z → y ≡ z) → (xs : List X) (ys zs : List Y) → AllZip R xs ys → AllZip R xs zs → ys ≡ zs
   zip_one one [] [] [] p q = refl
   zip_one one [] (y ∷ ys) zs p q = absurd p
@@ -49,7 +49,7 @@ module _ {X Y : Type 0} (R : X → Y → Type 0) where
   zip_one one (x ∷ xs) (y ∷ ys) [] p q = absurd q
   zip_one one (x ∷ xs) (y ∷ ys) (z ∷ zs) p q = let first = one x y z p.0 q.0 in let rest = zip_one one xs ys zs p.1 q.1 in cc
 
-  -- a member of the right list has one of the left list beside it
+  -- a member of the right list has one of the left list next to it
   pub zip_left : (xs : List X) (ys : List Y) (y : Y) → AllZip R xs ys → Has ys y → (x : X) × Has xs x × R x y
   zip_left [] [] y zip h = absurd h
   zip_left [] (z ∷ ys) y zip h = absurd zip
@@ -103,7 +103,7 @@ module _ {X : Type 0} (P : X → Type 0) where
   pub each_more : (xs : List X) (i : ℕ) (x : X) → i < length xs → x ≡ get_or xs i x → AllByRecursion P (take i xs) → P x → AllByRecursion P (take (i + 1) xs)
   each_more xs i x below at each one = subst (λ n. AllByRecursion P (take n xs)) (sym (add-one i)) (each_suc xs i x below at each one)
 
-  -- a loop that comes to the end tested all elements
+  -- a loop that reaches the end tested all elements
   pub each_all : (xs : List X) (i : ℕ) → length xs ≤ i → AllByRecursion P (take i xs) → AllByRecursion P xs
   each_all [] i past each = tt
   each_all (x ∷ xs) zero past each = absurd (omega arith)

@@ -1,4 +1,4 @@
--- A configuration: what an operator tells a replica out of band (SPIFFE Federation, section 5).
+-- A configuration: what an operator says to a replica out of band (SPIFFE Federation, section 5).
 use Rattle.std.specs.Prelude.{◌≡◌, ℕ, ◌^◌, ◌<◌, ◌≤◌, ◌⊎◌, List, [], ◌∷◌, length, map, codes}
 use Rattle.std.specs.Prelude.{Contains, Option, Some, None, slice_get}
 use Rattle.std.specs.List.{AllByRecursion}
@@ -20,9 +20,9 @@ use Rattle.fed_config.specs.declared.relationship.Relationship.{Relationship}
 use Rattle.fed_config.specs.declared.seed.Seed.{Seed}
 use Rattle.fed_config.specs.Limits.{domain_limit, relationship_limit, seed_limit, url_limit}
 
--- A finite map of relationships, kept as the list that rises by their domains, a finite set of
--- seeds, kept as the list that rises by domain and then by canonical text, and a finite map of
--- floors, kept as the list that rises by their domains.
+-- A finite map of relationships, kept as the list strictly sorted by their domains, a finite set of
+-- seeds, kept as the list strictly sorted by domain and then by canonical text, and a finite map of
+-- floors, kept as the list strictly sorted by their domains.
 pub record Configuration : Type 0 where
   pub relationships : List Relationship
   pub seeds : List Seed
@@ -48,7 +48,7 @@ HasDomain c domain = ((r : Relationship) × Contains c.relationships r × (r.dom
     ⊎ ((r : Relationship) × Contains c.relationships r × (r.endpoint.domain ≡ domain))
     ⊎ ((s : Seed) × Contains c.seeds s × (s.domain ≡ domain))
 
--- the list of these domains that rises
+-- the strictly sorted list of these domains
 pub record AreDomains (c : Configuration) (domains : List (List ℕ)) : Type 0 where
   pub rising : IsStrictlySortedBy domain_cmp domains
   pub sound : (domain : List ℕ) → Contains domains domain → HasDomain c domain
@@ -108,7 +108,7 @@ pub record IsConfiguration (c : Configuration) : Type 0 where
   pub few_seeds : length c.seeds ≤ seed_limit
   pub few_domains : (domains : List (List ℕ)) → AreDomains c domains → length domains ≤ domain_limit
 
--- where the domain stands among the configuration's domains, if it is one
+-- the domain's place among the configuration's domains, if it is one
 abbrev pub IsPlace : Configuration → List ℕ → Option ℕ → Type 0
 IsPlace c domain None = HasDomain c domain → ⊥
 IsPlace c domain (Some place) = (domains : List (List ℕ)) → AreDomains c domains
@@ -137,7 +137,7 @@ abbrev pub floor_members : List Floor → Members
 floor_members [] = no_members
 floor_members (f ∷ floors) = member f.domain (number (unsigned f.sequence)) (floor_members floors)
 
--- where there are no floors there is no member for them
+-- if there are no floors there is no member for them
 abbrev pub with_floors : List Floor → Members → Members
 with_floors [] others = others
 with_floors (f ∷ floors) others = member (codes "floors") (object (floor_members (f ∷ floors)))
@@ -153,7 +153,7 @@ set_members c = member (codes "relationships")
 abbrev pub config_tree : Configuration → Data
 config_tree c = object (with_floors c.floors (set_members c))
 
--- unfolded only where a configuration is written or read
+-- unfolded only if a configuration is written or read
 unfoldable pub config_text : Configuration → List ℕ
 config_text c = compact_text (config_tree c)
 
@@ -166,7 +166,7 @@ config_id_of c = sha256 (config_text c)
 abbrev pub HasShortUrls : Configuration → Type 0
 HasShortUrls c = AllByRecursion (λ r. length r.url ≤ url_limit) c.relationships
 
--- a configuration in memory: beside its domains and its id
+-- a configuration in memory, with its domains and its id
 pub record IsStoredConfiguration (c : Configuration) (domains : List (List ℕ))
     (id : List ℕ) : Type 0 where
   pub is : IsConfiguration c

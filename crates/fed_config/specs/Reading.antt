@@ -1,4 +1,4 @@
--- What a text means as a configuration, and why it is none.
+-- What a text means as a configuration, and why it is not one.
 use Rattle.std.specs.Prelude.{◌≡◌, ℕ, ◌<◌, ◌≤◌, ◌↔◌, ◌⊎◌, ⊤, List, [], ◌∷◌, length, codes, Contains}
 use Rattle.std.specs.Prelude.{count_by, bytes_eq}
 use Rattle.std.specs.Str.{IsUtf8}
@@ -48,7 +48,7 @@ pub record SaysSeed (t : SeedText) (s : Seed) : Type 0 where
   pub means : Means t.bundle s.document
   pub fits : Fits s.document
 
--- the list is the rising one of the set of these
+-- the list is the set of these, strictly sorted
 pub record IsSetOf {X : Type 0} (cmp : X → X → Ordering) (xs set : List X) : Type 0 where
   pub rising : IsStrictlySortedBy cmp set
   pub members : (x : X) → Contains set x ↔ Contains xs x
@@ -141,7 +141,7 @@ earlier BadSeed = BadName ∷ BadUrl ∷ BadProfile ∷ DoubleRelationship ∷ [
 earlier TooMany = BadName ∷ BadUrl ∷ BadProfile ∷ DoubleRelationship ∷ BadSeed ∷ []
 earlier e = []
 
--- the first cause: all that go before do not stand, and this one does
+-- the first cause: all that go before do not hold, and this one does
 pub record RefusesWritten (w : Written) (e : ConfigError) : Type 0 where
   pub passed : AllByRecursion (Passes w) (earlier e)
   pub failed : Passes w e → ⊥
@@ -197,7 +197,7 @@ joined_seed p = record { domain = p.0; document = p.1 }
 abbrev pub HasFewDomains : Configuration → Type 0
 HasFewDomains c = (domains : List (List ℕ)) → AreDomains c domains → length domains ≤ domain_limit
 
--- a configuration, but for the number of its domains
+-- a configuration, except for the number of its domains
 pub record HasRisingLists (c : Configuration) : Type 0 where
   pub rising_relationships : IsStrictlySortedBy relationship_cmp c.relationships
   pub rising_seeds : IsStrictlySortedBy seed_cmp c.seeds

@@ -12,7 +12,7 @@ pub seed_cmp_total : IsTotalOrder seed_cmp
 seed_cmp_total = then_total (on_total (λ (s : Seed). s.domain) nat_list_cmp_total)
     (on_total (λ (s : Seed). canonical_text s.document) nat_list_cmp_total)
 
--- seeds are the same where the order does not tell them apart
+-- seeds are the same if they compare as equal
 abbrev pub same_seed : Seed → Seed → Bool
 same_seed = eq_by_cmp seed_cmp
 

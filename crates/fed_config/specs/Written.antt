@@ -31,8 +31,7 @@ abbrev pub member_count : Members → ℕ
 member_count no_members = 0
 member_count (member name d others) = suc (member_count others)
 
--- The value is an object with so many members. With as many names that are found in it, these are
--- all.
+-- The value is an object with this many members. If this many names are found in it, these are all.
 abbrev pub HasCount : Data → ℕ → Type 0
 HasCount tree count = (members : Members) × (as_object tree ≡ Some members)
     × (member_count members ≡ count)

@@ -15,7 +15,7 @@ use std::marker::Model;
 /// relationship with each foreign trust domain, seeds, which are bundles of trust domains, and
 /// floors, which are the lowest sequence numbers that count.
 ///
-/// A configuration is its meaning: two of them are equal exactly where they have the same
+/// A configuration is its meaning: two of them are equal exactly if they have the same
 /// relationships, seeds and floors, in whatever order these were written and however often a seed
 /// was. Each has one canonical text, and that text's digest is its id.
 #[derive(Debug, Drop)]
@@ -46,7 +46,7 @@ impl Model for Config {
 }
 
 impl Config {
-    /// The trust domains that the configuration speaks of, rising: those of its relationships, of
+    /// The trust domains that the configuration speaks of, sorted: those of its relationships, of
     /// their endpoints and of its seeds. There are at most 1,024.
     pub fn domains(&self) -> &[TrustDomain]
         ensures all { AreDomains self.now result.now }
@@ -55,7 +55,7 @@ impl Config {
         self.domains.as_slice()
     }
 
-    /// Where the trust domain stands in [`Config::domains`], found by binary search.
+    /// The place of the trust domain in [`Config::domains`], found by binary search.
     pub fn domain_no(&self, domain: &TrustDomain) -> Option<usize>
         ensures { IsPlace self.now domain.now result }
     {
@@ -75,14 +75,14 @@ impl Config {
         }
     }
 
-    /// The relationships, rising by their trust domains. There are at most 1,024.
+    /// The relationships, sorted by their trust domains. There are at most 1,024.
     pub fn relationships(&self) -> &[Relationship]
         ensures { result.now ≡ self.now.relationships }
     {
         self.relationships.as_slice()
     }
 
-    /// The seeds, each once, rising by their trust domains and then by their documents' canonical
+    /// The seeds, each once, sorted by their trust domains and then by their documents' canonical
     /// texts. There are at most 4,096.
     pub fn seeds(&self) -> &[Seed]
         ensures { result.now ≡ self.now.seeds }
@@ -90,7 +90,7 @@ impl Config {
         self.seeds.as_slice()
     }
 
-    /// The floors, rising by their trust domains. There is at most one for each of
+    /// The floors, sorted by their trust domains. There is at most one for each of
     /// [`Config::domains`].
     pub fn floors(&self) -> &[Floor]
         ensures { result.now ≡ self.now.floors }

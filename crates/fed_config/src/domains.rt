@@ -8,7 +8,7 @@ use crate::names::Names;
 use spiffe_name::TrustDomain;
 use std::alloc::{AllocError, Global};
 
-/// All domains of relationships, of their endpoints and of seeds, rising.
+/// All domains of relationships, of their endpoints and of seeds, sorted, each once.
 pub(crate) fn domains_of(
     alloc: Global,
     names: &[Names],
@@ -22,7 +22,7 @@ pub(crate) fn domains_of(
     Ok(domains)
 }
 
-/// All domains, in the order in which they stand.
+/// All domains, in the order in which they are written.
 fn gather(
     alloc: Global,
     names: &[Names],

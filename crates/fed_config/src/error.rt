@@ -1,4 +1,4 @@
-//! Why bytes are no configuration.
+//! Why bytes are not a configuration.
 ghost use Rattle.std.specs.Prelude.{◌≡◌};
 ghost use Rattle.fed_config.specs.declared.error.ConfigError.TheVariants.{NoMemory};
 
@@ -20,8 +20,8 @@ pub enum ConfigError {
     /// `floors` is not a trust domain of this configuration.
     #[error("C3 BadName")]
     BadName,
-    /// A `url` is no URL, has more than 2,048 bytes, another scheme than `https`, a user name or a
-    /// password.
+    /// A `url` is not a URL, has more than 2,048 bytes, another scheme than `https`, a user name or
+    /// a password.
     #[error("C4 BadUrl")]
     BadUrl,
     /// A `profile` is not `https_spiffe`.

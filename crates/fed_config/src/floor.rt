@@ -96,11 +96,11 @@ fn find<'a>(domains: &'a [TrustDomain], name: &str) -> Option<&'a TrustDomain>
 }
 
 /// The first name among the `floors` of a JSON value in the shape of a configuration, in the order
-/// of the names, that is not the name of one of its trust domains.
+/// of the names, which is not the name of one of its trust domains.
 ///
 /// # Errors
-/// The value has another shape, a relationship or a seed has a name that is none, so the domains
-/// are not known, or memory ran out.
+/// The value has another shape, a relationship or a seed has a text that is not a name, so the
+/// domains are not known, or memory ran out.
 pub fn unknown_floor<'a>(alloc: Global, value: &'a Value) -> Result<Option<&'a str>, ConfigError>
     ensures { MatchResult result
         (λ o. FindsUnknown (view value.now) (option_map (λ name. name.now) o))

@@ -1,4 +1,4 @@
-//! What follows from the definitions alone, for the crates above. No call does any work.
+//! What follows from only the definitions, for the crates above. No call does any work.
 ghost use Rattle.std.specs.Prelude.{◌≡◌, ◌↔◌, ℕ, List, []};
 ghost use Rattle.serde_json.specs.Data.{object};
 ghost use Rattle.serde_json.specs.Written.{compact_text};
@@ -8,9 +8,9 @@ ghost use Rattle.fed_config.specs.Reading.{IsConfig, RefusesConfigBytes};
 ghost use Rattle.fed_config.specs.declared.error.ConfigError.{ConfigError};
 ghost use Rattle.fed_config.specs.declared.error.ConfigError.TheVariants.{NoMemory};
 
-/// A text is a configuration of one meaning at most. What is refused, but for memory, is a
-/// configuration of none, and is refused for one cause. A configuration's domains have one rising
-/// list.
+/// A text is a configuration of one meaning at most. What is refused, except for memory, is a
+/// configuration of none, and is refused for one cause. A configuration's domains have one strictly
+/// sorted list.
 pub fn configurations()
     ensures one { (bytes : List ℕ) (b c : Configuration) → IsConfig bytes b → IsConfig bytes c
         → b ≡ c }
@@ -25,8 +25,8 @@ pub fn configurations()
     bundle_doc::laws::values();
 }
 
-/// Configurations are equal exactly where their canonical texts are. The canonical text, read as a
-/// configuration, is that configuration, where each of its URLs is within the limit of 2,048 bytes
+/// Configurations are equal exactly if their canonical texts are. The canonical text, read as a
+/// configuration, is that configuration, if each of its URLs is within the limit of 2,048 bytes
 /// also as it is kept. Without floors it is the text of only the relationships and seeds.
 pub fn canonical_texts()
     ensures one_text { (b c : Configuration) → IsConfiguration b → IsConfiguration c

@@ -47,7 +47,7 @@ impl Config {
     /// `bundle`, a document, and `domain`, a trust domain name.
     ///
     /// # Errors
-    /// The first of [`ConfigError`]'s causes that holds anywhere. Where memory ran out it is
+    /// The first of [`ConfigError`]'s causes that holds anywhere. If memory ran out it is
     /// [`ConfigError::NoMemory`], whatever else holds: memory is first wanted for the JSON value of
     /// bytes that are UTF-8 and not empty.
     pub fn read(alloc: Global, bytes: &[u8]) -> Result<Config, ConfigError>
@@ -96,7 +96,7 @@ impl Config {
         Config::of_sets(alloc, relationships, seeds, floors, domains)
     }
 
-    /// The configuration of these sets, where these are few enough domains.
+    /// The configuration of these sets, if these are few enough domains.
     fn of_sets(
         alloc: Global,
         relationships: Vec<Relationship>,

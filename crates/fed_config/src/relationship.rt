@@ -77,8 +77,8 @@ impl EndpointUrl {
     }
 }
 
-/// Where the bundle of a foreign trust domain is fetched, and who answers there (SPIFFE Federation,
-/// section 5.2): the profile is always `https_spiffe`.
+/// The place from which the bundle of a foreign trust domain is fetched, and who answers there
+/// (SPIFFE Federation, section 5.2): the profile is always `https_spiffe`.
 #[derive(Debug, Drop)]
 pub struct Relationship {
     /// The trust domain whose bundle is fetched.
@@ -86,7 +86,7 @@ pub struct Relationship {
     /// The SPIFFE ID with which the endpoint authenticates itself. Its trust domain may be `domain`
     /// or another.
     pub endpoint: SpiffeId,
-    /// Where the bundle is served.
+    /// The URL at which the bundle is served.
     pub url: EndpointUrl,
 }
 

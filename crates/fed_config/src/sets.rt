@@ -1,4 +1,4 @@
-//! Relationships and seeds as sets: lists that rise strictly.
+//! Relationships and seeds as sets: strictly sorted lists.
 ghost use Rattle.std.specs.Prelude.{◌≡◌, ◌↔◌, ◌≤◌, IsTrue, length};
 ghost use Rattle.std.specs.List.{AllByRecursion};
 ghost use Rattle.std.specs.List.Sorted.{IsPermutation, IsSorted, IsStrictlySortedBy};

@@ -66,7 +66,7 @@ impl<'a> Model for FloorEntry<'a> {
     ghost view = { λ f. record { domain = f.domain.now; sequence = f.sequence } };
 }
 
-/// All relationships and seeds, in the order in which they are written, and the floors, rising by
+/// All relationships and seeds, in the order in which they are written, and the floors, sorted by
 /// their domains.
 #[derive(Drop)]
 pub(crate) struct Entries<'a> {
@@ -197,7 +197,7 @@ fn read_seeds<'a>(alloc: Global, elements: &'a [Value]) -> Result<Vec<SeedEntry<
     Ok(entries)
 }
 
-/// The texts of a relationship, where the value has its shape.
+/// The texts of a relationship, if the value has its shape.
 fn relationship_entry(value: &Value) -> Option<RelationshipEntry<'_>>
     ensures { FindsMember result (SaysRelationshipText (view value.now)) }
 {
@@ -212,7 +212,7 @@ fn relationship_entry(value: &Value) -> Option<RelationshipEntry<'_>>
     })
 }
 
-/// The parts of a seed, where the value has its shape.
+/// The parts of a seed, if the value has its shape.
 fn seed_entry(value: &Value) -> Option<SeedEntry<'_>>
     ensures { FindsMember (option_map seed_text result) (SaysSeedText (view value.now)) }
 {

@@ -1,4 +1,4 @@
--- Lemmas on devices: where an error is not reported as that of a failed device, the device is as
+-- Lemmas on devices: if an error is not reported as that of a failed device, the device is as
 -- sound as it was.
 use Rattle.std.proofs.Common.{◌≡◌, ◌||◌, Bool, Err, refl}
 use Rattle.byte_lines.specs.Device.{is_source_fault}
@@ -16,11 +16,11 @@ use Rattle.replica_core.specs.declared.error.SyncError.TheVariants.{NotCanonical
 use Rattle.replica_core.specs.declared.error.SyncError.TheVariants.{Refused}
 use Rattle.replica_core.specs.declared.error.SyncError.TheVariants.{Io as StreamFailed}
 use Rattle.replica_core.specs.declared.error.SyncError.TheVariants.{NoMemory as NoMemoryForStream}
-use Rattle.fedbundle.specs.Errors.{of_line, of_report, of_read, of_snapshot}
-use Rattle.fedbundle.specs.declared.error.CommandError.TheVariants.{Io}
-use Rattle.fedbundle.specs.declared.run_error.RunError.TheVariants.{Io as RunIo}
+use Rattle.command_exits.specs.Errors.{of_line, of_report, of_read, of_snapshot}
+use Rattle.command_exits.specs.declared.error.CommandError.TheVariants.{Io}
+use Rattle.command_exits.specs.declared.run_error.RunError.TheVariants.{Io as RunIo}
 
--- where an error of reading a whole input is not reported as `Io`, the source is as sound as it was
+-- if an error of reading a whole input is not reported as `Io`, the source is as sound as it was
 pub read_sound : (T : Type 0) (e : DeviceError) (new old : Bool) → (of_read e ≡ Io → ⊥) → new ≡ (is_source_fault {T = T} (Err e) || old) → new ≡ old
 read_sound T SourceFailed new old unless fault = absurd (unless refl)
 read_sound T NoMemoryForBytes new old unless fault = fault
@@ -48,7 +48,7 @@ stream_sound T Truncated new old unless fault = fault
 stream_sound T (Refused n why) new old unless fault = fault
 stream_sound T NoMemoryForStream new old unless fault = fault
 
--- a snapshot's writer reports a failed device exactly where that error, as a device's, does
+-- a snapshot's writer reports a failed device exactly if that error, as a device's, does
 pub snapshot_fault : (T U : Type 0) (e : SyncError) → is_io {T = T} (Err e) ≡ is_source_fault {T = U} (Err (of_snapshot e))
 snapshot_fault T U StreamFailed = refl
 snapshot_fault T U BadHeader = refl

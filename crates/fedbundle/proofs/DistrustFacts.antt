@@ -12,8 +12,9 @@ use Rattle.closure_core.specs.declared.outcome.Distrusted.{Distrusted}
 use Rattle.closure_core.specs.declared.outcome.Distrusted.TheVariants.{New, Already}
 use Rattle.text_lines.specs.TextLines.{WritesSome, BeginsSome}
 use Rattle.distrust_view.specs.DistrustEffect.{IsEffectText, distrust_change}
-use Rattle.fedbundle.specs.CommandRun.{DeviceRun, HasFailed, WritesNothing}
-use Rattle.fedbundle.specs.Errors.{of_read}
+use Rattle.fedbundle.specs.CommandRun.{WritesNothing}
+use Rattle.command_exits.specs.DeviceRuns.{DeviceRun, HasFailed}
+use Rattle.command_exits.specs.Errors.{of_read}
 use Rattle.fedbundle.specs.Distrust.{HoldsRecord, PrintsDistrust, RefusesToShow, ShowsDistrust}
 
 -- what is held without receipts and records is a meaning
@@ -51,7 +52,7 @@ shown m copy after x sink made same is written = record {
   written = written.written;
 }
 
--- Where they were not all written, a device failed or memory ran out.
+-- If they were not all written, a device failed or memory ran out.
 pub stopped_short : (m copy after : Meaning) (x : Distrust) (sink : DeviceRun) (made : Distrusted) (result : Result (Unit {0}) DeviceError)
     (e : DeviceError) → copy ≡ m → Distrusts copy x after made → result ≡ Err e
     → (result ≡ Err DeviceIo → HasFailed sink × BeginsSome (IsEffectText (distrust_change m after x)) sink.before sink.after)

@@ -1,7 +1,7 @@
 mod TakenFacts
-mod ComplaintFacts
+mod LineErrorFacts
 mod RunFacts
-mod ComplaintOrderFacts
+mod LineErrorOrderFacts
 mod DeviceFacts
 mod CommandFacts
 mod MigrateFacts

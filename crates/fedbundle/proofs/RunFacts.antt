@@ -17,22 +17,23 @@ use Rattle.byte_lines.proofs.StreamFacts.{lines_of-line, lines_of-rest}
 use Rattle.closure_core.specs.Changes.{HeldAndRoom, TakesOk}
 use Rattle.closure_core.specs.declared.outcome.Taken.{Taken}
 use Rattle.closure_core.specs.declared.outcome.Taken.TheVariants.{New as TakenNew, Already as TakenAlready}
-use Rattle.fedbundle.specs.Stream.{AreTaken, OverfillStore, IsRefusedLine, Complaint, complaint_text}
+use Rattle.fedbundle.specs.Stream.{AreTaken, OverfillStore, IsRefusedLine, NumberedError, line_error_text}
 use Rattle.command_line.specs.declared.option_texts.OutputForm.{OutputForm}
 use Rattle.bundle_view.specs.declared.error.ReportError.{ReportError}
 use Rattle.bundle_view.specs.declared.error.ReportError.TheVariants.{Io as SinkFailed, NoMemory as NoMemoryForReport}
-use Rattle.fedbundle.specs.CommandRun.{CommandRun, DeviceRun, WritesNothing, HasFailed}
-use Rattle.fedbundle.specs.Errors.{of_line, of_report}
-use Rattle.fedbundle.specs.Report.{PrintsReport, CutsReport, TellsAll, BeginsTelling, AnswersReport, meaning_of_receipts, WritesReportIn, BeginsReportIn}
+use Rattle.fedbundle.specs.CommandRun.{CommandRun, WritesNothing}
+use Rattle.command_exits.specs.DeviceRuns.{DeviceRun, HasFailed}
+use Rattle.command_exits.specs.Errors.{of_line, of_report}
+use Rattle.fedbundle.specs.Report.{PrintsReport, CutsReport, ReportsAll, BeginsReporting, AnswersReport, meaning_of_receipts, WritesReportIn, BeginsReportIn}
 use Rattle.fedbundle.specs.Inside.Judging.{TakesReceiptText, IsTextTooMany, HasJudged, TriesText, StopsJudging}
-use Rattle.fedbundle.specs.declared.run_error.RunError.{RunError}
-use Rattle.fedbundle.specs.declared.run_error.RunError.TheVariants.{Full, NoMemory, Io}
+use Rattle.command_exits.specs.declared.run_error.RunError.{RunError}
+use Rattle.command_exits.specs.declared.run_error.RunError.TheVariants.{Full, NoMemory, Io}
 use Rattle.byte_lines.specs.declared.error.DeviceError.{DeviceError}
 use Rattle.byte_lines.specs.declared.error.DeviceError.TheVariants.{Io as SourceFailed, NoMemory as NoMemoryForLine}
-use Rattle.fedbundle.specs.declared.complaint.LineFault.{LineFault}
-use Rattle.fedbundle.specs.declared.complaint.LineFault.TheVariants.{Cut}
+use Rattle.fedbundle.specs.declared.line_fault.LineFault.{LineFault}
+use Rattle.fedbundle.specs.declared.line_fault.LineFault.TheVariants.{Cut}
 use Rattle.fedbundle.proofs.TakenFacts.{untaken, unrefused, taken_none, taken_within, taken_same, taken_more, held_already, one_longer}
-use Rattle.fedbundle.proofs.ComplaintFacts.{only, at_number, complaints_none, complaints_same, complaints_more, complaints_rest, first_all, first_whole}
+use Rattle.fedbundle.proofs.LineErrorFacts.{only, at_number, line_errors_none, line_errors_same, line_errors_more, line_errors_rest, first_all, first_whole}
 
 -- ---- what is read of a stream
 
@@ -57,24 +58,25 @@ passed_line (Some xs) (Some ys) (Some zs) read text passed has =
     passed ∙ (λ i. record { whole = read ++ (first i).whole; rest = (first i).rest })
     ∙ (λ i. record { whole = sym (append_assoc read (text ∷ []) (lines_of zs).whole) i; rest = (lines_of zs).rest })
 
--- ---- complaints that are written
+-- ---- line errors that are written
 
--- one more complaint was written, after all before it
-told_more : (a b d : Option (List ℕ)) (xs : List Complaint) (x : Complaint) → Appends a b (flat_map complaint_text xs) → Appends b d (complaint_text x)
-    → Appends a d (flat_map complaint_text (xs ++ x ∷ []))
-told_more a b d xs x before here =
-    subst (Appends a d) (sym (flat_map-append complaint_text xs (x ∷ []) ∙ ap (λ t. flat_map complaint_text xs ++ t) (append-nil (complaint_text x))))
-    (Appends-trans a b d (flat_map complaint_text xs) (complaint_text x) before here)
+-- one more line error was written, after all before it
+stated_more : (a b d : Option (List ℕ)) (xs : List NumberedError) (x : NumberedError) → Appends a b (flat_map line_error_text xs)
+    → Appends b d (line_error_text x)
+    → Appends a d (flat_map line_error_text (xs ++ x ∷ []))
+stated_more a b d xs x before here =
+    subst (Appends a d) (sym (flat_map-append line_error_text xs (x ∷ []) ∙ ap (λ t. flat_map line_error_text xs ++ t) (append-nil (line_error_text x))))
+    (Appends-trans a b d (flat_map line_error_text xs) (line_error_text x) before here)
 
--- a beginning of one more complaint was written, after all before it
-begun_more : (a b d : Option (List ℕ)) (xs : List Complaint) (x : Complaint) → Appends a b (flat_map complaint_text xs)
-    → AppendsBeginning b d (complaint_text x)
-    → AppendsBeginning a d (flat_map complaint_text (xs ++ x ∷ []))
+-- a beginning of one more line error was written, after all before it
+begun_more : (a b d : Option (List ℕ)) (xs : List NumberedError) (x : NumberedError) → Appends a b (flat_map line_error_text xs)
+    → AppendsBeginning b d (line_error_text x)
+    → AppendsBeginning a d (flat_map line_error_text (xs ++ x ∷ []))
 begun_more a b d xs x before (count, here) =
-    let texts = flat_map complaint_text xs in
-    let text = complaint_text x in
-    let whole : flat_map complaint_text (xs ++ x ∷ []) ≡ texts ++ text =
-    flat_map-append complaint_text xs (x ∷ []) ∙ ap (λ t. texts ++ t) (append-nil text) in (
+    let texts = flat_map line_error_text xs in
+    let text = line_error_text x in
+    let whole : flat_map line_error_text (xs ++ x ∷ []) ≡ texts ++ text =
+    flat_map-append line_error_text xs (x ∷ []) ∙ ap (λ t. texts ++ t) (append-nil text) in (
       length texts + count,
       subst (Appends a d)
           (sym (ap (take (length texts + count)) whole ∙ take-append-add texts text count))
@@ -88,17 +90,17 @@ begun_all a b text all = (length text, subst (Appends a b) (sym (take-length tex
 -- ---- so far
 
 -- So far some lines were read, and what is held and written is what comes of them.
-pub record SoFar (c : Configuration) (stream left : Option (List ℕ)) (m : Meaning) (told tells : Option (List ℕ)) (number count : ℕ) : Type 0 where
+pub record SoFar (c : Configuration) (stream left : Option (List ℕ)) (m : Meaning) (stated reports : Option (List ℕ)) (number count : ℕ) : Type 0 where
   pub read : List (List ℕ)
   pub passed : Passed stream left read
   pub numbered : number ≡ length read
-  pub judged : HasJudged c (only read) m told tells count
+  pub judged : HasJudged c (only read) m stated reports count
 
--- before the first line nothing is taken and no complaint is written
-pub so_far_none : (c : Configuration) (stream : Option (List ℕ)) (kept : List ℕ) (m : Meaning) (told : Option (List ℕ))
+-- before the first line nothing is taken and no line error is written
+pub so_far_none : (c : Configuration) (stream : Option (List ℕ)) (kept : List ℕ) (m : Meaning) (stated : Option (List ℕ))
     → kept ≡ [] → m.config ≡ c → m.held ≡ [] → m.records ≡ []
-    → SoFar c stream (prepend_known kept stream) m told told 0 0
-so_far_none c stream kept m told empty config held records = record {
+    → SoFar c stream (prepend_known kept stream) m stated stated 0 0
+so_far_none c stream kept m stated empty config held records = record {
   read = [];
   passed = passed_none stream kept empty;
   numbered = refl;
@@ -107,9 +109,9 @@ so_far_none c stream kept m told empty config held records = record {
     records = records;
     taken = subst (AreTaken c []) (sym held) (taken_none c);
     few = let none = ap length held in omega arith;
-    complaints = [];
-    all = complaints_none c;
-    telling = Appends-nil told;
+    line_errors = [];
+    all = line_errors_none c;
+    stating = Appends-nil stated;
     counted = refl;
   };
 }
@@ -159,10 +161,10 @@ taken_on c read text old new valid config taken few takes = by_case takes.taken 
 
 -- one more line was read, whose receipt was taken
 pub so_far_taken : (c : Configuration) (stream left next : Option (List ℕ)) (old new : HeldAndRoom)
-    (told tells now : Option (List ℕ)) (number count : ℕ) (text : List ℕ)
-    → IsConfiguration c → SoFar c stream left old.meaning told tells number count → HasLine left next text → TakesReceiptText old text new → now ≡ tells
-    → SoFar c stream next new.meaning told now (number + 1) count
-so_far_taken c stream left next old new told tells now number count text valid so has takes kept =
+    (stated reports now : Option (List ℕ)) (number count : ℕ) (text : List ℕ)
+    → IsConfiguration c → SoFar c stream left old.meaning stated reports number count → HasLine left next text → TakesReceiptText old text new → now ≡ reports
+    → SoFar c stream next new.meaning stated now (number + 1) count
+so_far_taken c stream left next old new stated reports now number count text valid so has takes kept =
     let on = taken_on c so.read text old new valid so.judged.config so.judged.taken so.judged.few takes in
     record {
       read = so.read ++ text ∷ [];
@@ -173,22 +175,22 @@ so_far_taken c stream left next old new told tells now number count text valid s
         records = on.1 ∙ so.judged.records;
         taken = on.2;
         few = on.3;
-        complaints = so.judged.complaints;
-        all = complaints_same c so.read text so.judged.complaints so.judged.all on.4;
-        telling = subst (λ (t : Option (List ℕ)). Appends told t (flat_map complaint_text so.judged.complaints)) (sym kept) so.judged.telling;
+        line_errors = so.judged.line_errors;
+        all = line_errors_same c so.read text so.judged.line_errors so.judged.all on.4;
+        stating = subst (λ (t : Option (List ℕ)). Appends stated t (flat_map line_error_text so.judged.line_errors)) (sym kept) so.judged.stating;
         counted = so.judged.counted;
       };
     }
 
--- one more line was read, which is refused, and its complaint was written
-pub so_far_told : (c : Configuration) (stream left next : Option (List ℕ)) (old new : Meaning)
-    (told tells now : Option (List ℕ)) (number count : ℕ) (text : List ℕ) (why : LineFault)
-    → IsConfiguration c → SoFar c stream left old told tells number count → HasLine left next text
-    → IsRefusedLine c text why → new ≡ old → Appends tells now (complaint_text (at_number (number + 1) why))
-    → SoFar c stream next new told now (number + 1) (count + 1)
-so_far_told c stream left next old new told tells now number count text why valid so has refused same here =
+-- one more line was read, which is refused, and its line error was written
+pub so_far_stated : (c : Configuration) (stream left next : Option (List ℕ)) (old new : Meaning)
+    (stated reports now : Option (List ℕ)) (number count : ℕ) (text : List ℕ) (why : LineFault)
+    → IsConfiguration c → SoFar c stream left old stated reports number count → HasLine left next text
+    → IsRefusedLine c text why → new ≡ old → Appends reports now (line_error_text (at_number (number + 1) why))
+    → SoFar c stream next new stated now (number + 1) (count + 1)
+so_far_stated c stream left next old new stated reports now number count text why valid so has refused same here =
     let x = at_number (length so.read + 1) why in
-    let here_at : Appends tells now (complaint_text x) = subst (λ n. Appends tells now (complaint_text (at_number (n + 1) why))) so.numbered here in
+    let here_at : Appends reports now (line_error_text x) = subst (λ n. Appends reports now (line_error_text (at_number (n + 1) why))) so.numbered here in
     record {
       read = so.read ++ text ∷ [];
       passed = passed_line stream left next so.read text so.passed has;
@@ -199,19 +201,19 @@ so_far_told c stream left next old new told tells now number count text why vali
         taken = subst (λ (m : Meaning). AreTaken c (so.read ++ text ∷ []) m.held) (sym same)
             (taken_same c so.read text old.held so.judged.taken (untaken c text why valid refused));
         few = subst (λ (m : Meaning). length m.held ≤ 65536) (sym same) so.judged.few;
-        complaints = so.judged.complaints ++ x ∷ [];
-        all = complaints_more c so.read text why so.judged.complaints valid so.judged.all refused;
-        telling = told_more told tells now so.judged.complaints x so.judged.telling here_at;
-        counted = ap (λ n. n + 1) so.judged.counted ∙ sym (length_push so.judged.complaints x);
+        line_errors = so.judged.line_errors ++ x ∷ [];
+        all = line_errors_more c so.read text why so.judged.line_errors valid so.judged.all refused;
+        stating = stated_more stated reports now so.judged.line_errors x so.judged.stating here_at;
+        counted = ap (λ n. n + 1) so.judged.counted ∙ sym (length_push so.judged.line_errors x);
       };
     }
 
 -- ---- the end
 
 -- equal lines are judged alike
-judged_at : (c : Configuration) (lines other : Lines) (m : Meaning) (told tells : Option (List ℕ)) (n : ℕ)
-    → other ≡ lines → HasJudged c lines m told tells n → HasJudged c other m told tells n
-judged_at c lines other m told tells n e judged = subst (λ (l : Lines). HasJudged c l m told tells n) (sym e) judged
+judged_at : (c : Configuration) (lines other : Lines) (m : Meaning) (stated reports : Option (List ℕ)) (n : ℕ)
+    → other ≡ lines → HasJudged c lines m stated reports n → HasJudged c other m stated reports n
+judged_at c lines other m stated reports n e judged = subst (λ (l : Lines). HasJudged c l m stated reports n) (sym e) judged
 
 -- after the last line feed the lines are those that were read, and the rest is what is left
 rest_after : (xs ys : List ℕ) (read : List (List ℕ)) → Passed (Some xs) (Some ys) read → HasNoLine (Some ys) → lines_of xs ≡ record { whole = read; rest = ys }
@@ -219,93 +221,95 @@ rest_after xs ys read passed none =
     let rest : lines_of ys ≡ record { whole = []; rest = ys } = lines_of-rest ys none in
     passed ∙ (λ i. record { whole = read ++ (rest i).whole; rest = (rest i).rest }) ∙ (λ i. record { whole = append-nil read i; rest = ys })
 
--- at the end of a stream with a rest, the complaint of the rest was written last
-pub judged_rest : (c : Configuration) (stream left : Option (List ℕ)) (m : Meaning) (told tells now : Option (List ℕ))
-    (number count : ℕ) → SoFar c stream left m told tells number count
-    → HasNoLine left → HasMore left → Appends tells now (complaint_text (at_number (number + 1) Cut))
-    → IfSome stream (λ bytes. HasJudged c (lines_of bytes) m told now (count + 1))
-judged_rest c None left m told tells now number count so none more here = tt
-judged_rest c (Some xs) None m told tells now number count so none more here = absurd so.passed
-judged_rest c (Some xs) (Some ys) m told tells now number count so none more here =
+-- at the end of a stream with a rest, the line error of the rest was written last
+pub judged_rest : (c : Configuration) (stream left : Option (List ℕ)) (m : Meaning) (stated reports now : Option (List ℕ))
+    (number count : ℕ) → SoFar c stream left m stated reports number count
+    → HasNoLine left → HasMore left → Appends reports now (line_error_text (at_number (number + 1) Cut))
+    → IfSome stream (λ bytes. HasJudged c (lines_of bytes) m stated now (count + 1))
+judged_rest c None left m stated reports now number count so none more here = tt
+judged_rest c (Some xs) None m stated reports now number count so none more here = absurd so.passed
+judged_rest c (Some xs) (Some ys) m stated reports now number count so none more here =
     let x = at_number (length so.read + 1) Cut in
-    let here_at : Appends tells now (complaint_text x) = subst (λ n. Appends tells now (complaint_text (at_number (n + 1) Cut))) so.numbered here in
-    judged_at c (record { whole = so.read; rest = ys }) (lines_of xs) m told now (count + 1) (rest_after xs ys so.read so.passed none) (record {
+    let here_at : Appends reports now (line_error_text x) = subst (λ n. Appends reports now (line_error_text (at_number (n + 1) Cut))) so.numbered here in
+    judged_at c (record { whole = so.read; rest = ys }) (lines_of xs) m stated now (count + 1) (rest_after xs ys so.read so.passed none) (record {
       config = so.judged.config;
       records = so.judged.records;
       taken = so.judged.taken;
       few = so.judged.few;
-      complaints = so.judged.complaints ++ x ∷ [];
-      all = complaints_rest c so.read ys so.judged.complaints so.judged.all more;
-      telling = told_more told tells now so.judged.complaints x so.judged.telling here_at;
-      counted = ap (λ n. n + 1) so.judged.counted ∙ sym (length_push so.judged.complaints x);
+      line_errors = so.judged.line_errors ++ x ∷ [];
+      all = line_errors_rest c so.read ys so.judged.line_errors so.judged.all more;
+      stating = stated_more stated reports now so.judged.line_errors x so.judged.stating here_at;
+      counted = ap (λ n. n + 1) so.judged.counted ∙ sym (length_push so.judged.line_errors x);
     })
 
--- ---- faults
+-- ---- errors
 
 -- the lines that were read are a front of all lines
 whole_after : (xs ys : List ℕ) (read : List (List ℕ)) → Passed (Some xs) (Some ys) read → (lines_of xs).whole ≡ read ++ (lines_of ys).whole
 whole_after xs ys read passed = ap (λ (l : Lines). l.whole) passed
 
--- at any time the complaints so far are a beginning of all
-pub begun_so_far : (c : Configuration) (stream left : Option (List ℕ)) (m : Meaning) (told tells now : Option (List ℕ))
-    (number count : ℕ) → SoFar c stream left m told tells number count → now ≡ tells
-    → IfSome stream (λ bytes. BeginsTelling c (lines_of bytes) told now)
-begun_so_far c None left m told tells now number count so kept = tt
-begun_so_far c (Some xs) None m told tells now number count so kept = absurd so.passed
-begun_so_far c (Some xs) (Some ys) m told tells now number count so kept = record {
-  complaints = so.judged.complaints;
-  first = first_whole c so.read (lines_of ys).whole (lines_of xs) so.judged.complaints (whole_after xs ys so.read so.passed) so.judged.all;
-  begun = begun_all told now _ (subst (λ (t : Option (List ℕ)). Appends told t (flat_map complaint_text so.judged.complaints)) (sym kept) so.judged.telling);
+-- at any time the line errors so far are a beginning of all
+pub begun_so_far : (c : Configuration) (stream left : Option (List ℕ)) (m : Meaning) (stated reports now : Option (List ℕ))
+    (number count : ℕ) → SoFar c stream left m stated reports number count → now ≡ reports
+    → IfSome stream (λ bytes. BeginsReporting c (lines_of bytes) stated now)
+begun_so_far c None left m stated reports now number count so kept = tt
+begun_so_far c (Some xs) None m stated reports now number count so kept = absurd so.passed
+begun_so_far c (Some xs) (Some ys) m stated reports now number count so kept = record {
+  line_errors = so.judged.line_errors;
+  first = first_whole c so.read (lines_of ys).whole (lines_of xs) so.judged.line_errors (whole_after xs ys so.read so.passed) so.judged.all;
+  begun = begun_all stated now _ (subst (λ (t : Option (List ℕ)). Appends stated t (flat_map line_error_text so.judged.line_errors))
+      (sym kept) so.judged.stating);
 }
 
--- with a beginning of a refused line's complaint after those so far, a beginning of all is written
+-- with a beginning of a refused line's error after those so far, a beginning of all is written
 pub begun_line : (c : Configuration) (stream left next : Option (List ℕ)) (m : Meaning)
-    (told tells now : Option (List ℕ)) (number count : ℕ) (text : List ℕ) (why : LineFault)
-    → IsConfiguration c → SoFar c stream left m told tells number count → HasLine left next text → IsRefusedLine c text why
-    → AppendsBeginning tells now (complaint_text (at_number (number + 1) why))
-    → IfSome stream (λ bytes. BeginsTelling c (lines_of bytes) told now)
-begun_line c None left next m told tells now number count text why valid so has refused here = tt
-begun_line c (Some xs) None next m told tells now number count text why valid so has refused here = absurd so.passed
-begun_line c (Some xs) (Some ys) None m told tells now number count text why valid so has refused here = absurd has.1
-begun_line c (Some xs) (Some ys) (Some zs) m told tells now number count text why valid so has refused here =
+    (stated reports now : Option (List ℕ)) (number count : ℕ) (text : List ℕ) (why : LineFault)
+    → IsConfiguration c → SoFar c stream left m stated reports number count → HasLine left next text → IsRefusedLine c text why
+    → AppendsBeginning reports now (line_error_text (at_number (number + 1) why))
+    → IfSome stream (λ bytes. BeginsReporting c (lines_of bytes) stated now)
+begun_line c None left next m stated reports now number count text why valid so has refused here = tt
+begun_line c (Some xs) None next m stated reports now number count text why valid so has refused here = absurd so.passed
+begun_line c (Some xs) (Some ys) None m stated reports now number count text why valid so has refused here = absurd has.1
+begun_line c (Some xs) (Some ys) (Some zs) m stated reports now number count text why valid so has refused here =
     let x = at_number (length so.read + 1) why in
-    let here_at : AppendsBeginning tells now (complaint_text x) =
-    subst (λ n. AppendsBeginning tells now (complaint_text (at_number (n + 1) why))) so.numbered here in
+    let here_at : AppendsBeginning reports now (line_error_text x) =
+    subst (λ n. AppendsBeginning reports now (line_error_text (at_number (n + 1) why))) so.numbered here in
     record {
-      complaints = so.judged.complaints ++ x ∷ [];
-      first = first_whole c (so.read ++ text ∷ []) (lines_of zs).whole (lines_of xs) (so.judged.complaints ++ x ∷ [])
+      line_errors = so.judged.line_errors ++ x ∷ [];
+      first = first_whole c (so.read ++ text ∷ []) (lines_of zs).whole (lines_of xs) (so.judged.line_errors ++ x ∷ [])
           (whole_after xs zs (so.read ++ text ∷ [])
           (passed_line (Some xs) (Some ys) (Some zs) so.read text so.passed has))
-          (complaints_more c so.read text why so.judged.complaints valid so.judged.all refused);
-      begun = begun_more told tells now so.judged.complaints x so.judged.telling here_at;
+          (line_errors_more c so.read text why so.judged.line_errors valid so.judged.all refused);
+      begun = begun_more stated reports now so.judged.line_errors x so.judged.stating here_at;
     }
 
--- the same for the complaint of a rest
-pub begun_rest : (c : Configuration) (stream left : Option (List ℕ)) (m : Meaning) (told tells now : Option (List ℕ))
-    (number count : ℕ) → SoFar c stream left m told tells number count
-    → HasNoLine left → HasMore left → AppendsBeginning tells now (complaint_text (at_number (number + 1) Cut))
-    → IfSome stream (λ bytes. BeginsTelling c (lines_of bytes) told now)
-begun_rest c None left m told tells now number count so none more here = tt
-begun_rest c (Some xs) None m told tells now number count so none more here = absurd so.passed
-begun_rest c (Some xs) (Some ys) m told tells now number count so none more here =
+-- the same for the line error of a rest
+pub begun_rest : (c : Configuration) (stream left : Option (List ℕ)) (m : Meaning) (stated reports now : Option (List ℕ))
+    (number count : ℕ) → SoFar c stream left m stated reports number count
+    → HasNoLine left → HasMore left → AppendsBeginning reports now (line_error_text (at_number (number + 1) Cut))
+    → IfSome stream (λ bytes. BeginsReporting c (lines_of bytes) stated now)
+begun_rest c None left m stated reports now number count so none more here = tt
+begun_rest c (Some xs) None m stated reports now number count so none more here = absurd so.passed
+begun_rest c (Some xs) (Some ys) m stated reports now number count so none more here =
     let x = at_number (length so.read + 1) Cut in
-    let here_at : AppendsBeginning tells now (complaint_text x) =
-    subst (λ n. AppendsBeginning tells now (complaint_text (at_number (n + 1) Cut))) so.numbered here in
-    subst (λ (l : Lines). BeginsTelling c l told now) (sym (rest_after xs ys so.read so.passed none)) (record {
-      complaints = so.judged.complaints ++ x ∷ [];
-      first = first_all c (record { whole = so.read; rest = ys }) (so.judged.complaints ++ x ∷ [])
-          (complaints_rest c so.read ys so.judged.complaints so.judged.all more);
-      begun = begun_more told tells now so.judged.complaints x so.judged.telling here_at;
+    let here_at : AppendsBeginning reports now (line_error_text x) =
+    subst (λ n. AppendsBeginning reports now (line_error_text (at_number (n + 1) Cut))) so.numbered here in
+    subst (λ (l : Lines). BeginsReporting c l stated now) (sym (rest_after xs ys so.read so.passed none)) (record {
+      line_errors = so.judged.line_errors ++ x ∷ [];
+      first = first_all c (record { whole = so.read; rest = ys }) (so.judged.line_errors ++ x ∷ [])
+          (line_errors_rest c so.read ys so.judged.line_errors so.judged.all more);
+      begun = begun_more stated reports now so.judged.line_errors x so.judged.stating here_at;
     })
 
--- where a receipt is one too many, the lines have more to take than a closure holds
-pub too_many : (c : Configuration) (stream left next : Option (List ℕ)) (old : HeldAndRoom) (told tells : Option (List ℕ)) (number count : ℕ) (text : List ℕ)
-    → SoFar c stream left old.meaning told tells number count → HasLine left next text → IsTextTooMany old text
+-- if a receipt is one too many, the lines have more to take than a closure holds
+pub too_many : (c : Configuration) (stream left next : Option (List ℕ)) (old : HeldAndRoom) (stated reports : Option (List ℕ)) (number count : ℕ)
+    (text : List ℕ)
+    → SoFar c stream left old.meaning stated reports number count → HasLine left next text → IsTextTooMany old text
     → IfSome stream (λ bytes. OverfillStore c (lines_of bytes).whole)
-too_many c None left next old told tells number count text so has full = tt
-too_many c (Some xs) None next old told tells number count text so has full = absurd so.passed
-too_many c (Some xs) (Some ys) None old told tells number count text so has full = absurd has.1
-too_many c (Some xs) (Some ys) (Some zs) old told tells number count text so has full =
+too_many c None left next old stated reports number count text so has full = tt
+too_many c (Some xs) None next old stated reports number count text so has full = absurd so.passed
+too_many c (Some xs) (Some ys) None old stated reports number count text so has full = absurd has.1
+too_many c (Some xs) (Some ys) (Some zs) old stated reports number count text so has full =
     let r = full.receipt in
     let fits : IsFitting c r = subst (λ (d : Configuration). IsFitting d r) so.judged.config full.full.fits in
     let taken : AreTaken c (so.read ++ text ∷ []) (with_receipt r old.meaning.held) =
@@ -321,84 +325,85 @@ too_many c (Some xs) (Some ys) (Some zs) old told tells number count text so has
 -- ---- what comes of a line
 
 -- a line that is refused under the configuration of what is held is refused under the run's
-refused_here : (c : Configuration) (stream left : Option (List ℕ)) (old : HeldAndRoom) (told tells : Option (List ℕ))
+refused_here : (c : Configuration) (stream left : Option (List ℕ)) (old : HeldAndRoom) (stated reports : Option (List ℕ))
     (number count : ℕ) (text : List ℕ) (why : LineFault)
-    → SoFar c stream left old.meaning told tells number count → IsRefusedLine old.meaning.config text why → IsRefusedLine c text why
-refused_here c stream left old told tells number count text why so refused = subst (λ (d : Configuration). IsRefusedLine d text why) so.judged.config refused
+    → SoFar c stream left old.meaning stated reports number count → IsRefusedLine old.meaning.config text why → IsRefusedLine c text why
+refused_here c stream left old stated reports number count text why so refused = subst (λ
+    (d : Configuration). IsRefusedLine d text why) so.judged.config refused
 
 -- one more line was judged: the step of the loop in `take_lines`
 pub so_far_text : (c : Configuration) (stream left next : Option (List ℕ)) (old new : HeldAndRoom)
-    (told tells now : Option (List ℕ)) (number count : ℕ) (text : List ℕ) (failed : Bool) (n : ℕ)
-    → IsConfiguration c → SoFar c stream left old.meaning told tells number count → HasLine left next text
-    → TriesText old text (number + 1) new tells now failed (Ok n)
-    → SoFar c stream next new.meaning told now (number + 1) (count + n)
-so_far_text c stream left next old new told tells now number count text failed n valid so has tried = elim tried [
+    (stated reports now : Option (List ℕ)) (number count : ℕ) (text : List ℕ) (failed : Bool) (n : ℕ)
+    → IsConfiguration c → SoFar c stream left old.meaning stated reports number count → HasLine left next text
+    → TriesText old text (number + 1) new reports now failed (Ok n)
+    → SoFar c stream next new.meaning stated now (number + 1) (count + n)
+so_far_text c stream left next old new stated reports now number count text failed n valid so has tried = elim tried [
   | inl (takes, kept, none) ↦
       let same : count ≡ count + n = omega arith in
-      subst (SoFar c stream next new.meaning told now (number + 1)) same
-      (so_far_taken c stream left next old new told tells now number count text valid so has takes kept)
+      subst (SoFar c stream next new.meaning stated now (number + 1)) same
+      (so_far_taken c stream left next old new stated reports now number count text valid so has takes kept)
   | inr (tellings, one) ↦
       let same : count + 1 ≡ count + n = omega arith in
-      subst (SoFar c stream next new.meaning told now (number + 1)) same
-      (so_far_told c stream left next old.meaning new.meaning told tells now number count text tellings.why valid so has
-      (refused_here c stream left old told tells number count text tellings.why so tellings.refuses.refused) tellings.refuses.same tellings.now)
+      subst (SoFar c stream next new.meaning stated now (number + 1)) same
+      (so_far_stated c stream left next old.meaning new.meaning stated reports now number count text tellings.why valid so has
+      (refused_here c stream left old stated reports number count text tellings.why so tellings.refuses.refused) tellings.refuses.same tellings.now)
 ]
 
--- a line has one complaint at most, so the count stays within the number of lines
-pub at_most_one : (old new : HeldAndRoom) (text : List ℕ) (number : ℕ) (tells now : Option (List ℕ)) (failed : Bool)
-    (n : ℕ) → TriesText old text number new tells now failed (Ok n) → n ≤ 1
-at_most_one old new text number tells now failed n tried = elim tried [ inl (takes, kept, none) ↦ omega arith | inr (tellings, one) ↦ omega arith ]
+-- a line has at most one line error, so the count is at most the number of lines
+pub at_most_one : (old new : HeldAndRoom) (text : List ℕ) (number : ℕ) (reports now : Option (List ℕ)) (failed : Bool)
+    (n : ℕ) → TriesText old text number new reports now failed (Ok n) → n ≤ 1
+at_most_one old new text number reports now failed n tried = elim tried [ inl (takes, kept, none) ↦ omega arith | inr (tellings, one) ↦ omega arith ]
 
--- an error of reading a line stops the judging after a beginning of the complaints
-pub stops_line : (c : Configuration) (stream told tells : Option (List ℕ)) (e : DeviceError)
-    → IfSome stream (λ bytes. BeginsTelling c (lines_of bytes) told tells)
-    → IfSome stream (λ bytes. StopsJudging c (lines_of bytes) told tells (of_line e))
-stops_line c None told tells e begins = tt
-stops_line c (Some xs) told tells SourceFailed begins = begins
-stops_line c (Some xs) told tells NoMemoryForLine begins = begins
+-- an error of reading a line stops the judging after a beginning of the line errors
+pub stops_line : (c : Configuration) (stream stated reports : Option (List ℕ)) (e : DeviceError)
+    → IfSome stream (λ bytes. BeginsReporting c (lines_of bytes) stated reports)
+    → IfSome stream (λ bytes. StopsJudging c (lines_of bytes) stated reports (of_line e))
+stops_line c None stated reports e begins = tt
+stops_line c (Some xs) stated reports SourceFailed begins = begins
+stops_line c (Some xs) stated reports NoMemoryForLine begins = begins
 
 -- so does one receipt too many
-full_too : (c : Configuration) (stream told tells : Option (List ℕ))
+full_too : (c : Configuration) (stream stated reports : Option (List ℕ))
     → IfSome stream (λ bytes. OverfillStore c (lines_of bytes).whole)
-    → IfSome stream (λ bytes. BeginsTelling c (lines_of bytes) told tells)
-    → IfSome stream (λ bytes. StopsJudging c (lines_of bytes) told tells Full)
-full_too c None told tells many begins = tt
-full_too c (Some xs) told tells many begins = (many, begins)
+    → IfSome stream (λ bytes. BeginsReporting c (lines_of bytes) stated reports)
+    → IfSome stream (λ bytes. StopsJudging c (lines_of bytes) stated reports Full)
+full_too c None stated reports many begins = tt
+full_too c (Some xs) stated reports many begins = (many, begins)
 
--- so does a fault of a device
-pub stops_io : (c : Configuration) (stream told tells : Option (List ℕ)) → IfSome stream (λ bytes. BeginsTelling c (lines_of bytes) told tells)
-    → IfSome stream (λ bytes. StopsJudging c (lines_of bytes) told tells Io)
-stops_io c None told tells begins = tt
-stops_io c (Some xs) told tells begins = begins
+-- so does an error of a device
+pub stops_io : (c : Configuration) (stream stated reports : Option (List ℕ)) → IfSome stream (λ bytes. BeginsReporting c (lines_of bytes) stated reports)
+    → IfSome stream (λ bytes. StopsJudging c (lines_of bytes) stated reports Io)
+stops_io c None stated reports begins = tt
+stops_io c (Some xs) stated reports begins = begins
 
--- an error at a line stops the judging after a beginning of the complaints
+-- a `RunError` at a line stops the judging after a beginning of the line errors
 pub stops_text : (c : Configuration) (stream left next : Option (List ℕ)) (old new : HeldAndRoom)
-    (told tells now : Option (List ℕ)) (number count : ℕ) (text : List ℕ) (failed : Bool) (e : RunError)
-    → IsConfiguration c → SoFar c stream left old.meaning told tells number count → HasLine left next text
-    → TriesText old text (number + 1) new tells now failed (Err e) → IfSome stream (λ bytes. StopsJudging c (lines_of bytes) told now e)
-stops_text c stream left next old new told tells now number count text failed Full valid so has (full, kept) =
-    full_too c stream told now (too_many c stream left next old told tells number count text so has full)
-    (begun_so_far c stream left old.meaning told tells now number count so kept)
-stops_text c None left next old new told tells now number count text failed NoMemory valid so has kept = tt
-stops_text c (Some xs) left next old new told tells now number count text failed NoMemory valid so has kept =
-    begun_so_far c (Some xs) left old.meaning told tells now number count so kept
-stops_text c stream left next old new told tells now number count text failed Io valid so has (broken, begins) =
-    stops_io c stream told now
-    (begun_line c stream left next old.meaning told tells now number count text begins.why valid so has
-    (refused_here c stream left old told tells number count text begins.why so begins.refused) begins.begun)
+    (stated reports now : Option (List ℕ)) (number count : ℕ) (text : List ℕ) (failed : Bool) (e : RunError)
+    → IsConfiguration c → SoFar c stream left old.meaning stated reports number count → HasLine left next text
+    → TriesText old text (number + 1) new reports now failed (Err e) → IfSome stream (λ bytes. StopsJudging c (lines_of bytes) stated now e)
+stops_text c stream left next old new stated reports now number count text failed Full valid so has (full, kept) =
+    full_too c stream stated now (too_many c stream left next old stated reports number count text so has full)
+    (begun_so_far c stream left old.meaning stated reports now number count so kept)
+stops_text c None left next old new stated reports now number count text failed NoMemory valid so has kept = tt
+stops_text c (Some xs) left next old new stated reports now number count text failed NoMemory valid so has kept =
+    begun_so_far c (Some xs) left old.meaning stated reports now number count so kept
+stops_text c stream left next old new stated reports now number count text failed Io valid so has (broken, begins) =
+    stops_io c stream stated now
+    (begun_line c stream left next old.meaning stated reports now number count text begins.why valid so has
+    (refused_here c stream left old stated reports number count text begins.why so begins.refused) begins.begun)
 
 -- ---- the whole run
 
--- nothing written is a beginning of the complaints
-pub begun_none : (c : Configuration) (lines : Lines) (told : Option (List ℕ)) → BeginsTelling c lines told told
+-- nothing written is a beginning of the line errors
+pub begun_none : (c : Configuration) (lines : Lines) (stated : Option (List ℕ)) → BeginsReporting c lines stated stated
 unfolding IsStrictlySortedBy
-begun_none c lines told = record {
-  complaints = [];
+begun_none c lines stated = record {
+  line_errors = [];
   first = record { rising = tt; sound = λ x has. absurd (omega (arith, has.1)); before = λ x y has is low. absurd (omega (arith, has.1)) };
-  begun = (0, Appends-nil told);
+  begun = (0, Appends-nil stated);
 }
 
--- what holds of all bytes holds also where a source may not tell them
+-- what holds of all bytes holds also for a source whose bytes may be unknown
 pub if_some : (stream : Option (List ℕ)) (P : List ℕ → Type 0) → ((bytes : List ℕ) → P bytes) → IfSome stream P
 if_some None P all = tt
 if_some (Some xs) P all = all xs
@@ -410,92 +415,93 @@ end_of (x ∷ kept) None end = tt
 end_of [] (Some xs) end = end
 end_of (x ∷ kept) (Some xs) end = absurd (cc)
 
--- all complaints are a beginning of them
-pub begun_judged : (c : Configuration) (lines : Lines) (m : Meaning) (told tells : Option (List ℕ)) (n : ℕ)
-    → HasJudged c lines m told tells n → BeginsTelling c lines told tells
-begun_judged c lines m told tells n judged =
+-- all line errors are a beginning of them
+pub begun_judged : (c : Configuration) (lines : Lines) (m : Meaning) (stated reports : Option (List ℕ)) (n : ℕ)
+    → HasJudged c lines m stated reports n → BeginsReporting c lines stated reports
+begun_judged c lines m stated reports n judged =
     record {
-      complaints = judged.complaints;
-      first = first_all c lines judged.complaints judged.all;
+      line_errors = judged.line_errors;
+      first = first_all c lines judged.line_errors judged.all;
       begun =
-          begun_all told tells _ judged.telling;
+          begun_all stated reports _ judged.stating;
     }
 
 -- a meaning without records is that of its receipts
 meaning_is : (c : Configuration) (m : Meaning) → m.config ≡ c → m.records ≡ [] → m ≡ meaning_of_receipts c m.held
 meaning_is c m config records = λ i. record { config = config i; held = m.held; records = records i }
 
--- the same as `begun_judged`, where a source may not tell its bytes
-pub told_whole : (c : Configuration) (stream : Option (List ℕ)) (m : Meaning) (told tells : Option (List ℕ)) (n : ℕ)
-    → IfSome stream (λ bytes. HasJudged c (lines_of bytes) m told tells n)
-    → IfSome stream (λ bytes. BeginsTelling c (lines_of bytes) told tells)
-told_whole c None m told tells n judged = tt
-told_whole c (Some xs) m told tells n judged = begun_judged c (lines_of xs) m told tells n judged
+-- the same as `begun_judged`, for a source whose bytes may be unknown
+pub stated_whole : (c : Configuration) (stream : Option (List ℕ)) (m : Meaning) (stated reports : Option (List ℕ)) (n : ℕ)
+    → IfSome stream (λ bytes. HasJudged c (lines_of bytes) m stated reports n)
+    → IfSome stream (λ bytes. BeginsReporting c (lines_of bytes) stated reports)
+stated_whole c None m stated reports n judged = tt
+stated_whole c (Some xs) m stated reports n judged = begun_judged c (lines_of xs) m stated reports n judged
 
--- A sink that failed at the report of what is held holds a beginning of the report of what is taken.
-pub cut_off : (form : OutputForm) (sink : DeviceRun) (c : Configuration) (stream : Option (List ℕ)) (m : Meaning) (told tells : Option (List ℕ))
-    (n : ℕ) → IfSome stream (λ bytes. HasJudged c (lines_of bytes) m told tells n)
+-- If a sink failed at the report of what is held, it holds a beginning of the report of what is
+-- taken.
+pub cut_off : (form : OutputForm) (sink : DeviceRun) (c : Configuration) (stream : Option (List ℕ)) (m : Meaning) (stated reports : Option (List ℕ))
+    (n : ℕ) → IfSome stream (λ bytes. HasJudged c (lines_of bytes) m stated reports n)
     → BeginsReportIn form m sink.before sink.after → IfSome stream (λ bytes. CutsReport form sink c (lines_of bytes))
-cut_off form sink c None m told tells n judged begins = tt
-cut_off form sink c (Some xs) m told tells n judged begins = record {
+cut_off form sink c None m stated reports n judged begins = tt
+cut_off form sink c (Some xs) m stated reports n judged begins = record {
   receipts = m.held;
   taken = judged.taken;
   begun = subst (λ (z : Meaning). BeginsReportIn form z sink.before sink.after) (meaning_is c m judged.config judged.records) begins;
 }
 
--- the report of what is held is that of the receipts taken, and all complaints are written
-pub reported : (form : OutputForm) (sink complaints : DeviceRun) (c : Configuration) (stream : Option (List ℕ)) (m : Meaning)
-    (n : ℕ) → IfSome stream (λ bytes. HasJudged c (lines_of bytes) m complaints.before complaints.after n)
+-- the report of what is held is that of the receipts taken, and all line errors are written
+pub reported : (form : OutputForm) (sink line_errors : DeviceRun) (c : Configuration) (stream : Option (List ℕ)) (m : Meaning)
+    (n : ℕ) → IfSome stream (λ bytes. HasJudged c (lines_of bytes) m line_errors.before line_errors.after n)
     → WritesReportIn form m sink.before sink.after
-    → IfSome stream (λ bytes. PrintsReport form sink c (lines_of bytes) × TellsAll complaints c (lines_of bytes) n)
-reported form sink complaints c None m n judged writes = tt
-reported form sink complaints c (Some xs) m n judged writes = (
+    → IfSome stream (λ bytes. PrintsReport form sink c (lines_of bytes) × ReportsAll line_errors c (lines_of bytes) n)
+reported form sink line_errors c None m n judged writes = tt
+reported form sink line_errors c (Some xs) m n judged writes = (
   record {
     receipts = m.held;
     taken = judged.taken;
     few = judged.few;
     report = subst (λ (z : Meaning). WritesReportIn form z sink.before sink.after) (meaning_is c m judged.config judged.records) writes;
   },
-  record { list = judged.complaints; all = judged.all; telling = judged.telling; counted = judged.counted },
+  record { list = judged.line_errors; all = judged.all; stating = judged.stating; counted = judged.counted },
 )
 
 -- ---- why a run stops
 
--- what follows from a fact about a stream's bytes, where the stream tells them
+-- what follows from a fact about a stream's bytes, if they are known
 if_some_then : (stream : Option (List ℕ)) (P Q : List ℕ → Type 0) → ((bytes : List ℕ) → P bytes → Q bytes) → IfSome stream P → IfSome stream Q
 if_some_then None P Q then holds = tt
 if_some_then (Some xs) P Q then holds = then xs holds
 
 -- Memory ran out before a line was read.
-pub stopped_early : (form : OutputForm) (run : CommandRun) (complaints : DeviceRun) (c : Configuration)
-    → WritesNothing run.sink → complaints.after ≡ complaints.before → AnswersReport form run complaints c (Err NoMemory)
-stopped_early form run complaints c same untold = (
+pub stopped_early : (form : OutputForm) (run : CommandRun) (line_errors : DeviceRun) (c : Configuration)
+    → WritesNothing run.sink → line_errors.after ≡ line_errors.before → AnswersReport form run line_errors c (Err NoMemory)
+stopped_early form run line_errors c same unprinted = (
   same,
   if_some run.source.before _
-      (λ bytes. subst (λ (tells : Option (List ℕ)). BeginsTelling c (lines_of bytes) complaints.before tells) (sym untold)
-      (begun_none c (lines_of bytes) complaints.before)),
+      (λ bytes. subst (λ (reports : Option (List ℕ)). BeginsReporting c (lines_of bytes) line_errors.before reports) (sym unprinted)
+      (begun_none c (lines_of bytes) line_errors.before)),
 )
 
 -- The lines were not all taken, so nothing of the report was written.
-pub stopped_judging : (form : OutputForm) (run : CommandRun) (complaints : DeviceRun) (c : Configuration) (e : RunError)
-    → WritesNothing run.sink → (e ≡ Io → HasFailed run.source ⊎ HasFailed complaints)
-    → IfSome run.source.before (λ bytes. StopsJudging c (lines_of bytes) complaints.before complaints.after e)
-    → AnswersReport form run complaints c (Err e)
-stopped_judging form run complaints c Full same failed stops =
+pub stopped_judging : (form : OutputForm) (run : CommandRun) (line_errors : DeviceRun) (c : Configuration) (e : RunError)
+    → WritesNothing run.sink → (e ≡ Io → HasFailed run.source ⊎ HasFailed line_errors)
+    → IfSome run.source.before (λ bytes. StopsJudging c (lines_of bytes) line_errors.before line_errors.after e)
+    → AnswersReport form run line_errors c (Err e)
+stopped_judging form run line_errors c Full same failed stops =
     ((same, if_some_then run.source.before _ _ (λ bytes both. both.0) stops), if_some_then run.source.before _ _ (λ bytes both. both.1) stops)
-stopped_judging form run complaints c NoMemory same failed stops = (same, stops)
-stopped_judging form run complaints c Io same failed stops = (inl (failed refl, same), stops)
+stopped_judging form run line_errors c NoMemory same failed stops = (same, stops)
+stopped_judging form run line_errors c Io same failed stops = (inl (failed refl, same), stops)
 
 -- The lines were taken, and the report was not written.
-pub stopped_writing : (form : OutputForm) (run : CommandRun) (complaints : DeviceRun) (c : Configuration) (m : Meaning) (n : ℕ) (e : ReportError)
-    → IfSome run.source.before (λ bytes. HasJudged c (lines_of bytes) m complaints.before complaints.after n)
+pub stopped_writing : (form : OutputForm) (run : CommandRun) (line_errors : DeviceRun) (c : Configuration) (m : Meaning) (n : ℕ) (e : ReportError)
+    → IfSome run.source.before (λ bytes. HasJudged c (lines_of bytes) m line_errors.before line_errors.after n)
     → (e ≡ NoMemoryForReport → WritesNothing run.sink)
     → (e ≡ SinkFailed → HasFailed run.sink × BeginsReportIn form m run.sink.before run.sink.after)
-    → AnswersReport form run complaints c (Err (of_report e))
-stopped_writing form run complaints c m n SinkFailed judged same failed =
+    → AnswersReport form run line_errors c (Err (of_report e))
+stopped_writing form run line_errors c m n SinkFailed judged same failed =
     let fault = failed refl in (
-      inr (fault.0, cut_off form run.sink c run.source.before m complaints.before complaints.after n judged fault.1),
-      told_whole c run.source.before m complaints.before complaints.after n judged,
+      inr (fault.0, cut_off form run.sink c run.source.before m line_errors.before line_errors.after n judged fault.1),
+      stated_whole c run.source.before m line_errors.before line_errors.after n judged,
     )
-stopped_writing form run complaints c m n NoMemoryForReport judged same failed =
-    (same refl, told_whole c run.source.before m complaints.before complaints.after n judged)
+stopped_writing form run line_errors c m n NoMemoryForReport judged same failed =
+    (same refl, stated_whole c run.source.before m line_errors.before line_errors.after n judged)

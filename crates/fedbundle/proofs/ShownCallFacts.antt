@@ -10,19 +10,20 @@ use Rattle.bundle_view.specs.declared.error.ReportError.TheVariants.{Io as SinkF
 use Rattle.bundle_view.specs.declared.error.ReportError.TheVariants.{NoMemory as NoMemoryForReport}
 use Rattle.receipt_core.specs.Acceptance.{Meaning}
 use Rattle.text_lines.specs.TextLines.{BeginsSome}
-use Rattle.fedbundle.specs.CommandRun.{CommandRun, DeviceRun, HasFailed, WritesNothing}
-use Rattle.fedbundle.specs.Errors.{of_read, of_report, of_run}
+use Rattle.fedbundle.specs.CommandRun.{CommandRun, WritesNothing}
+use Rattle.command_exits.specs.DeviceRuns.{DeviceRun, HasFailed}
+use Rattle.command_exits.specs.Errors.{of_read, of_report, of_run}
 use Rattle.fedbundle.specs.Polls.{RunsPollsIn, polls_call}
 use Rattle.fedbundle.specs.Shown.{IsListIn, IsUntouched, RefusesUnwritten, RunsWriter, ShownCall, ShowsBy, ShowsPolled, ShowsSight, StatusSight, polls_form}
 use Rattle.poll_view.specs.declared.polls_writer.PollsForm.{PollsForm}
 use Rattle.command_line.specs.declared.option_texts.OutputForm.{OutputForm}
-use Rattle.fedbundle.specs.declared.error.CommandError.{CommandError}
+use Rattle.command_exits.specs.declared.error.CommandError.{CommandError}
 use Rattle.command_line.specs.declared.command_name.CommandName.{CommandName}
 use Rattle.command_line.specs.declared.command_name.CommandName.TheVariants as command
-use Rattle.fedbundle.specs.declared.exits.Exit.{Exit}
-use Rattle.fedbundle.specs.declared.exits.Exit.TheVariants.{Usage}
+use Rattle.command_exits.specs.declared.exits.Exit.{Exit}
+use Rattle.command_exits.specs.declared.exits.Exit.TheVariants.{Usage}
 
--- words that are refused before a device is touched
+-- arguments that are refused before a device is touched
 pub refused_words : (Ends : Exit → Type 0) (sink : DeviceRun) (exit : Exit) → Ends exit → IsUntouched sink → RefusesUnwritten Ends sink (Err exit)
 refused_words Ends sink exit ends untouched = record { exit = exit; ends = ends; is = refl; unwritten = untouched }
 
@@ -33,7 +34,7 @@ pub writer_failed : (T : Type 0) (Is : List ℕ → Type 0) (sink : DeviceRun) (
 writer_failed T Is sink SourceFailed failed same = failed refl
 writer_failed T Is sink NoMemoryForBytes failed same = same refl
 
--- the same of the report as text
+-- the same for the report as text
 pub report_failed : (T : Type 0) (m : Meaning) (sink : DeviceRun) (e : ReportError)
     → (e ≡ SinkFailed → HasFailed sink × BeginsReport m sink.before sink.after) → (e ≡ NoMemoryForReport → WritesNothing sink)
     → RunsWriter {T = T} (IsReport m) sink (Err (of_run (of_report e)))
@@ -41,7 +42,7 @@ report_failed T m sink SinkFailed failed same =
     let begun = failed refl in (begun.0, record { text = begun.1.text; is = begun.1.report; begun = begun.1.begun })
 report_failed T m sink NoMemoryForReport failed same = same refl
 
--- the moments of polls in the form that the words say
+-- the times of polls in the form that the arguments say
 pub polls_as : (run : CommandRun) (m : Meaning) (now : ℤ) (form : PollsForm) (output : OutputForm) (answer : Result (Unit {0}) CommandError)
     → form ≡ polls_form output → RunsPollsIn run m (polls_call form now) answer → RunsPollsIn run m (polls_call (polls_form output) now) answer
 polls_as run m now form output answer is runs = subst (λ f. RunsPollsIn run m (polls_call f now) answer) is runs
@@ -56,7 +57,7 @@ pub shows_as : (name other : CommandName) (call : ShownCall) (run : CommandRun) 
     → ShowsBy other call run result → ShowsBy name call run result
 shows_as name other call run result is shows = subst (λ n. ShowsBy n call run result) (sym is) shows
 
--- a name that is none of these is refused
+-- a name other than these is refused
 pub none_shown : (name : CommandName) (call : ShownCall) (run : CommandRun) → (name ≡ command.Report → ⊥) → (name ≡ command.List → ⊥)
     → (name ≡ command.Graph → ⊥) → (name ≡ command.Bundle → ⊥) → (name ≡ command.Explain → ⊥) → (name ≡ command.Polls → ⊥)
     → (name ≡ command.Status → ⊥) → (name ≡ command.Distrust → ⊥) → IsUntouched run.sink → IsUntouched run.source → ShowsBy name call run (Err Usage)
@@ -71,7 +72,7 @@ none_shown command.Distrust call run report list graph bundle explain polls stat
 none_shown name call run report list graph bundle explain polls status distrust unwritten unread =
     (refused_words _ run.sink Usage refl unwritten, unread)
 
--- the words name a file of polls, so the source has them
+-- the arguments name a file of polls, so the source has them
 pub sight_by : (path : List ℕ) (said : Option (List ℕ)) (sight : StatusSight) (run : CommandRun) (result : Result ℕ Exit) → Some path ≡ said
     → ShowsPolled sight run result → ShowsSight said sight run result
 sight_by path said sight run result is shows = subst (λ text. ShowsSight text sight run result) is shows

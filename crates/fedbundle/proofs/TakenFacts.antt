@@ -16,8 +16,8 @@ use Rattle.receipt_core.proofs.RisingFacts.{Contains-from_has, all_from_has, Are
 use Rattle.closure_core.specs.Refusals.{IsOfUnknownDomain, IsBelowFloor}
 use Rattle.closure_core.proofs.FitFacts.{fits_known, fits_right, fits_above, wrong_known, low_known, low_right}
 use Rattle.fedbundle.specs.Stream.{IsTaken, AreTaken, IsRefusedLine}
-use Rattle.fedbundle.specs.declared.complaint.LineFault.{LineFault}
-use Rattle.fedbundle.specs.declared.complaint.LineFault.TheVariants.{NotCanonical, TooLong, UnknownDomain, WrongEndpoint, BelowFloor, Cut}
+use Rattle.fedbundle.specs.declared.line_fault.LineFault.{LineFault}
+use Rattle.fedbundle.specs.declared.line_fault.LineFault.TheVariants.{NotCanonical, TooLong, UnknownDomain, WrongEndpoint, BelowFloor, Cut}
 
 -- ---- what is refused is not taken
 
@@ -92,12 +92,12 @@ unfolding IsStrictlySortedBy
 taken_none c = record {
   rising = tt;
   sound = λ r has. absurd (omega (arith, has.1));
-  complete = λ r taken. absurd (let has = taken.stands in omega (arith, has.1));
+  complete = λ r taken. absurd (let has = taken.placed in omega (arith, has.1));
 }
 
 -- a receipt that is taken of lines is taken of more
 taken_before : (c : Configuration) (texts more : List (List ℕ)) (r : Receipt) → IsTaken c texts r → IsTaken c (texts ++ more) r
-taken_before c texts more r taken = record { is = taken.is; fits = taken.fits; stands = Contains-append_left texts more (line r) taken.stands }
+taken_before c texts more r taken = record { is = taken.is; fits = taken.fits; placed = Contains-append_left texts more (line r) taken.placed }
 
 -- the same for lines that begin with those
 pub taken_within : (c : Configuration) (texts more whole : List (List ℕ)) (r : Receipt) → whole ≡ texts ++ more → IsTaken c texts r → IsTaken c whole r
@@ -109,8 +109,8 @@ pub taken_same : (c : Configuration) (texts : List (List ℕ)) (text : List ℕ)
 taken_same c texts text receipts taken none = record {
   rising = taken.rising;
   sound = λ r has. taken_before c texts (text ∷ []) r (taken.sound r has);
-  complete = λ r is. elim (Contains-push_cases texts text (line r) is.stands) [
-    | inl before ↦ taken.complete r (record { is = is.is; fits = is.fits; stands = before })
+  complete = λ r is. elim (Contains-push_cases texts text (line r) is.placed) [
+    | inl before ↦ taken.complete r (record { is = is.is; fits = is.fits; placed = before })
     | inr e ↦ absurd (none r is.is is.fits e)
   ];
 }
@@ -136,13 +136,13 @@ taken_more c texts text r receipts taken read fits =
             (record {
               is = read.is;
               fits = fits;
-              stands =
+              placed =
                   subst (Contains (texts ++ text ∷ [])) read.text (Contains-push texts text);
             })
         | inr before ↦ taken_before c texts (text ∷ []) s (taken.sound s before)
       ];
-      complete = λ s is. (sets.members r s receipts read.is all).1 (elim (Contains-push_cases texts text (line s) is.stands) [
-        | inl before ↦ inr (taken.complete s (record { is = is.is; fits = is.fits; stands = before }))
+      complete = λ s is. (sets.members r s receipts read.is all).1 (elim (Contains-push_cases texts text (line s) is.placed) [
+        | inl before ↦ inr (taken.complete s (record { is = is.is; fits = is.fits; placed = before }))
         | inr e ↦ inl (one_line r s read.is is.is (sym read.text ∙ e))
       ]);
     }

@@ -7,14 +7,15 @@ use Rattle.jwk_set.specs.declared.authority.KeyId.{KeyId}
 use Rattle.jwk_set.specs.Element.{key_id_of}
 use Rattle.bundle_doc.specs.Bundle.{Bundle, IsDocument, canonical_text, doc_id_of}
 use Rattle.bundle_doc.specs.Refusal.{RefusesBytes}
-use Rattle.fedbundle.specs.CommandRun.{CommandRun, DeviceRun, ReadsDocument, RefusesDocument}
+use Rattle.fedbundle.specs.CommandRun.{CommandRun, ReadsDocument, RefusesDocument}
+use Rattle.command_exits.specs.DeviceRuns.{DeviceRun}
 use Rattle.fedbundle.specs.CommandRun.{PrintsText}
 use Rattle.fedbundle.specs.CommandRun.{WritesNothing, CutsOff, FailsToRead}
 use Rattle.json_reports.specs.DocumentJson.{document_json}
 use Rattle.command_line.specs.declared.option_texts.OutputForm.{OutputForm}
 use Rattle.command_line.specs.declared.option_texts.OutputForm.TheVariants.{Text, Json}
-use Rattle.fedbundle.specs.declared.error.CommandError.{CommandError}
-use Rattle.fedbundle.specs.declared.error.CommandError.TheVariants.{Document, NoMemory, Io}
+use Rattle.command_exits.specs.declared.error.CommandError.{CommandError}
+use Rattle.command_exits.specs.declared.error.CommandError.TheVariants.{Document, NoMemory, Io}
 
 -- ---- the text
 
@@ -56,8 +57,8 @@ pub record CutsCanon (run : CommandRun) (domain : List ℕ) (form : OutputForm) 
   pub cut : CutsOff run.sink (canon_in form domain document)
 
 -- By the answer: the text of the document was written; the source failed before anything was
--- written, or the sink failed; memory ran out before anything was written; the bytes are no
--- document. There is no other error.
+-- written, or the sink failed; memory ran out before anything was written; the bytes are not
+-- a document. There is no other error.
 abbrev pub RunsCanon : CommandRun → List ℕ → OutputForm → Result (Unit {0}) CommandError → Type 0
 RunsCanon run domain form (Ok _) = PrintsCanon run domain form
 RunsCanon run domain form (Err Io) = FailsToRead run ⊎ CutsCanon run domain form
@@ -73,8 +74,8 @@ pub record CanonCall : Type 0 where
 abbrev pub canon_call : List ℕ → OutputForm → CanonCall
 canon_call domain form = record { domain = domain; form = form }
 
--- The same of bytes that were read already: by the answer, the text of the document was written;
--- the sink failed; nothing was written, as memory ran out or the bytes are no document.
+-- The same for bytes that were read already: by the answer, the text of the document was written;
+-- the sink failed; nothing was written, as memory ran out or the bytes are not a document.
 abbrev pub RunsCanonOn : List ℕ → DeviceRun → CanonCall → Result (Unit {0}) CommandError → Type 0
 RunsCanonOn bytes sink call (Ok _) = (document : Bundle) × IsDocument bytes document
     × PrintsText sink (canon_in call.form call.domain document)

@@ -1,4 +1,4 @@
--- What a run of a command does to its devices and to what is held, in the words that the promises
+-- What a run of a command does to its devices and to what is held, in the terms that the promises
 -- of all commands share.
 use Rattle.std.specs.Prelude.{◌≡◌, ℕ, ◌+◌, List, Option, Bool, true}
 use Rattle.std.specs.Io.KnownBytes.{Appends, IsAtEnd}
@@ -7,25 +7,9 @@ use Rattle.bundle_doc.specs.Bundle.{Bundle, IsDocument, document_limit}
 use Rattle.bundle_doc.specs.Refusal.{RefusesBytes}
 use Rattle.bundle_doc.specs.declared.error.DocError.{DocError}
 use Rattle.closure_core.specs.Changes.{HeldAndRoom}
+use Rattle.command_exits.specs.DeviceRuns.{DeviceRun, HasFailed}
 
 -- ---- a run
-
--- A source or a sink, before and after: the bytes that a source still has, or that a sink holds,
--- where the device tells them; and whether it has failed.
-pub record DeviceRun : Type 0 where
-  pub before : Option (List ℕ)
-  pub after : Option (List ℕ)
-  pub had_failed : Bool
-  pub has_failed : Bool
-
--- the same, from what a trait says of its devices, the device as it was and the device as it is
-abbrev pub device_run : {D : Type 0} → (D → Option (List ℕ)) → (D → Bool) → D → D → DeviceRun
-device_run bytes failed old new = record {
-  before = bytes old;
-  after = bytes new;
-  had_failed = failed old;
-  has_failed = failed new;
-}
 
 -- the source that a command reads, and the sink that it writes
 pub record CommandRun : Type 0 where
@@ -35,7 +19,7 @@ pub record CommandRun : Type 0 where
 abbrev pub run_of : DeviceRun → DeviceRun → CommandRun
 run_of source sink = record { source = source; sink = sink }
 
--- what is held before and after, where the command may change it
+-- what is held before and after, if the command may change it
 pub record StateRun : Type 0 where
   pub old : HeldAndRoom
   pub new : HeldAndRoom
@@ -45,8 +29,8 @@ state_run old new = record { old = old; new = new }
 
 -- ---- a source
 
--- The bytes that were read: all, where there are no more than a document may have, and else one
--- byte more than that.
+-- The bytes that were read: all, if there are no more than a document may have, and else one byte
+-- more than that.
 abbrev pub Reads : DeviceRun → List ℕ → Type 0
 Reads source bytes = TakesUpTo source.before source.after (document_limit + 1) bytes
 
@@ -72,10 +56,7 @@ BeginsText sink text = AppendsBeginning sink.before sink.after text
 abbrev pub WritesNothing : DeviceRun → Type 0
 WritesNothing sink = sink.after ≡ sink.before
 
--- ---- faults
-
-abbrev pub HasFailed : DeviceRun → Type 0
-HasFailed device = device.has_failed ≡ true
+-- ---- errors
 
 -- The sink failed, after a beginning of this text.
 abbrev pub CutsOff : DeviceRun → List ℕ → Type 0
@@ -85,11 +66,11 @@ CutsOff sink text = HasFailed sink × BeginsText sink text
 abbrev pub FailsToRead : CommandRun → Type 0
 FailsToRead run = HasFailed run.source × WritesNothing run.sink
 
--- It has failed now exactly where it had before.
+-- It has failed now exactly if it had before.
 abbrev pub IsAsSound : DeviceRun → Type 0
 IsAsSound device = device.has_failed ≡ device.had_failed
 
--- The bytes that were read are no document, for this cause, and nothing was written.
+-- The bytes that were read are not a document, for this cause, and nothing was written.
 pub record RefusesDocument (run : CommandRun) (why : DocError) : Type 0 where
   pub bytes : List ℕ
   pub read : Reads run.source bytes

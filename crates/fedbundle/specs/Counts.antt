@@ -1,4 +1,4 @@
--- The lines that tell a number.
+-- The lines that report a number.
 use Rattle.std.specs.Prelude.{ℕ, ◌++◌, List, codes, decimal}
 
 abbrev pub counted : List ℕ → ℕ → List ℕ

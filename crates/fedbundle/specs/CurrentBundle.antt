@@ -5,9 +5,10 @@ use Rattle.bundle_doc.specs.Bundle.{Bundle, canonical_text}
 use Rattle.pem_text.specs.Pem.{certificates_pem}
 use Rattle.bundle_view.specs.Current.{IsCurrent}
 use Rattle.receipt_core.specs.Acceptance.{Meaning}
-use Rattle.fedbundle.specs.CommandRun.{DeviceRun, PrintsText, WritesNothing, CutsOff}
-use Rattle.fedbundle.specs.declared.error.CommandError.{CommandError}
-use Rattle.fedbundle.specs.declared.error.CommandError.TheVariants.{Io, NoMemory}
+use Rattle.fedbundle.specs.CommandRun.{PrintsText, WritesNothing, CutsOff}
+use Rattle.command_exits.specs.DeviceRuns.{DeviceRun}
+use Rattle.command_exits.specs.declared.error.CommandError.{CommandError}
+use Rattle.command_exits.specs.declared.error.CommandError.TheVariants.{Io, NoMemory}
 
 abbrev pub bundle_text : Bundle → List ℕ
 bundle_text b = canonical_text b ++ 10 ∷ []
@@ -23,7 +24,7 @@ RunsBundle sink m domain (Err Io) = (b : Bundle) × IsCurrent m domain (Some b)
     × CutsOff sink (bundle_text b)
 RunsBundle sink m domain (Err _) = ⊥
 
--- The same with the certificates of its X.509 authorities as PEM; where memory ran out nothing was
+-- The same with the certificates of its X.509 authorities as PEM; if memory ran out, nothing was
 -- written.
 abbrev pub RunsBundlePem : DeviceRun → Meaning → List ℕ → Result Bool CommandError → Type 0
 RunsBundlePem sink m domain (Ok true) = (b : Bundle) × IsCurrent m domain (Some b)

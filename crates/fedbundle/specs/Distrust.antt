@@ -1,13 +1,14 @@
--- What a run of `distrust` does to what is held, and what it writes where that is asked for
+-- What a run of `distrust` does to what is held, and what it writes if that is asked for
 use Rattle.std.specs.Prelude.{ℕ, ◌⊎◌, List, Result, Ok, Err}
 use Rattle.receipt_core.specs.Acceptance.{Meaning}
 use Rattle.receipt_core.specs.declared.distrust.Distrust.{Distrust}
 use Rattle.closure_core.specs.Changes.{HasDistrusted, HasRecordAlready, HasRefusedDistrust}
 use Rattle.closure_core.specs.declared.error.TakeError.{TakeError}
 use Rattle.distrust_view.specs.DistrustEffect.{IsEffectText, distrust_change}
-use Rattle.fedbundle.specs.CommandRun.{DeviceRun, PrintsText, CutsOff, WritesNothing}
-use Rattle.fedbundle.specs.declared.error.CommandError.{CommandError}
-use Rattle.fedbundle.specs.declared.error.CommandError.TheVariants.{Take, Io, NoMemory}
+use Rattle.fedbundle.specs.CommandRun.{PrintsText, CutsOff, WritesNothing}
+use Rattle.command_exits.specs.DeviceRuns.{DeviceRun}
+use Rattle.command_exits.specs.declared.error.CommandError.{CommandError}
+use Rattle.command_exits.specs.declared.error.CommandError.TheVariants.{Take, Io, NoMemory}
 
 -- The record is held, and was not or was before.
 abbrev pub HoldsRecord : Meaning → Distrust → Meaning → Type 0

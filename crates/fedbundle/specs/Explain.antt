@@ -8,14 +8,15 @@ use Rattle.receipt_core.specs.Receipt.{Receipt, Pair, line}
 use Rattle.closure_core.specs.AcceptedList.{document_of}
 use Rattle.bundle_view.specs.Explain.{IsShortest}
 use Rattle.json_reports.specs.ChainJson.{chain_json, root_id}
-use Rattle.fedbundle.specs.CommandRun.{CommandRun, DeviceRun, ReadsDocument, RefusesDocument}
+use Rattle.fedbundle.specs.CommandRun.{CommandRun, ReadsDocument, RefusesDocument}
+use Rattle.command_exits.specs.DeviceRuns.{DeviceRun}
 use Rattle.fedbundle.specs.CommandRun.{PrintsText, WritesNothing, CutsOff, FailsToRead}
 use Rattle.text_lines.specs.TextLines.{number_or_none}
 use Rattle.command_line.specs.declared.option_texts.ExplanationForm.{ExplanationForm}
 use Rattle.command_line.specs.declared.option_texts.ExplanationForm.TheVariants.{Receipts, Steps}
 use Rattle.command_line.specs.declared.option_texts.ExplanationForm.TheVariants.{Json}
-use Rattle.fedbundle.specs.declared.error.CommandError.{CommandError}
-use Rattle.fedbundle.specs.declared.error.CommandError.TheVariants.{Document, NoMemory, Io}
+use Rattle.command_exits.specs.declared.error.CommandError.{CommandError}
+use Rattle.command_exits.specs.declared.error.CommandError.TheVariants.{Document, NoMemory, Io}
 
 -- ---- the text
 
@@ -86,8 +87,8 @@ pub record CutsExplanation (run : CommandRun) (m : Meaning) (call : ExplanationC
   pub cut : CutsOff run.sink (explanation_text call.form (document_of call.domain document) chain)
 
 -- By the answer: the bytes read are a document, and why it is accepted was written, or nothing
--- where it is not; the source failed before anything was written, or the sink failed; memory ran
--- out before anything was written; the bytes are no document. There is no other error.
+-- if it is not; the source failed before anything was written, or the sink failed; memory ran
+-- out before anything was written; the bytes are not a document. There is no other error.
 abbrev pub RunsExplain : CommandRun → Meaning → ExplanationCall → Result Bool CommandError
     → Type 0
 RunsExplain run m call (Ok accepted) = PrintsExplanation run m call accepted

@@ -1,13 +1,11 @@
--- The promise of each command has a file of its own; what they share stands in the first three.
+-- The promise of each command has a file of its own; what they share is in the first three.
 -- `Inside` has the steps of the longest.
 pub mod CommandRun
-pub mod Errors
 pub mod Counts
 pub mod Canon
 pub mod CurrentBundle
 pub mod Distrust
 pub mod Explain
-pub mod Fault
 pub mod Merge
 pub mod Migrate
 pub mod Observe
@@ -17,8 +15,6 @@ pub mod Pull
 pub mod Report
 pub mod SameSets
 pub mod Serve
-pub mod Status
-pub mod Exits
 pub mod Stream
 pub mod SaidValues
 pub mod Shown

@@ -7,10 +7,11 @@ use Rattle.replica_texts.specs.Snapshots.{IsSnapshot, RefusesSnapshot}
 use Rattle.replica_core.specs.declared.error.SyncError.{SyncError}
 use Rattle.replica_core.specs.declared.error.SyncError.TheVariants.{Io as StreamFailed}
 use Rattle.fedbundle.specs.CommandRun.{CommandRun, StateRun, IsReadOut, PrintsText, WritesNothing}
-use Rattle.fedbundle.specs.CommandRun.{DeviceRun, CutsOff, HasFailed}
+use Rattle.fedbundle.specs.CommandRun.{CutsOff}
+use Rattle.command_exits.specs.DeviceRuns.{DeviceRun, HasFailed}
 use Rattle.fedbundle.specs.Counts.{counted}
-use Rattle.fedbundle.specs.declared.error.CommandError.{CommandError}
-use Rattle.fedbundle.specs.declared.error.CommandError.TheVariants.{Sync, Take, Io}
+use Rattle.command_exits.specs.declared.error.CommandError.{CommandError}
+use Rattle.command_exits.specs.declared.error.CommandError.TheVariants.{Sync, Take, Io}
 
 abbrev pub count_text : ℕ → List ℕ
 count_text n = counted (codes "new ") n
@@ -35,7 +36,7 @@ pub record CutsMerge (run : CommandRun) (state : StateRun) : Type 0 where
   pub joins : Joins run state count
   pub cut : CutsOff run.sink (count_text count)
 
--- The stream is no snapshot of this configuration, for this cause, and nothing has changed.
+-- The stream is not a snapshot of this configuration, for this cause, and nothing has changed.
 pub record RefusesStream (run : CommandRun) (state : StateRun) (why : SyncError) : Type 0 where
   pub cause : RefusesSnapshot state.old.meaning.config run.source.before why
   pub fault : why ≡ StreamFailed → HasFailed run.source
@@ -50,7 +51,7 @@ pub record RefusesOther (run : CommandRun) (state : StateRun) (why : TakeError) 
   pub unwritten : WritesNothing run.sink
 
 -- By the answer: all that the snapshot holds is held, and the number was written; the sink failed
--- after that; the stream is no snapshot; what it holds is not taken. There is no other error.
+-- after that; the stream is not a snapshot; what it holds is not taken. There is no other error.
 abbrev pub RunsMerge : CommandRun → StateRun → Result (Unit {0}) CommandError → Type 0
 RunsMerge run state (Ok _) = PrintsMerge run state
 RunsMerge run state (Err Io) = CutsMerge run state

@@ -6,11 +6,13 @@ use Rattle.bundle_view.specs.Observe.{FetchedBundle, HasObserved, HasNotObserved
 use Rattle.bundle_view.specs.Observe.{RefusesObservation}
 use Rattle.bundle_view.specs.declared.observation.Verdict.{Verdict}
 use Rattle.bundle_view.specs.declared.observe_error.ObserveError.{ObserveError}
-use Rattle.fedbundle.specs.CommandRun.{CommandRun, DeviceRun, StateRun, Reads, PrintsText}
-use Rattle.fedbundle.specs.CommandRun.{CutsOff, FailsToRead, HasFailed, WritesNothing}
+use Rattle.fedbundle.specs.CommandRun.{CommandRun, StateRun, Reads, PrintsText}
+use Rattle.command_exits.specs.DeviceRuns.{DeviceRun}
+use Rattle.fedbundle.specs.CommandRun.{CutsOff, FailsToRead, WritesNothing}
+use Rattle.command_exits.specs.DeviceRuns.{HasFailed}
 use Rattle.fedbundle.specs.Explain.{receipt_line}
-use Rattle.fedbundle.specs.declared.error.CommandError.{CommandError}
-use Rattle.fedbundle.specs.declared.error.CommandError.TheVariants.{Observe, NoMemory, Io}
+use Rattle.command_exits.specs.declared.error.CommandError.{CommandError}
+use Rattle.command_exits.specs.declared.error.CommandError.TheVariants.{Observe, NoMemory, Io}
 
 -- whose bundle was fetched, and what TLS says of the endpoint that served it
 pub record Fetched : Type 0 where

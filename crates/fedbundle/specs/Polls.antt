@@ -7,15 +7,17 @@ use Rattle.poll_log.specs.declared.error.PollError.{PollError}
 use Rattle.poll_log.specs.declared.error.PollError.TheVariants.{Io as SourceFailed}
 use Rattle.poll_view.specs.PollTexts.{IsPollsText}
 use Rattle.poll_view.specs.declared.polls_writer.PollsForm.{PollsForm}
-use Rattle.fedbundle.specs.CommandRun.{CommandRun, DeviceRun, IsReadOut, PrintsText, WritesNothing}
-use Rattle.fedbundle.specs.CommandRun.{CutsOff, HasFailed}
-use Rattle.fedbundle.specs.declared.error.CommandError.{CommandError}
-use Rattle.fedbundle.specs.declared.error.CommandError.TheVariants.{Poll, NoMemory, Io}
+use Rattle.fedbundle.specs.CommandRun.{CommandRun, IsReadOut, PrintsText, WritesNothing}
+use Rattle.command_exits.specs.DeviceRuns.{DeviceRun}
+use Rattle.fedbundle.specs.CommandRun.{CutsOff}
+use Rattle.command_exits.specs.DeviceRuns.{HasFailed}
+use Rattle.command_exits.specs.declared.error.CommandError.{CommandError}
+use Rattle.command_exits.specs.declared.error.CommandError.TheVariants.{Poll, NoMemory, Io}
 
 -- ---- a run
 
--- The log has each relationship's domain, and is that of the lines that the source had, where it
--- tells them.
+-- The log has each relationship's domain, and is that of the lines that the source had, if it
+-- reports them.
 pub record ReadsLog (source : DeviceRun) (m : Meaning) (log : List PollStatus) : Type 0 where
   pub domains : polled_domains log ≡ polled m.config
   pub lines : IfSome source.before (λ bytes. IsLogOf (polled m.config) bytes log)
@@ -51,7 +53,7 @@ pub record RefusesLines (run : CommandRun) (m : Meaning) (why : PollError) : Typ
   pub fault : why ≡ SourceFailed → HasFailed run.source
   pub unwritten : WritesNothing run.sink
 
--- at which moment polls are shown, and how that is written
+-- at which time polls are shown, and how that is written
 pub record PollsCall : Type 0 where
   pub form : PollsForm
   pub now : ℤ

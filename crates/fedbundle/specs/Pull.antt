@@ -5,11 +5,13 @@ use Rattle.replica_core.specs.declared.error.SyncError.TheVariants.{Io as Stream
 use Rattle.replica_sync.specs.SessionRun.{session_run}
 use Rattle.replica_sync.specs.Pulling.{Pulls}
 use Rattle.replica_sync.specs.declared.pulling.PullFault.{PullFault}
-use Rattle.fedbundle.specs.CommandRun.{CommandRun, DeviceRun, StateRun, PrintsText, WritesNothing}
-use Rattle.fedbundle.specs.CommandRun.{CutsOff, HasFailed}
+use Rattle.fedbundle.specs.CommandRun.{CommandRun, StateRun, PrintsText, WritesNothing}
+use Rattle.command_exits.specs.DeviceRuns.{DeviceRun}
+use Rattle.fedbundle.specs.CommandRun.{CutsOff}
+use Rattle.command_exits.specs.DeviceRuns.{HasFailed}
 use Rattle.fedbundle.specs.Merge.{count_text}
-use Rattle.fedbundle.specs.declared.error.CommandError.{CommandError}
-use Rattle.fedbundle.specs.declared.error.CommandError.TheVariants.{Pull, Io}
+use Rattle.command_exits.specs.declared.error.CommandError.{CommandError}
+use Rattle.command_exits.specs.declared.error.CommandError.TheVariants.{Pull, Io}
 
 -- What the answers have is held, as the call of `pull` says by cases on how the session ended.
 abbrev pub HasPulled : CommandRun → DeviceRun → StateRun → Result ℕ PullFault → Type 0
@@ -28,7 +30,7 @@ pub record CutsPull (run : CommandRun) (peer : DeviceRun) (state : StateRun) : T
   pub pulls : HasPulled run peer state (Ok count)
   pub cut : CutsOff run.sink (count_text count)
 
--- What the answers before this fault have is held, and nothing was written.
+-- What the answers before this error have is held, and nothing was written.
 pub record PullsBefore (run : CommandRun) (peer : DeviceRun) (state : StateRun)
     (fault : PullFault) : Type 0 where
   pub pulls : HasPulled run peer state (Err fault)
@@ -36,7 +38,7 @@ pub record PullsBefore (run : CommandRun) (peer : DeviceRun) (state : StateRun)
   pub unwritten : WritesNothing run.sink
 
 -- By the answer: all answers are taken, and the number was written; the sink failed after that; the
--- session ended at a fault. There is no other error.
+-- session ended at an error. There is no other error.
 abbrev pub RunsPull : CommandRun → DeviceRun → StateRun → Result (Unit {0}) CommandError → Type 0
 RunsPull run peer state (Ok _) = PrintsPull run peer state
 RunsPull run peer state (Err Io) = CutsPull run peer state

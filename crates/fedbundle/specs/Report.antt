@@ -1,4 +1,4 @@
--- What a run of `report` does. `complaints` is the sink of what is reported of single lines.
+-- What a run of `report` does. `line_errors` is the sink of what is reported of single lines.
 use Rattle.std.specs.Prelude.{◌≡◌, ℕ, ◌≤◌, ◌⊎◌, List, [], length, flat_map, Option, IfSome}
 use Rattle.std.specs.Prelude.{Result, Ok, Err, IsErrOf}
 use Rattle.std.specs.Io.KnownBytes.{Appends}
@@ -12,13 +12,15 @@ use Rattle.command_line.specs.declared.option_texts.OutputForm.{OutputForm}
 use Rattle.command_line.specs.declared.option_texts.OutputForm.TheVariants as output
 use Rattle.json_reports.specs.ReportJson.{IsReportJson}
 use Rattle.text_lines.specs.TextLines.{BeginsSome, WritesSome}
-use Rattle.fedbundle.specs.CommandRun.{CommandRun, DeviceRun, IsReadOut, WritesNothing}
-use Rattle.fedbundle.specs.CommandRun.{HasFailed, IsAsSound}
+use Rattle.fedbundle.specs.CommandRun.{CommandRun, IsReadOut, WritesNothing}
+use Rattle.command_exits.specs.DeviceRuns.{DeviceRun}
+use Rattle.fedbundle.specs.CommandRun.{IsAsSound}
+use Rattle.command_exits.specs.DeviceRuns.{HasFailed}
 use Rattle.receipt_core.specs.Limits.{receipt_limit}
-use Rattle.fedbundle.specs.Stream.{AreTaken, OverfillStore, Complaint, AreComplaints}
-use Rattle.fedbundle.specs.Stream.{AreFirstComplaints, complaint_text}
-use Rattle.fedbundle.specs.declared.run_error.RunError.{RunError}
-use Rattle.fedbundle.specs.declared.run_error.RunError.TheVariants.{Full, NoMemory, Io}
+use Rattle.fedbundle.specs.Stream.{AreTaken, OverfillStore, NumberedError, AreLineErrors}
+use Rattle.fedbundle.specs.Stream.{AreFirstLineErrors, line_error_text}
+use Rattle.command_exits.specs.declared.run_error.RunError.{RunError}
+use Rattle.command_exits.specs.declared.run_error.RunError.TheVariants.{Full, NoMemory, Io}
 
 -- ---- what is written
 
@@ -53,51 +55,51 @@ pub record CutsReport (form : OutputForm) (sink : DeviceRun) (c : Configuration)
 
 -- ---- what is reported
 
--- All complaints of the lines were written, n of them.
-pub record TellsAll (complaints : DeviceRun) (c : Configuration) (lines : Lines)
+-- All line errors of the lines were written, n of them.
+pub record ReportsAll (line_errors : DeviceRun) (c : Configuration) (lines : Lines)
     (n : ℕ) : Type 0 where
-  pub list : List Complaint
-  pub all : AreComplaints c lines list
-  pub telling : Appends complaints.before complaints.after (flat_map complaint_text list)
+  pub list : List NumberedError
+  pub all : AreLineErrors c lines list
+  pub stating : Appends line_errors.before line_errors.after (flat_map line_error_text list)
   pub counted : n ≡ length list
 
--- A beginning of the complaints was written, perhaps all of them.
-pub record BeginsTelling (c : Configuration) (lines : Lines)
-    (told tells : Option (List ℕ)) : Type 0 where
-  pub complaints : List Complaint
-  pub first : AreFirstComplaints c lines complaints
-  pub begun : AppendsBeginning told tells (flat_map complaint_text complaints)
+-- A beginning of the line errors was written, perhaps all of them.
+pub record BeginsReporting (c : Configuration) (lines : Lines)
+    (stated reports : Option (List ℕ)) : Type 0 where
+  pub line_errors : List NumberedError
+  pub first : AreFirstLineErrors c lines line_errors
+  pub begun : AppendsBeginning stated reports (flat_map line_error_text line_errors)
 
 -- ---- a run
 
--- The source, or the sink of complaints, failed before anything of the report was written; or the
--- report's sink failed.
+-- The source or `line_errors` failed before anything of the report was written; or the report's
+-- sink failed.
 abbrev pub FailsReport : OutputForm → CommandRun → DeviceRun → Configuration → Type 0
-FailsReport form run complaints c =
-    ((HasFailed run.source ⊎ HasFailed complaints) × WritesNothing run.sink)
+FailsReport form run line_errors c =
+    ((HasFailed run.source ⊎ HasFailed line_errors) × WritesNothing run.sink)
     ⊎ (HasFailed run.sink
     × IfSome run.source.before (λ bytes. CutsReport form run.sink c (lines_of bytes)))
 
 -- By the error: there are too many receipts, or memory ran out, and nothing of the report was
 -- written; or a device failed.
 abbrev pub StopsReport : OutputForm → CommandRun → DeviceRun → Configuration → RunError → Type 0
-StopsReport form run complaints c Full = WritesNothing run.sink
+StopsReport form run line_errors c Full = WritesNothing run.sink
     × IfSome run.source.before (λ bytes. OverfillStore c (lines_of bytes).whole)
-StopsReport form run complaints c NoMemory = WritesNothing run.sink
-StopsReport form run complaints c Io = FailsReport form run complaints c
+StopsReport form run line_errors c NoMemory = WritesNothing run.sink
+StopsReport form run line_errors c Io = FailsReport form run line_errors c
 
--- By the answer: the report was written and all complaints, n of them; or the run stopped, and
--- a beginning of the complaints was written. Where the source's bytes are not known, nothing is
+-- By the answer: the report was written and all line errors, n of them; or the run stopped, and
+-- a beginning of the line errors was written. If the source's bytes are not known, nothing is
 -- said of its lines.
 abbrev pub AnswersReport : OutputForm → CommandRun → DeviceRun → Configuration
     → Result ℕ RunError → Type 0
-AnswersReport form run complaints c (Ok n) = IsReadOut run.source
+AnswersReport form run line_errors c (Ok n) = IsReadOut run.source
     × IfSome run.source.before
     (λ bytes. PrintsReport form run.sink c (lines_of bytes)
-    × TellsAll complaints c (lines_of bytes) n)
-AnswersReport form run complaints c (Err e) = StopsReport form run complaints c e
+    × ReportsAll line_errors c (lines_of bytes) n)
+AnswersReport form run line_errors c (Err e) = StopsReport form run line_errors c e
     × IfSome run.source.before
-    (λ bytes. BeginsTelling c (lines_of bytes) complaints.before complaints.after)
+    (λ bytes. BeginsReporting c (lines_of bytes) line_errors.before line_errors.after)
 
 -- the form of the report, and by which configuration
 pub record AskedReport : Type 0 where
@@ -107,9 +109,9 @@ pub record AskedReport : Type 0 where
 abbrev pub report_asked : OutputForm → Configuration → AskedReport
 report_asked form config = record { form = form; config = config }
 
--- That, and no fault of a device is passed over, or reported as another error.
-pub record RunsReport (run : CommandRun) (complaints : DeviceRun) (asked : AskedReport)
+-- That, and no error of a device is passed over, or reported as another error.
+pub record RunsReport (run : CommandRun) (line_errors : DeviceRun) (asked : AskedReport)
     (result : Result ℕ RunError) : Type 0 where
-  pub answer : AnswersReport asked.form run complaints asked.config result
+  pub answer : AnswersReport asked.form run line_errors asked.config result
   pub sound : (IsErrOf result Io → ⊥)
-      → IsAsSound run.source × IsAsSound run.sink × IsAsSound complaints
+      → IsAsSound run.source × IsAsSound run.sink × IsAsSound line_errors

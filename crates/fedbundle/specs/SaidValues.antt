@@ -1,4 +1,4 @@
--- The values that the words of a call say, and how a command ends at words that say none.
+-- The values that the arguments of a call say, and how a command ends if they say none.
 use Rattle.std.specs.Prelude.{◌≡◌, ◌⊎◌, ℕ, List, Option, Some, None, map, option_map}
 use Rattle.spiffe_name.specs.SpiffeId.{IsId, RefusesId}
 use Rattle.spiffe_name.specs.TrustDomain.{IsDomainText, RefusesDomain}
@@ -9,9 +9,9 @@ use Rattle.command_line.specs.OptionTexts.{IsKeyText, IsNoKeyText, option_said}
 use Rattle.command_line.specs.declared.command_name.CommandName.{CommandName}
 use Rattle.command_line.specs.declared.command_name.OptionName.{OptionName}
 use Rattle.command_line.specs.declared.command_name.OptionName.TheVariants.{Domain, Endpoint, Key}
-use Rattle.fedbundle.specs.declared.error.CommandError.TheVariants.{Name}
-use Rattle.fedbundle.specs.declared.exits.Exit.{Exit}
-use Rattle.fedbundle.specs.declared.exits.Exit.TheVariants.{BadKey, Refused, Usage}
+use Rattle.command_exits.specs.declared.error.CommandError.TheVariants.{Name}
+use Rattle.command_exits.specs.declared.exits.Exit.{Exit}
+use Rattle.command_exits.specs.declared.exits.Exit.TheVariants.{BadKey, Refused, Usage}
 use Rattle.command_line.specs.declared.words.Call.{Call}
 
 -- the texts of a call's options
@@ -20,7 +20,7 @@ texts_of_call call = map (option_map (λ t. t.now)) call.texts.items
 
 -- ---- values
 
--- The words say this record of distrust.
+-- The arguments say this record of distrust.
 pub record SaysRecord (name : CommandName) (texts : List (Option (List ℕ)))
     (x : Distrust) : Type 0 where
   pub domain : option_said name texts Domain ≡ Some x.domain
@@ -38,15 +38,15 @@ pub record SaysVerdict (name : CommandName) (texts : List (Option (List ℕ)))
   pub key : option_said name texts Key ≡ Some digits
   pub is_key : IsKeyText digits verdict.key
 
--- ---- words that say none
+-- ---- arguments that say none
 
--- The words leave out this option, which the command wants.
+-- The arguments leave out this option, which the command needs.
 pub record EndsWithout (option : OptionName) (name : CommandName)
     (texts : List (Option (List ℕ))) (exit : Exit) : Type 0 where
   pub lacks : option_said name texts option ≡ None
   pub is : exit ≡ Usage
 
--- The name that the words give this option is refused, for a cause.
+-- The name that the arguments give this option is refused, for a cause.
 pub record EndsAtName (Refuses : List ℕ → NameError → Type 0) (option : OptionName)
     (name : CommandName) (texts : List (Option (List ℕ))) (exit : Exit) : Type 0 where
   pub text : List ℕ
@@ -55,7 +55,7 @@ pub record EndsAtName (Refuses : List ℕ → NameError → Type 0) (option : Op
   pub refused : Refuses text why
   pub is : exit ≡ Refused (Name why)
 
--- The words give a text for the key that is no key's.
+-- The arguments give a text for the key that is not the text of a key.
 pub record EndsAtDigits (name : CommandName) (texts : List (Option (List ℕ)))
     (exit : Exit) : Type 0 where
   pub digits : List ℕ

@@ -1,5 +1,5 @@
--- What a command does that shows what is held: the words say what is to be written, and the sink
--- gets that, or the words or the command's function refuse it.
+-- What a command does that shows what is held: the arguments say what is to be written, and the
+-- sink gets that, or the arguments or the command's function refuse it.
 use Rattle.std.specs.Prelude.{◌≡◌, ◌⊎◌, ℕ, ℤ, List, [], Bool, true, false, Option, Some, None}
 use Rattle.std.specs.Prelude.{Result, Ok, Err, IfOk, if◌then◌else◌, option_map}
 use Rattle.spiffe_name.specs.TrustDomain.{IsDomainText, RefusesDomain}
@@ -27,7 +27,8 @@ use Rattle.status_warnings.specs.Fetches.{AreFetches}
 use Rattle.status_warnings.specs.declared.seen.Fetch.{Fetch}
 use Rattle.status_warnings.specs.declared.seen.WarnLimits.{WarnLimits}
 use Rattle.text_lines.specs.TextLines.{BeginsSome, WritesSome}
-use Rattle.fedbundle.specs.CommandRun.{CommandRun, DeviceRun, HasFailed, IsAsSound, IsReadOut}
+use Rattle.fedbundle.specs.CommandRun.{CommandRun, IsAsSound, IsReadOut}
+use Rattle.command_exits.specs.DeviceRuns.{DeviceRun, HasFailed}
 use Rattle.fedbundle.specs.CommandRun.{WritesNothing}
 use Rattle.fedbundle.specs.CurrentBundle.{RunsBundle, RunsBundlePem}
 use Rattle.fedbundle.specs.Distrust.{ShowsDistrust}
@@ -49,12 +50,12 @@ use Rattle.command_line.specs.declared.command_name.OptionName.TheVariants.{Now,
 use Rattle.command_line.specs.declared.command_name.OptionName.TheVariants.{OptionalNow, Short}
 use Rattle.command_line.specs.declared.command_name.OptionName.TheVariants.{ExpiresWithin, Polls}
 use Rattle.command_line.specs.declared.command_name.OptionName.TheVariants.{PeerQuiet}
-use Rattle.fedbundle.specs.declared.error.CommandError.{CommandError}
-use Rattle.fedbundle.specs.declared.error.CommandError.TheVariants.{Io, NoMemory, Poll}
-use Rattle.fedbundle.specs.declared.exits.Exit.{Exit}
-use Rattle.fedbundle.specs.declared.exits.Exit.TheVariants.{BadMoment, BadNumber, NoBundle}
-use Rattle.fedbundle.specs.declared.exits.Exit.TheVariants.{NotAccepted}
-use Rattle.fedbundle.specs.declared.exits.Exit.TheVariants.{Refused, Usage}
+use Rattle.command_exits.specs.declared.error.CommandError.{CommandError}
+use Rattle.command_exits.specs.declared.error.CommandError.TheVariants.{Io, NoMemory, Poll}
+use Rattle.command_exits.specs.declared.exits.Exit.{Exit}
+use Rattle.command_exits.specs.declared.exits.Exit.TheVariants.{BadMoment, BadNumber, NoBundle}
+use Rattle.command_exits.specs.declared.exits.Exit.TheVariants.{NotAccepted}
+use Rattle.command_exits.specs.declared.exits.Exit.TheVariants.{Refused, Usage}
 use Rattle.command_line.specs.declared.option_texts.BundleFormat.{BundleFormat}
 use Rattle.command_line.specs.declared.option_texts.BundleFormat.TheVariants.{Json, Pem}
 use Rattle.command_line.specs.declared.option_texts.OutputForm.{OutputForm}
@@ -64,7 +65,7 @@ use Rattle.fedbundle.specs.declared.shown_status.StatusLook.{StatusLook}
 
 -- ---- a call
 
--- the words of a call, what is held, what a running replica says of itself, and the Unix second
+-- the arguments of a call, what is held, what a running replica says of itself, and the Unix second
 pub record ShownCall : Type 0 where
   pub name : CommandName
   pub texts : List (Option (List ℕ))
@@ -81,7 +82,7 @@ shown_call shown m = record {
   moment = shown.moment;
 }
 
--- the texts that the words give options
+-- the texts that the arguments give options
 abbrev pub chosen_said : CommandName → List (Option (List ℕ)) → Option (List ℕ)
 chosen_said name texts = option_said name texts OptionalDomain
 
@@ -91,12 +92,12 @@ second_said name texts = option_said name texts OptionalNow
 abbrev pub shown_said : ShownCall → OptionName → Option (List ℕ)
 shown_said call option = option_said call.name call.texts option
 
--- ---- words that are refused
+-- ---- arguments that are refused
 
 abbrev pub IsUntouched : DeviceRun → Type 0
 IsUntouched device = (device.after ≡ device.before) × IsAsSound device
 
--- The words are refused for such a cause, and nothing was written.
+-- The arguments are refused for such a cause, and nothing was written.
 pub record RefusesUnwritten (Ends : Exit → Type 0) (sink : DeviceRun)
     (result : Result ℕ Exit) : Type 0 where
   pub exit : Exit
@@ -104,18 +105,18 @@ pub record RefusesUnwritten (Ends : Exit → Type 0) (sink : DeviceRun)
   pub is : result ≡ Err exit
   pub unwritten : IsUntouched sink
 
--- The same of a command that reads: nothing was read.
+-- The same for a command that reads: nothing was read.
 abbrev pub RefusesUnread : (Exit → Type 0) → CommandRun → Result ℕ Exit → Type 0
 RefusesUnread Ends run result = RefusesUnwritten Ends run.sink result × IsUntouched run.source
 
--- They give the option a moment that is none.
+-- They give the option a text that is not a time.
 pub record EndsAtMoment (call : ShownCall) (exit : Exit) : Type 0 where
   pub seconds : List ℕ
   pub is_said : shown_said call Now ≡ Some seconds
   pub none : SaysBadMoment seconds
   pub is : exit ≡ BadMoment
 
--- The words of `report` say no form,
+-- The arguments of `report` say no form,
 abbrev pub EndsAtReport : ShownCall → Exit → Type 0
 EndsAtReport call exit = (exit ≡ Usage) × SaysNoOutputForm (shown_said call Format)
 
@@ -138,7 +139,7 @@ abbrev pub EndsAtExplain : ShownCall → Exit → Type 0
 EndsAtExplain call exit = EndsAtDomain call.name call.texts exit
     ⊎ ((exit ≡ Usage) × SaysNoExplanationIn (shown_said call Short) (shown_said call Format))
 
--- those of `polls` no form or no moment,
+-- those of `polls` no form or no time,
 abbrev pub EndsAtPolls : ShownCall → Exit → Type 0
 EndsAtPolls call exit = ((exit ≡ Usage) × SaysNoOutputForm (shown_said call Format))
     ⊎ (EndsWithout Now call.name call.texts exit ⊎ EndsAtMoment call exit)
@@ -195,13 +196,13 @@ IsListIn false output.Json m chosen text = IsHeldJson m chosen text
 
 -- ---- what `status` looks at
 
--- the second that the words say, or the other one
+-- the second that the arguments say, or the other one
 abbrev pub SaysSecond : ℤ → Option (List ℕ) → ℤ → Type 0
 SaysSecond otherwise None second = second ≡ otherwise
 SaysSecond otherwise (Some text) second = ReadsSeconds text (Some second)
 
 -- A certificate is warned of 7 days before its end, and a peer after 10 quiet minutes, if the
--- words do not say otherwise.
+-- arguments do not say otherwise.
 pub record SaysLimits (moment : ℤ) (name : CommandName) (texts : List (Option (List ℕ)))
     (limits : WarnLimits) : Type 0 where
   pub second : SaysSecond moment (second_said name texts) limits.moment
@@ -261,9 +262,9 @@ abbrev pub exit_if_warned : Result Bool CommandError → Result ℕ Exit
 exit_if_warned (Ok warned) = Ok (if warned then 1 else 0)
 exit_if_warned (Err e) = Err (Refused e)
 
--- ---- each command, where its words are good
+-- ---- each command, if its arguments are good
 
--- the report, in the form that the words say
+-- the report, in the form that the arguments say
 pub record ShowsReportSaid (call : ShownCall) (sink : DeviceRun)
     (result : Result ℕ Exit) : Type 0 where
   pub form : OutputForm
@@ -297,7 +298,7 @@ pub record ShowsExplanationSaid (call : ShownCall) (run : CommandRun)
   pub runs : RunsExplain run call.meaning (explanation_call domain form) answer
   pub is : result ≡ exit_if_written NotAccepted answer
 
--- the next polls at the moment that they say, in the form that they say
+-- the next polls at the time that they say, in the form that they say
 pub record ShowsPollsSaid (call : ShownCall) (run : CommandRun)
     (result : Result ℕ Exit) : Type 0 where
   pub form : OutputForm
@@ -336,7 +337,7 @@ pub record ShowsGraphSaid (call : ShownCall) (sink : DeviceRun)
   pub runs : RunsWriter (IsGraphText call.meaning chosen) sink answer
   pub is : result ≡ exit_if_done answer
 
--- how the replica stands, and what is wrong with it, if domains are fetched like this
+-- the status of the replica, and what is wrong with it, if domains are fetched like this
 pub record ShowsStanding (sight : StatusSight) (fetches : List Fetch) (sink : DeviceRun)
     (result : Result ℕ Exit) : Type 0 where
   pub answer : Result Bool CommandError
@@ -369,13 +370,13 @@ abbrev pub ShowsPolled : StatusSight → CommandRun → Result ℕ Exit → Type
 ShowsPolled sight run result = EndsAtLog sight.meaning run result
     ⊎ (LacksFetches run result ⊎ ShowsFetched sight run result)
 
--- by the file of polls, if the words name one
+-- by the file of polls, if the arguments name one
 abbrev pub ShowsSight : Option (List ℕ) → StatusSight → CommandRun → Result ℕ Exit → Type 0
 ShowsSight None sight run result = ShowsStanding sight [] run.sink result
     × IsUntouched run.source
 ShowsSight (Some path) sight run result = ShowsPolled sight run result
 
--- how the replica stands, in the format and by the limits and the polls that they say
+-- the status of the replica, in the format and by the limits and the polls that they say
 pub record ShowsStatusSaid (call : ShownCall) (run : CommandRun)
     (result : Result ℕ Exit) : Type 0 where
   pub format : StatusFormat

@@ -19,8 +19,8 @@ use Rattle.replica_view.specs.HeldTexts.{HoldSame, IsHeldDifference}
 use Rattle.reseeding.specs.Reseeding.{Reseeds}
 use Rattle.reseeding.specs.declared.new_floors.FloorChoice.{FloorChoice}
 use Rattle.reseeding.specs.declared.new_floors.FloorChoice.TheVariants.{Kept, Raised}
-use Rattle.reseeding.specs.declared.starting_anew.Reseeded.{Reseeded}
-use Rattle.reseeding.specs.declared.starting_anew.Reseeded.TheVariants.{Refusals, Seeded}
+use Rattle.reseeding.specs.declared.new_start.Reseeded.{Reseeded}
+use Rattle.reseeding.specs.declared.new_start.Reseeded.TheVariants.{Refusals, Seeded}
 use Rattle.spiffe_name.specs.TrustDomain.{RefusesDomain}
 use Rattle.command_line.specs.OptionTexts.{SaysFlag, SaysNoOutputForm, SaysOutputForm, option_said}
 use Rattle.command_line.specs.declared.command_name.CommandName.{CommandName}
@@ -30,35 +30,22 @@ use Rattle.command_line.specs.declared.command_name.OptionName.TheVariants.{Allo
 use Rattle.command_line.specs.declared.command_name.OptionName.TheVariants.{Floors, RecordsOnly}
 use Rattle.command_line.specs.declared.option_texts.OutputForm.{OutputForm}
 use Rattle.command_line.specs.declared.option_texts.OutputForm.TheVariants as output
-use Rattle.fedbundle.specs.CommandRun.{CommandRun, CutsOff, DeviceRun, HasFailed, IsReadOut}
+use Rattle.fedbundle.specs.CommandRun.{CommandRun, CutsOff, IsReadOut}
+use Rattle.command_exits.specs.DeviceRuns.{DeviceRun, HasFailed}
 use Rattle.fedbundle.specs.CommandRun.{IsAsSound, PrintsText}
 use Rattle.fedbundle.specs.Migrate.{Move, RunsMigrate, move_to}
 use Rattle.fedbundle.specs.SaidValues.{EndsAtName, EndsWithout}
 use Rattle.fedbundle.specs.Shown.{IsUntouched, RefusesUnread, RefusesUnwritten, RunsWriter}
 use Rattle.fedbundle.specs.Shown.{SaysChosen, ShownCall, ShowsBy, exit_if_done, shown_said}
-use Rattle.fedbundle.specs.declared.error.CommandError.{CommandError}
-use Rattle.fedbundle.specs.declared.error.CommandError.TheVariants.{Config, Io, NoMemory, Sync}
-use Rattle.fedbundle.specs.declared.exits.Exit.{Exit}
-use Rattle.fedbundle.specs.declared.exits.Exit.TheVariants.{Refused, Usage}
+use Rattle.command_exits.specs.ConfigSource.{ReadsConfig}
+use Rattle.command_exits.specs.declared.error.CommandError.{CommandError}
+use Rattle.command_exits.specs.declared.error.CommandError.TheVariants.{Config, Io, NoMemory, Sync}
+use Rattle.command_exits.specs.declared.exits.Exit.{Exit}
+use Rattle.command_exits.specs.declared.exits.Exit.TheVariants.{Refused, Usage}
 
 -- ---- a configuration, out of a source
 
--- The source was read to its end, and of its bytes this is so.
-pub record ReadsAll (Is : List ℕ → Type 0) (source : DeviceRun) : Type 0 where
-  pub bytes : List ℕ
-  pub read : TakesUpTo source.before source.after 18446744073709551615 bytes
-  pub is : Is bytes
-
--- By the answer: the bytes are this configuration; they are none, for this cause; the source
--- failed; memory ran out for the bytes. There is no other error.
-abbrev pub ReadsConfig : DeviceRun → Result Configuration CommandError → Type 0
-ReadsConfig source (Ok c) = ReadsAll (λ bytes. IsConfig bytes c) source
-ReadsConfig source (Err (Config why)) = ReadsAll (λ bytes. RefusesConfigBytes bytes why) source
-ReadsConfig source (Err Io) = HasFailed source
-ReadsConfig source (Err NoMemory) = Unit {0}
-ReadsConfig source (Err _) = ⊥
-
--- There is none, and nothing was written.
+-- There is no configuration, and nothing was written.
 pub record EndsAtConfig (run : CommandRun) (result : Result ℕ Exit) : Type 0 where
   pub why : CommandError
   pub reads : ReadsConfig run.source (Err why)
@@ -93,7 +80,7 @@ pub record ShowsOneConfig (form : OutputForm) (c : Configuration) (sink : Device
   pub runs : RunsWriter (IsConfigIn form c) sink answer
   pub is : result ≡ exit_if_done answer
 
--- where it differs from the one that was read
+-- how it differs from the one that was read
 pub record ComparesRead (c : Configuration) (run : CommandRun)
     (result : Result ℕ Exit) : Type 0 where
   pub other : Configuration
@@ -116,7 +103,7 @@ ShowsConfigIn None form c run result = ShowsOneConfig form c run.sink result
     × IsUntouched run.source
 ShowsConfigIn (Some path) form c run result = ComparesConfigsIn form c run result
 
--- the words of a call, and the configuration
+-- the arguments of a call, and the configuration
 pub record ConfigCall : Type 0 where
   pub name : CommandName
   pub texts : List (Option (List ℕ))
@@ -128,7 +115,7 @@ config_call name texts config = record { name = name; texts = texts; config = co
 abbrev pub config_said : ConfigCall → OptionName → Option (List ℕ)
 config_said call option = option_said call.name call.texts option
 
--- in the form that the words say
+-- in the form that the arguments say
 pub record ShowsConfigSaid (call : ConfigCall) (run : CommandRun)
     (result : Result ℕ Exit) : Type 0 where
   pub form : OutputForm
@@ -170,7 +157,7 @@ pub record ComparesSnapshot (m : Meaning) (run : CommandRun)
 abbrev pub ComparesHeld : Meaning → CommandRun → Result ℕ Exit → Type 0
 ComparesHeld m run result = EndsAtSnapshot m run result ⊎ ComparesSnapshot m run result
 
--- The words may leave the other side out.
+-- The arguments may leave the other side out.
 abbrev pub ShowsDifference : ShownCall → CommandRun → Result ℕ Exit → Type 0
 ShowsDifference call run result = RefusesUnread (EndsWithout With call.name call.texts) run result
     ⊎ ComparesHeld call.meaning run result
@@ -188,43 +175,44 @@ EndsMove (Ok n) result = ((n ≡ 0) × (result ≡ Ok 0)) ⊎ ((n ≢ 0) × (res
 EndsMove (Err e) result = result ≡ Err (Refused e)
 
 -- what goes along, and lines of what does not
-pub record ShowsMove (move : Move) (sink complaints : DeviceRun)
+pub record ShowsMove (move : Move) (sink line_errors : DeviceRun)
     (result : Result ℕ Exit) : Type 0 where
   pub answer : Result ℕ CommandError
-  pub runs : RunsMigrate move sink complaints answer
+  pub runs : RunsMigrate move sink line_errors answer
   pub is : EndsMove answer result
 
 -- to the configuration that was read
-pub record MovesToOther (choice : Choice) (m : Meaning) (run : CommandRun) (complaints : DeviceRun)
+pub record MovesToOther (choice : Choice) (m : Meaning) (run : CommandRun) (line_errors : DeviceRun)
     (result : Result ℕ Exit) : Type 0 where
   pub to : Configuration
   pub reads : ReadsConfig run.source (Ok to)
-  pub moves : ShowsMove (move_to choice to m) run.sink complaints result
+  pub moves : ShowsMove (move_to choice to m) run.sink line_errors result
 
 abbrev pub MovesToRead : Choice → Meaning → CommandRun → DeviceRun → Result ℕ Exit → Type 0
-MovesToRead choice m run complaints result =
-    (EndsAtConfig run result × IsUntouched complaints) ⊎ MovesToOther choice m run complaints result
+MovesToRead choice m run line_errors result =
+    (EndsAtConfig run result × IsUntouched line_errors) ⊎ MovesToOther choice m run line_errors
+    result
 
--- Without `--to` it stays under its configuration.
+-- Without `--to` it remains under its configuration.
 abbrev pub MovesTo : Option (List ℕ) → Choice → Meaning → CommandRun → DeviceRun
     → Result ℕ Exit → Type 0
-MovesTo None choice m run complaints result =
-    ShowsMove (move_to choice m.config m) run.sink complaints result × IsUntouched run.source
-MovesTo (Some path) choice m run complaints result =
-    MovesToRead choice m run complaints result
+MovesTo None choice m run line_errors result =
+    ShowsMove (move_to choice m.config m) run.sink line_errors result × IsUntouched run.source
+MovesTo (Some path) choice m run line_errors result =
+    MovesToRead choice m run line_errors result
 
-pub record ShowsMigration (call : ShownCall) (run : CommandRun) (complaints : DeviceRun)
+pub record ShowsMigration (call : ShownCall) (run : CommandRun) (line_errors : DeviceRun)
     (result : Result ℕ Exit) : Type 0 where
   pub choice : Choice
   pub is_choice : SaysChoice (shown_said call RecordsOnly) choice
-  pub moves : MovesTo (shown_said call To) choice call.meaning run complaints result
+  pub moves : MovesTo (shown_said call To) choice call.meaning run line_errors result
 
 -- ---- `reseed`
 
 abbrev pub allowed_said : CommandName → List (Option (List ℕ)) → Option (List ℕ)
 allowed_said name texts = option_said name texts Allow
 
--- The domain that the words allow is not a name.
+-- The domain that the arguments allow is not a name.
 abbrev pub EndsAtAllowed : CommandName → List (Option (List ℕ)) → Exit → Type 0
 EndsAtAllowed name texts exit = EndsAtName RefusesDomain Allow name texts exit
 
@@ -247,7 +235,7 @@ stay_line Raised staying held = (codes "receipts that stay: " ++ decimal staying
 -- what is written on each of two devices, and the exit status
 pub record TwoTexts : Type 0 where
   pub output : List ℕ
-  pub beside : List ℕ
+  pub with_it : List ℕ
   pub status : ℕ
 
 -- The new configuration, and next to it how many of the receipts fit it; or nothing, and next to
@@ -255,12 +243,12 @@ pub record TwoTexts : Type 0 where
 abbrev pub reseed_texts : FloorChoice → (held : ℕ) → Reseeded → TwoTexts
 reseed_texts floors held (Seeded new) = record {
   output = new.text.items;
-  beside = stay_line floors new.staying held;
+  with_it = stay_line floors new.staying held;
   status = 0;
 }
 reseed_texts floors held (Refusals lines) = record {
   output = [];
-  beside = lines.items;
+  with_it = lines.items;
   status = 1;
 }
 
@@ -275,69 +263,69 @@ PrintsWhole text status device (Err _) = ⊥
 -- By the answer: all of both texts was written, and this is the exit status; the first device
 -- failed, and the second was left; or the first text was written, and the second device failed.
 -- There is no other end.
-abbrev pub PrintsBoth : TwoTexts → (sink complaints : DeviceRun) → Result ℕ Exit → Type 0
-PrintsBoth texts sink complaints (Ok ended) = PrintsWhole texts.output 0 sink (Ok 0)
-    × PrintsWhole texts.beside texts.status complaints (Ok ended)
-PrintsBoth texts sink complaints (Err (Refused Io)) =
-    (CutsOff sink texts.output × IsUntouched complaints)
-    ⊎ (PrintsWhole texts.output 0 sink (Ok 0) × CutsOff complaints texts.beside)
-PrintsBoth texts sink complaints (Err _) = ⊥
+abbrev pub PrintsBoth : TwoTexts → (sink line_errors : DeviceRun) → Result ℕ Exit → Type 0
+PrintsBoth texts sink line_errors (Ok ended) = PrintsWhole texts.output 0 sink (Ok 0)
+    × PrintsWhole texts.with_it texts.status line_errors (Ok ended)
+PrintsBoth texts sink line_errors (Err (Refused Io)) =
+    (CutsOff sink texts.output × IsUntouched line_errors)
+    ⊎ (PrintsWhole texts.output 0 sink (Ok 0) × CutsOff line_errors texts.with_it)
+PrintsBoth texts sink line_errors (Err _) = ⊥
 
--- What comes of a start anew was printed.
-pub record PrintsReseed (m : Meaning) (choice : ReseedChoice) (sink complaints : DeviceRun)
+-- The result of a new start was printed.
+pub record PrintsReseed (m : Meaning) (choice : ReseedChoice) (sink line_errors : DeviceRun)
     (result : Result ℕ Exit) : Type 0 where
   pub outcome : Reseeded
   pub reseeds : Reseeds m choice.allowed choice.floors outcome
-  pub prints : PrintsBoth (reseed_texts choice.floors (length m.held) outcome) sink complaints
+  pub prints : PrintsBoth (reseed_texts choice.floors (length m.held) outcome) sink line_errors
       result
 
 -- Memory ran out before anything was written.
-pub record LacksReseed (sink complaints : DeviceRun) (result : Result ℕ Exit) : Type 0 where
+pub record LacksReseed (sink line_errors : DeviceRun) (result : Result ℕ Exit) : Type 0 where
   pub is : result ≡ Err (Refused NoMemory)
   pub unwritten : IsUntouched sink
-  pub silent : IsUntouched complaints
+  pub silent : IsUntouched line_errors
 
-abbrev pub ReseedsInto : Meaning → ReseedChoice → (sink complaints : DeviceRun)
+abbrev pub ReseedsInto : Meaning → ReseedChoice → (sink line_errors : DeviceRun)
     → Result ℕ Exit → Type 0
-ReseedsInto m choice sink complaints result = LacksReseed sink complaints result
-    ⊎ PrintsReseed m choice sink complaints result
+ReseedsInto m choice sink line_errors result = LacksReseed sink line_errors result
+    ⊎ PrintsReseed m choice sink line_errors result
 
--- with the floors that the words say
+-- with the floors that the arguments say
 pub record ReseedsFloored (call : ShownCall) (allowed : Option (List ℕ))
-    (sink complaints : DeviceRun) (result : Result ℕ Exit) : Type 0 where
+    (sink line_errors : DeviceRun) (result : Result ℕ Exit) : Type 0 where
   pub floors : FloorChoice
   pub is_floors : SaysFloorChoice (shown_said call Floors) floors
   pub reseeds : ReseedsInto call.meaning (record { allowed = allowed; floors = floors }) sink
-      complaints result
+      line_errors result
 
--- in spite of what stands against the domain that the words allow, if they allow one
-pub record ReseedsSaid (call : ShownCall) (sink complaints : DeviceRun)
+-- in spite of what is against the domain that the arguments allow, if they allow one
+pub record ReseedsSaid (call : ShownCall) (sink line_errors : DeviceRun)
     (result : Result ℕ Exit) : Type 0 where
   pub allowed : Option (List ℕ)
   pub is_allowed : SaysChosen (allowed_said call.name call.texts) allowed
-  pub reseeds : ReseedsFloored call allowed sink complaints result
+  pub reseeds : ReseedsFloored call allowed sink line_errors result
 
-abbrev pub ShowsReseed : ShownCall → (sink complaints : DeviceRun) → Result ℕ Exit → Type 0
-ShowsReseed call sink complaints result =
-    (RefusesUnwritten (EndsAtAllowed call.name call.texts) sink result × IsUntouched complaints)
-    ⊎ ReseedsSaid call sink complaints result
+abbrev pub ShowsReseed : ShownCall → (sink line_errors : DeviceRun) → Result ℕ Exit → Type 0
+ShowsReseed call sink line_errors result =
+    (RefusesUnwritten (EndsAtAllowed call.name call.texts) sink result × IsUntouched line_errors)
+    ⊎ ReseedsSaid call sink line_errors result
 
 -- ---- each command
 
--- Only `migrate` and `reseed` complain of anything beside how they end.
+-- Only `migrate` and `reseed` write on `line_errors`.
 abbrev pub ShowsNamed : CommandName → ShownCall → CommandRun → DeviceRun → Result ℕ Exit → Type 0
-ShowsNamed command.Config call run complaints result =
+ShowsNamed command.Config call run line_errors result =
     ShowsConfig (config_call call.name call.texts call.meaning.config) run result
-    × IsUntouched complaints
-ShowsNamed command.Diff call run complaints result =
-    ShowsDifference call run result × IsUntouched complaints
-ShowsNamed command.Migrate call run complaints result =
-    ShowsMigration call run complaints result
-ShowsNamed command.Reseed call run complaints result =
-    ShowsReseed call run.sink complaints result × IsUntouched run.source
-ShowsNamed name call run complaints result = ShowsBy name call run result
-    × IsUntouched complaints
+    × IsUntouched line_errors
+ShowsNamed command.Diff call run line_errors result =
+    ShowsDifference call run result × IsUntouched line_errors
+ShowsNamed command.Migrate call run line_errors result =
+    ShowsMigration call run line_errors result
+ShowsNamed command.Reseed call run line_errors result =
+    ShowsReseed call run.sink line_errors result × IsUntouched run.source
+ShowsNamed name call run line_errors result = ShowsBy name call run result
+    × IsUntouched line_errors
 
 -- What a command does that shows what is held.
 abbrev pub RunsShown : ShownCall → CommandRun → DeviceRun → Result ℕ Exit → Type 0
-RunsShown call run complaints result = ShowsNamed call.name call run complaints result
+RunsShown call run line_errors result = ShowsNamed call.name call run line_errors result

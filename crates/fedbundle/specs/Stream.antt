@@ -1,4 +1,4 @@
--- What the lines of a stream come to under a configuration: the receipts that are taken, and what
+-- What the lines of a stream result in under a configuration: the receipts that are taken, and what
 -- is reported of the others.
 use Rattle.std.specs.Prelude.{◌≡◌, ℕ, ◌+◌, ◌<◌, ◌≤◌, ◌⊎◌, ◌++◌, List, length, codes, decimal}
 use Rattle.std.specs.Prelude.{Contains, Some, slice_get}
@@ -13,10 +13,10 @@ use Rattle.receipt_core.specs.Receipt.{Receipt, IsReceipt, line, receipt_cmp}
 use Rattle.closure_core.specs.Refusals.{IsOfUnknownDomain, IsOfWrongEndpoint, IsBelowFloor}
 use Rattle.receipt_core.specs.Limits.{receipt_limit}
 use Rattle.byte_lines.specs.Limits.{line_limit}
-use Rattle.fedbundle.specs.declared.complaint.LineFault.{LineFault}
-use Rattle.fedbundle.specs.declared.complaint.LineFault.TheVariants.{NotCanonical, TooLong}
-use Rattle.fedbundle.specs.declared.complaint.LineFault.TheVariants.{UnknownDomain, WrongEndpoint}
-use Rattle.fedbundle.specs.declared.complaint.LineFault.TheVariants.{BelowFloor, Cut}
+use Rattle.fedbundle.specs.declared.line_fault.LineFault.{LineFault}
+use Rattle.fedbundle.specs.declared.line_fault.LineFault.TheVariants.{NotCanonical, TooLong}
+use Rattle.fedbundle.specs.declared.line_fault.LineFault.TheVariants.{UnknownDomain, WrongEndpoint}
+use Rattle.fedbundle.specs.declared.line_fault.LineFault.TheVariants.{BelowFloor, Cut}
 
 -- ---- what is taken
 
@@ -24,9 +24,9 @@ use Rattle.fedbundle.specs.declared.complaint.LineFault.TheVariants.{BelowFloor,
 pub record IsTaken (c : Configuration) (texts : List (List ℕ)) (r : Receipt) : Type 0 where
   pub is : IsReceipt r
   pub fits : IsFitting c r
-  pub stands : Contains texts (line r)
+  pub placed : Contains texts (line r)
 
--- all of them: a set, kept as the list that rises
+-- all of them: a set, kept as the sorted list
 pub record AreTaken (c : Configuration) (texts : List (List ℕ))
     (receipts : List Receipt) : Type 0 where
   pub rising : IsStrictlySortedBy receipt_cmp receipts
@@ -51,44 +51,44 @@ IsRefusedLine c text WrongEndpoint = (r : Receipt) × IsLine text r × IsOfWrong
 IsRefusedLine c text BelowFloor = (r : Receipt) × IsLine text r × IsBelowFloor c r
 IsRefusedLine c text _ = ⊥
 
-pub record Complaint : Type 0 where
+pub record NumberedError : Type 0 where
   pub number : ℕ
   pub why : LineFault
 
 -- The line of this number, counted from 1, is refused for this cause.
-pub record IsOfLine (c : Configuration) (texts : List (List ℕ)) (x : Complaint) : Type 0 where
+pub record IsOfLine (c : Configuration) (texts : List (List ℕ)) (x : NumberedError) : Type 0 where
   pub place : ℕ
   pub number : x.number ≡ place + 1
   pub text : List ℕ
-  pub stands : slice_get texts place ≡ Some text
+  pub placed : slice_get texts place ≡ Some text
   pub refused : IsRefusedLine c text x.why
 
 -- The lines are followed by bytes that no line feed ends, whatever they are.
-pub record IsOfRest (lines : Lines) (x : Complaint) : Type 0 where
+pub record IsOfRest (lines : Lines) (x : NumberedError) : Type 0 where
   pub number : x.number ≡ length lines.whole + 1
   pub why : x.why ≡ Cut
   pub more : 0 < length lines.rest
 
-abbrev pub IsComplaint : Configuration → Lines → Complaint → Type 0
-IsComplaint c lines x = IsOfLine c lines.whole x ⊎ IsOfRest lines x
+abbrev pub IsNumberedError : Configuration → Lines → NumberedError → Type 0
+IsNumberedError c lines x = IsOfLine c lines.whole x ⊎ IsOfRest lines x
 
-abbrev pub complaint_cmp : Complaint → Complaint → Ordering
-complaint_cmp x y = nat_cmp x.number y.number
+abbrev pub line_error_cmp : NumberedError → NumberedError → Ordering
+line_error_cmp x y = nat_cmp x.number y.number
 
--- all complaints of the lines and their rest, in order
-pub record AreComplaints (c : Configuration) (lines : Lines)
-    (complaints : List Complaint) : Type 0 where
-  pub rising : IsStrictlySortedBy complaint_cmp complaints
-  pub sound : (x : Complaint) → Contains complaints x → IsComplaint c lines x
-  pub complete : (x : Complaint) → IsComplaint c lines x → Contains complaints x
+-- all line errors of the lines and their rest, in order
+pub record AreLineErrors (c : Configuration) (lines : Lines)
+    (line_errors : List NumberedError) : Type 0 where
+  pub rising : IsStrictlySortedBy line_error_cmp line_errors
+  pub sound : (x : NumberedError) → Contains line_errors x → IsNumberedError c lines x
+  pub complete : (x : NumberedError) → IsNumberedError c lines x → Contains line_errors x
 
 -- the first of them, perhaps none and perhaps all
-pub record AreFirstComplaints (c : Configuration) (lines : Lines)
-    (complaints : List Complaint) : Type 0 where
-  pub rising : IsStrictlySortedBy complaint_cmp complaints
-  pub sound : (x : Complaint) → Contains complaints x → IsComplaint c lines x
-  pub before : (x y : Complaint) → Contains complaints x → IsComplaint c lines y
-      → y.number < x.number → Contains complaints y
+pub record AreFirstLineErrors (c : Configuration) (lines : Lines)
+    (line_errors : List NumberedError) : Type 0 where
+  pub rising : IsStrictlySortedBy line_error_cmp line_errors
+  pub sound : (x : NumberedError) → Contains line_errors x → IsNumberedError c lines x
+  pub before : (x y : NumberedError) → Contains line_errors x → IsNumberedError c lines y
+      → y.number < x.number → Contains line_errors y
 
 abbrev pub why_text : LineFault → List ℕ
 why_text NotCanonical = codes ": not canonical\n"
@@ -98,6 +98,6 @@ why_text WrongEndpoint = codes ": wrong endpoint\n"
 why_text BelowFloor = codes ": below floor\n"
 why_text Cut = codes ": cut\n"
 
--- a complaint's line, as `line 2: not canonical`
-abbrev pub complaint_text : Complaint → List ℕ
-complaint_text x = codes "line " ++ (decimal x.number ++ why_text x.why)
+-- a line error's text, as `line 2: not canonical`
+abbrev pub line_error_text : NumberedError → List ℕ
+line_error_text x = codes "line " ++ (decimal x.number ++ why_text x.why)

@@ -2,26 +2,26 @@
 ghost use Rattle.std.specs.Prelude.{◌≡◌, true, IfOk, OnOk, IsErr};
 ghost use Rattle.std.specs.Io.KnownBytes.{Appends};
 ghost use Rattle.byte_lines.specs.Device.{AppendsBeginning};
-ghost use Rattle.fedbundle.specs.CommandRun.{device_run};
+ghost use Rattle.command_exits.specs.DeviceRuns.{device_run};
 ghost use Rattle.fedbundle.specs.CurrentBundle.{RunsBundle, RunsBundlePem, bundle_text};
 ghost use Rattle.pem_text.specs.Pem.{certificates_pem};
 
-use crate::error::CommandError;
 use crate::two_parts::write_both;
 use bundle_doc::Document;
 use bundle_view::current;
 use byte_lines::{Fault, Sink, write_all};
 use closure_core::Closure;
+use command_exits::CommandError;
 use pem_text::push_certificates;
 use spiffe_name::TrustDomain;
 use std::alloc::{AllocError, Global};
 
 /// Writes the canonical text of the domain's current document as a line, and returns whether there
-/// is one. Where there is none, as for a domain that the configuration does not have, nothing is
-/// written. It takes no memory.
+/// is one. Without one, as for a domain that the configuration does not have, nothing is written.
+/// It takes no memory.
 ///
 /// # Errors
-/// `Io` where the sink failed, which then holds a beginning of the line.
+/// `Io` if the sink failed, which then holds a beginning of the line.
 pub fn run_bundle<C: Closure, W: Sink>(
     closure: &C,
     domain: &TrustDomain,
@@ -44,8 +44,8 @@ pub fn run_bundle<C: Closure, W: Sink>(
 /// authority writes nothing. All memory is taken before the first byte is written.
 ///
 /// # Errors
-/// `NoMemory` where memory ran out, and nothing was written. `Io` where the sink failed, which then
-/// holds a beginning of the text.
+/// `NoMemory` if memory ran out, and nothing was written. `Io` if the sink failed, which then holds
+/// a beginning of the text.
 pub fn run_bundle_pem<C: Closure, W: Sink>(
     alloc: Global,
     closure: &C,

@@ -2,15 +2,16 @@
 ghost use Rattle.std.specs.Prelude.{◌≡◌, ◌++◌, IfOk, IsErrOf, OnOk};
 ghost use Rattle.fedbundle.specs.Canon.{RunsCanon, RunsCanonOn, canon_call, canon_in, canon_text};
 ghost use Rattle.fedbundle.specs.Canon.{digest_line, key_line, key_lines};
-ghost use Rattle.fedbundle.specs.CommandRun.{device_run, run_of};
-ghost use Rattle.fedbundle.specs.declared.error.CommandError.TheVariants.{Io};
+ghost use Rattle.fedbundle.specs.CommandRun.{run_of};
+ghost use Rattle.command_exits.specs.DeviceRuns.{device_run};
+ghost use Rattle.command_exits.specs.declared.error.CommandError.TheVariants.{Io};
 ghost use Rattle.bundle_doc.specs.Bundle.{canonical_text};
 ghost use Rattle.jwk_set.specs.Element.{key_id_of};
 
-use crate::error::CommandError;
 use crate::two_parts::write_both;
 use bundle_doc::{Document, MAX_DOCUMENT_BYTES};
 use byte_lines::{Sink, Source, push_digits, read_up_to};
+use command_exits::CommandError;
 use command_line::OutputForm;
 use json_reports::document_json;
 use jwk_set::Authority;
@@ -25,9 +26,9 @@ use std::alloc::{AllocError, Global};
 /// text is made.
 ///
 /// # Errors
-/// `Document` where the bytes are no document, `NoMemory` where memory ran out: then nothing was
-/// written. `Io` where the source failed, and nothing was written, or where the sink failed, which
-/// then holds a beginning of the text.
+/// `Document` if the bytes are not a document, `NoMemory` if memory ran out: then nothing was
+/// written. `Io` if the source failed, and nothing was written, or if the sink failed, which then
+/// holds a beginning of the text.
 pub fn run_canon<R: Source, W: Sink>(
     alloc: Global,
     domain: &TrustDomain,
@@ -40,7 +41,7 @@ pub fn run_canon<R: Source, W: Sink>(
         (device_run W.contents W.has_failed sink.old sink.new))
         domain.now form result }
 
-    // No fault of a device is passed over, or reported as another error.
+    // No error of a device is passed over, or reported as another one.
     ensures sound { (IsErrOf result Io → ⊥) → (R.has_failed source.new ≡ R.has_failed source.old)
         × (W.has_failed sink.new ≡ W.has_failed sink.old) }
 {
@@ -51,8 +52,8 @@ pub fn run_canon<R: Source, W: Sink>(
 /// Writes what [`run_canon`] writes, of bytes that were read already.
 ///
 /// # Errors
-/// `Document` where the bytes are no document, `NoMemory` where memory ran out: then nothing was
-/// written. `Io` where the sink failed, which then holds a beginning of the text.
+/// `Document` if the bytes are not a document, `NoMemory` if memory ran out: then nothing was
+/// written. `Io` if the sink failed, which then holds a beginning of the text.
 pub fn run_canon_bytes<W: Sink>(
     alloc: Global,
     domain: &TrustDomain,
@@ -63,7 +64,7 @@ pub fn run_canon_bytes<W: Sink>(
     ensures runs { RunsCanonOn bytes.now (device_run W.contents W.has_failed sink.old sink.new)
         (canon_call domain.now form) result }
 
-    // A fault of the sink is not passed over, or reported as another error.
+    // An error of the sink is not passed over, or reported as another one.
     ensures sound { (IsErrOf result Io → ⊥) → (W.has_failed sink.new ≡ W.has_failed sink.old) }
 {
     let document = Document::read(alloc, bytes)?;

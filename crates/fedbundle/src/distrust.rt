@@ -1,23 +1,23 @@
 //! `distrust`: a key that vouches for nothing any more, and what that changes.
 ghost use Rattle.std.specs.Prelude.{◌≡◌, IfOk, IsErrOf};
-ghost use Rattle.fedbundle.specs.CommandRun.{device_run};
+ghost use Rattle.command_exits.specs.DeviceRuns.{device_run};
 ghost use Rattle.fedbundle.specs.Distrust.{RunsDistrust, ShowsDistrust};
-ghost use Rattle.fedbundle.specs.declared.error.CommandError.TheVariants.{Io};
+ghost use Rattle.command_exits.specs.declared.error.CommandError.TheVariants.{Io};
 
-use crate::error::CommandError;
 use byte_lines::Sink;
 use closure_core::{Closure, Distrusted};
+use command_exits::CommandError;
 use distrust_view::write_distrust_effect;
 use jwk_set::KeyId;
 use receipt_core::Distrust;
 use spiffe_name::TrustDomain;
 use std::alloc::{AllocError, Global};
 
-/// Distrusts the key in the domain, where it may have been distrusted before. It takes no memory.
+/// Distrusts the key in the domain, also if it was distrusted before. It takes no memory.
 ///
 /// # Errors
-/// `Take` with `UnknownDomain` where the domain is none of the configuration, or with `Full` where
-/// the record is not held and 4,096 are: then what is held is as it was.
+/// `Take` with `UnknownDomain` if the configuration does not have the domain, or with `Full` if the
+/// record is not held and 4,096 are: then what is held is as it was.
 pub fn run_distrust<C: Closure>(
     closure: &mut C,
     domain: &TrustDomain,
@@ -37,8 +37,8 @@ pub fn run_distrust<C: Closure>(
 /// [`write_distrust_effect`] says which lines there are.
 ///
 /// # Errors
-/// `Take` as [`run_distrust`] has it, or `NoMemory` where memory ran out: then nothing was written.
-/// `Io` where the sink failed: it holds a beginning of the text.
+/// `Take` as [`run_distrust`] has it, or `NoMemory` if memory ran out: then nothing was written.
+/// `Io` if the sink failed: it holds a beginning of the text.
 pub fn show_distrust<C: Closure, W: Sink>(
     alloc: Global,
     closure: &C,
@@ -48,7 +48,7 @@ pub fn show_distrust<C: Closure, W: Sink>(
     ensures shows { ShowsDistrust (C.state closure.now).meaning given.now
         (device_run W.contents W.has_failed sink.old sink.new) result }
 
-    // Where no fault of the sink is reported, none was passed over.
+    // If no error of the sink is reported, none was passed over.
     ensures sink_sound { (IsErrOf result Io → ⊥) → W.has_failed sink.new ≡ W.has_failed sink.old }
 {
     let mut after = copy_of(alloc, closure)?;

@@ -1,26 +1,27 @@
 //! `explain`: the receipts by which a document is accepted.
-ghost use Rattle.fedbundle.specs.CommandRun.{device_run, run_of};
+ghost use Rattle.fedbundle.specs.CommandRun.{run_of};
+ghost use Rattle.command_exits.specs.DeviceRuns.{device_run};
 ghost use Rattle.fedbundle.specs.Explain.{RunsExplain, explanation_call};
 
 use crate::chain_text::explanation_text;
-use crate::error::CommandError;
 use bundle_doc::{Document, MAX_DOCUMENT_BYTES};
 use bundle_view::explain;
 use byte_lines::{Sink, Source, read_up_to, write_all};
 use closure_core::Closure;
+use command_exits::CommandError;
 use command_line::ExplanationForm;
 use spiffe_name::TrustDomain;
 use std::alloc::Global;
 
 /// Reads a bundle document and writes why it is accepted as one of the domain: a shortest chain of
-/// receipts from a configured document to it, in this form. Returns whether it is accepted; where
-/// it is not, nothing is written. It reads at most one byte more than a document may have, and
-/// nothing is written before the whole text is made.
+/// receipts from a configured document to it, in this form. Returns whether it is accepted; if it
+/// is not, nothing is written. It reads at most one byte more than a document may have, and nothing
+/// is written before the whole text is made.
 ///
 /// # Errors
-/// `Document` where the bytes are no document, `NoMemory` where memory ran out: then nothing was
-/// written. `Io` where the source failed, and nothing was written, or where the sink failed, which
-/// then holds a beginning of the text.
+/// `Document` if the bytes are not a document, `NoMemory` if memory ran out: then nothing was
+/// written. `Io` if the source failed, and nothing was written, or if the sink failed, which then
+/// holds a beginning of the text.
 pub fn run_explain<C: Closure, R: Source, W: Sink>(
     alloc: Global,
     closure: &C,

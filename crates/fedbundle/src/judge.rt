@@ -9,38 +9,39 @@ ghost use Rattle.byte_lines.specs.Lines.{lines_of};
 ghost use Rattle.receipt_core.specs.Line.{IsLine};
 ghost use Rattle.fedbundle.specs.Inside.Judging.{JudgesText, FailsText, TriesText, HasJudged};
 ghost use Rattle.fedbundle.specs.Inside.Judging.{StopsJudging};
-ghost use Rattle.fedbundle.specs.declared.run_error.RunError.TheVariants.{Io};
+ghost use Rattle.command_exits.specs.declared.run_error.RunError.TheVariants.{Io};
 
-use crate::complaint::{LineFault, complain};
-use crate::run_error::RunError;
+use crate::line_fault::{LineFault, write_line_error};
 use byte_lines::{Line, LineBuf, Sink, Source};
 use closure_core::{Closure, TakeError};
+use command_exits::RunError;
 use receipt_core::{KnownParts, LineError, Receipt};
 use std::alloc::Global;
 
-/// Takes every receipt that fits, and complains of each other line and of a rest that no line feed
-/// ends. Returns the number of complaints.
+/// Takes every receipt that fits, and reports each other line, and a rest that no line feed ends.
+/// Returns the number of errors.
 pub(crate) fn take_lines<C: Closure, R: Source, E: Sink>(
     alloc: Global,
     closure: &mut C,
     source: &mut R,
-    complaints: &mut E,
+    line_errors: &mut E,
 ) -> Result<u64, RunError>
     requires config { IsConfiguration (C.state closure.old).meaning.config }
     requires receipts { (C.state closure.old).meaning.held ≡ [] }
     requires records { (C.state closure.old).meaning.records ≡ [] }
     ensures ok { IfOk result (λ n. IfSome (R.remaining source.old) (λ bytes.
         HasJudged (C.state closure.old).meaning.config (lines_of bytes)
-        (C.state closure.new).meaning (E.contents complaints.old) (E.contents complaints.new) n)) }
+        (C.state closure.new).meaning (E.contents line_errors.old)
+        (E.contents line_errors.new) n)) }
     ensures read { OnOk result (IsAtEnd (R.remaining source.new)) }
     ensures stops { IfErr result (λ e. IfSome (R.remaining source.old) (λ bytes.
         StopsJudging (C.state closure.old).meaning.config (lines_of bytes)
-        (E.contents complaints.old) (E.contents complaints.new) e)) }
+        (E.contents line_errors.old) (E.contents line_errors.new) e)) }
     ensures io { IsErrOf result Io
-        → (R.has_failed source.new ≡ true) ⊎ (E.has_failed complaints.new ≡ true) }
+        → (R.has_failed source.new ≡ true) ⊎ (E.has_failed line_errors.new ≡ true) }
     ensures sound { (IsErrOf result Io → ⊥)
         → (R.has_failed source.new ≡ R.has_failed source.old)
-        × (E.has_failed complaints.new ≡ E.has_failed complaints.old) }
+        × (E.has_failed line_errors.new ≡ E.has_failed line_errors.old) }
 {
     let mut lines = LineBuf::new(alloc);
     let mut known = KnownParts::new(alloc);
@@ -50,15 +51,15 @@ pub(crate) fn take_lines<C: Closure, R: Source, E: Sink>(
         match lines.next_line(source)? {
             Line::Text(text) => {
                 number += 1;
-                count += take_text(alloc, closure, &mut known, complaints, number, text)?;
+                count += take_text(alloc, closure, &mut known, line_errors, number, text)?;
             }
             Line::TooLong => {
                 number += 1;
-                complain(complaints, number, LineFault::TooLong)?;
+                write_line_error(line_errors, number, LineFault::TooLong)?;
                 count += 1;
             }
             Line::Cut => {
-                complain(complaints, number + 1, LineFault::Cut)?;
+                write_line_error(line_errors, number + 1, LineFault::Cut)?;
                 return Ok(count + 1);
             }
             Line::End => return Ok(count),
@@ -66,24 +67,24 @@ pub(crate) fn take_lines<C: Closure, R: Source, E: Sink>(
     }
 }
 
-/// Takes the receipt of a line, or complains of the line. Returns the number of complaints.
+/// Takes the receipt of a line, or reports the line. Returns the number of errors.
 fn take_text<C: Closure, E: Sink>(
     alloc: Global,
     closure: &mut C,
     known: &mut KnownParts,
-    complaints: &mut E,
+    line_errors: &mut E,
     number: u64,
     text: &[u8],
 ) -> Result<u64, RunError>
     ensures tries { TriesText (C.state closure.old) text.now number (C.state closure.new)
-        (E.contents complaints.old) (E.contents complaints.new) (E.has_failed complaints.new)
+        (E.contents line_errors.old) (E.contents line_errors.new) (E.has_failed line_errors.new)
         result }
     ensures sound { (IsErrOf result Io → ⊥)
-        → E.has_failed complaints.new ≡ E.has_failed complaints.old }
+        → E.has_failed line_errors.new ≡ E.has_failed line_errors.old }
 {
     match judge(alloc, closure, known, text)? {
         Some(why) => {
-            complain(complaints, number, why)?;
+            write_line_error(line_errors, number, why)?;
             Ok(1)
         }
         None => Ok(0),

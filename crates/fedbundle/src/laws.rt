@@ -11,8 +11,8 @@ ghost use Rattle.replica_core.specs.World.{WorldRun, rules_in, world_after, held
 ghost use Rattle.replica_core.specs.World.{followed_by};
 ghost use Rattle.replica_core.specs.Convergence.{AreEvents, Settles};
 ghost use Rattle.replica_core.specs.declared.event.Event.{Event};
-ghost use Rattle.fedbundle.specs.Stream.{IsTaken, AreTaken, OverfillStore, Complaint};
-ghost use Rattle.fedbundle.specs.Stream.{AreComplaints, AreFirstComplaints};
+ghost use Rattle.fedbundle.specs.Stream.{IsTaken, AreTaken, OverfillStore, NumberedError};
+ghost use Rattle.fedbundle.specs.Stream.{AreLineErrors, AreFirstLineErrors};
 ghost use Rattle.receipt_core.specs.Limits.{receipt_limit};
 ghost use Rattle.fedbundle.specs.Report.{meaning_of_receipts};
 ghost use Rattle.fedbundle.specs.SameSets.{HaveOneSnapshot, HoldSameSets};
@@ -55,16 +55,16 @@ pub fn settled_reports()
     bundle_view::laws::one_view();
 }
 
-/// A stream has one list of complaints, and the first of them are a beginning of it.
-pub fn one_telling()
-    ensures all { (c : Configuration) (lines : Lines) (xs ys : List Complaint)
-        → AreComplaints c lines xs → AreComplaints c lines ys → xs ≡ ys }
-    ensures first { (c : Configuration) (lines : Lines) (xs ys : List Complaint)
-        → AreFirstComplaints c lines xs → AreComplaints c lines ys
-        → (rest : List Complaint) × (ys ≡ xs ++ rest) }
+/// A stream has one list of errors, and the first of them are a beginning of it.
+pub fn one_reporting()
+    ensures all { (c : Configuration) (lines : Lines) (xs ys : List NumberedError)
+        → AreLineErrors c lines xs → AreLineErrors c lines ys → xs ≡ ys }
+    ensures first { (c : Configuration) (lines : Lines) (xs ys : List NumberedError)
+        → AreFirstLineErrors c lines xs → AreLineErrors c lines ys
+        → (rest : List NumberedError) × (ys ≡ xs ++ rest) }
 {}
 
-/// Where there are too many receipts, no closure can hold those that are taken.
+/// If there are too many receipts, no closure can hold those that are taken.
 pub fn too_many()
     ensures { (c : Configuration) (texts : List (List ℕ)) (rs : List Receipt)
         → OverfillStore c texts → AreTaken c texts rs → receipt_limit < length rs }

@@ -1,22 +1,17 @@
 //! The command's functions, each over sources and sinks: the program hands them its standard
-//! streams. Beside them is why a command ends. `shown` calls those that show what is held, by what
-//! the words say.
+//! streams. `shown` calls those that show what is held, by what the arguments say. Why a command
+//! ends is in `command_exits`.
 #![tactic(auto)]
 
 mod bundle;
 mod canon;
 mod chain_text;
-mod complaint;
-mod config_source;
 mod counts;
 mod distrust;
-mod error;
-mod exits;
 mod explain;
-mod fault;
-mod file_fault;
 mod judge;
 pub mod laws;
+mod line_fault;
 mod merge;
 mod migrate;
 mod observe;
@@ -24,7 +19,6 @@ mod option_values;
 mod polls;
 mod pull;
 mod report;
-mod run_error;
 mod said_values;
 mod serve;
 mod shown;
@@ -37,20 +31,19 @@ mod two_parts;
 
 pub use bundle::{run_bundle, run_bundle_pem};
 pub use canon::{run_canon, run_canon_bytes};
+pub use command_exits::{
+    CommandError, Exit, FileFault, RunError, Step, SystemFault, exit_status, read_config, status,
+    write_exit, write_fault,
+};
 pub use command_line::{
     BundleFormat, Call, CommandName, ExplanationForm, Manner, OptionError, OptionName, OutputForm,
     WordsError, command_of, given, is_flag_given, manner_of, number_given, read_bundle_format,
     read_explanation_form, read_key, read_output_form, read_request, read_sessions, read_words,
     wanted,
 };
-pub use config_source::read_config;
 pub use counts::write_counted;
 pub use distrust::{run_distrust, show_distrust};
-pub use error::{CommandError, status};
-pub use exits::{Exit, Step, SystemFault, exit_status, write_exit};
 pub use explain::run_explain;
-pub use fault::write_fault;
-pub use file_fault::FileFault;
 pub use merge::{run_merge, take_other};
 pub use migrate::run_migrate;
 pub use observe::{Observed, prepare_observe, run_observe};
@@ -58,7 +51,6 @@ pub use option_values::{read_moment, read_status_format};
 pub use polls::run_polls_in;
 pub use pull::run_pull;
 pub use report::{run_report, run_report_into, run_report_with};
-pub use run_error::RunError;
 pub use said_values::{read_domain, read_record, read_verdict};
 pub use serve::{run_serve, write_served};
 pub use shown::{Shown, run_shown};

@@ -1,14 +1,15 @@
-//! `observe`: a bundle as it was fetched, taken on the word of TLS.
+//! `observe`: a bundle as it was fetched, taken with what TLS said.
 ghost use Rattle.std.specs.Prelude.{◌≡◌, IfErr, IfOk};
-ghost use Rattle.fedbundle.specs.CommandRun.{device_run, run_of, state_run};
+ghost use Rattle.fedbundle.specs.CommandRun.{run_of, state_run};
+ghost use Rattle.command_exits.specs.DeviceRuns.{device_run};
 ghost use Rattle.fedbundle.specs.Explain.{receipt_line};
 ghost use Rattle.fedbundle.specs.Observe.{MakesReceipt, RefusesToMake, RunsObserve};
 
-use crate::error::CommandError;
 use bundle_doc::MAX_DOCUMENT_BYTES;
 use bundle_view::{Verdict, observed_receipt, take_observed};
 use byte_lines::{Sink, Source, read_up_to, write_all};
 use closure_core::Closure;
+use command_exits::CommandError;
 use receipt_core::Receipt;
 use spiffe_name::TrustDomain;
 use std::alloc::{AllocError, Global};
@@ -18,10 +19,10 @@ use std::alloc::{AllocError, Global};
 /// document may have.
 ///
 /// # Errors
-/// `Observe` where nothing is observed: then what is held is as it was, and nothing was written.
-/// `NoMemory` where memory ran out for the bytes or for the receipt's line: then nothing was
-/// observed or written. `Io` where the source failed, and nothing was observed or written, or where
-/// the sink failed: then the receipt is held, and a beginning of its line was written.
+/// `Observe` if nothing is observed: then what is held is as it was, and nothing was written.
+/// `NoMemory` if memory ran out for the bytes or for the receipt's line: then nothing was observed
+/// or written. `Io` if the source failed, and nothing was observed or written, or if the sink
+/// failed: then the receipt is held, and a beginning of its line was written.
 pub fn run_observe<C: Closure, R: Source, W: Sink>(
     alloc: Global,
     closure: &mut C,
@@ -50,7 +51,7 @@ pub struct Observed {
     pub line: Vec<u8>,
 }
 
-/// The first half of [`run_observe`], which takes all its memory but for the receipt's place in
+/// The first half of [`run_observe`], which takes all its memory except for the receipt's place in
 /// what is held. Nothing is taken or written.
 ///
 /// # Errors

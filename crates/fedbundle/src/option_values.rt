@@ -1,19 +1,19 @@
-//! The texts of options that are values of the crates below, read: a moment, and how `status` is
+//! The texts of options that are values of the crates below, read: a time, and how `status` is
 //! written.
 ghost use Rattle.std.specs.Prelude.{◌≡◌, IfOk, IfErr, option_map};
 ghost use Rattle.fedbundle.specs.OptionValues.{SaysBadMoment, SaysMoment};
 ghost use Rattle.fedbundle.specs.OptionValues.{SaysNoStatusFormat, SaysStatusFormat};
-ghost use Rattle.fedbundle.specs.declared.exits.Exit.TheVariants.{BadMoment, Usage};
+ghost use Rattle.command_exits.specs.declared.exits.Exit.TheVariants.{BadMoment, Usage};
 
-use crate::exits::Exit;
+use command_exits::Exit;
 use jiff::Timestamp;
 use poll_log::read_seconds;
 use status_view::StatusFormat;
 
-/// The moment of this many Unix seconds.
+/// The time of this many Unix seconds.
 ///
 /// # Errors
-/// The text is no number, or no moment has it.
+/// The text is not a number, or no time has it.
 pub fn read_moment(text: &str) -> Result<Timestamp, Exit>
     ensures ok { IfOk result (λ moment. SaysMoment text.now moment.nanosecond) }
     ensures refused { IfErr result (λ exit. (exit ≡ BadMoment) × SaysBadMoment text.now) }
@@ -27,8 +27,7 @@ pub fn read_moment(text: &str) -> Result<Timestamp, Exit>
     }
 }
 
-/// The format of `status`: `text`, which is also meant where nothing is said, `json` or
-/// `prometheus`.
+/// The format of `status`: `text`, which is also meant if nothing is said, `json` or `prometheus`.
 ///
 /// # Errors
 /// The text is something else.

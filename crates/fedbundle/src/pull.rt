@@ -1,11 +1,12 @@
 //! `pull`: what another replica holds, asked for and taken, over any devices.
-ghost use Rattle.fedbundle.specs.CommandRun.{device_run, run_of, state_run};
+ghost use Rattle.fedbundle.specs.CommandRun.{run_of, state_run};
+ghost use Rattle.command_exits.specs.DeviceRuns.{device_run};
 ghost use Rattle.fedbundle.specs.Pull.{RunsPull};
 
 use crate::counts::write_counted;
-use crate::error::CommandError;
 use byte_lines::{Sink, Source};
 use closure_core::Closure;
+use command_exits::CommandError;
 use replica_sync::pull;
 use std::alloc::Global;
 
@@ -14,9 +15,9 @@ use std::alloc::Global;
 /// from the source.
 ///
 /// # Errors
-/// `Pull`, as [`pull`] reports it: what the answers before the fault have is held, and nothing was
-/// written to the sink. `Io` where the sink failed: then all is held, and a beginning of the line
-/// was written.
+/// `Pull`, as [`pull`] reports it: what the answers before the error have is held, and nothing was
+/// written to the sink. `Io` if the sink failed: then all is held, and a beginning of the line was
+/// written.
 pub fn run_pull<C: Closure, R: Source, P: Sink, W: Sink>(
     alloc: Global,
     closure: &mut C,

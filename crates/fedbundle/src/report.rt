@@ -3,16 +3,17 @@ ghost use Rattle.std.specs.Prelude.{◌≡◌, ◌||◌, [], true, Err, OnOk};
 ghost use Rattle.bundle_view.specs.Report.{is_report_fault};
 ghost use Rattle.bundle_view.specs.declared.error.ReportError.TheVariants.{Io, NoMemory};
 ghost use Rattle.command_line.specs.declared.option_texts.OutputForm.TheVariants.{Text};
-ghost use Rattle.fedbundle.specs.CommandRun.{device_run, run_of};
+ghost use Rattle.fedbundle.specs.CommandRun.{run_of};
+ghost use Rattle.command_exits.specs.DeviceRuns.{device_run};
 ghost use Rattle.fedbundle.specs.Report.{BeginsReportIn, RunsReport, WritesReportIn, report_asked};
 ghost use Rattle.json_reports.specs.ReportJson.{IsReportJson};
 ghost use Rattle.text_lines.specs.TextLines.{BeginsSome, WritesSome};
 
 use crate::judge::take_lines;
-use crate::run_error::RunError;
 use bundle_view::{ReportError, write_report};
 use byte_lines::{DeviceError, Sink, Source};
 use closure_core::Closure;
+use command_exits::RunError;
 use command_line::OutputForm;
 use fed_config::Config;
 use json_reports::write_report_json;
@@ -21,45 +22,45 @@ use trust_closure::IndexedClosure;
 
 /// Takes every receipt of the source's lines that fits the configuration, and then writes the
 /// report of what is accepted with these receipts and no record of distrust
-/// (`bundle_view::write_report`). Of each other line it reports on `complaints` by a line of its
-/// own, as `line 2: not canonical`, in order and as they come; lines are counted from 1. Returns
-/// how many it reported.
+/// (`bundle_view::write_report`). It reports each other line on `line_errors` by a line of its own,
+/// as `line 2: not canonical`, in order and as they come; lines are counted from 1. Returns how
+/// many it reported.
 ///
-/// | After the number | What stands in the stream |
+/// | After the number | What is in the stream |
 /// |---|---|
-/// | `not canonical` | a line of at most 8,388,608 bytes, without its line feed, that is no
-/// receipt's line |
+/// | `not canonical` | a line of at most 8,388,608 bytes, without its line feed, which is not
+/// a receipt's line |
 /// | `too long` | a longer line |
 /// | `unknown domain` | a receipt with whose domain the configuration has no relationship |
 /// | `wrong endpoint` | a receipt whose endpoint is another than that of the relationship |
 /// | `below floor` | a receipt whose document is below the floor of its domain |
 /// | `cut` | after the last line, bytes that no line feed ends, whatever they are |
 ///
-/// The report depends on the configuration and on the set of receipts that fit alone: neither on
-/// the order of the lines, nor on repeated ones, nor on where the pieces end in which the bytes
-/// come. A receipt that is repeated needs no place.
+/// The report depends only on the configuration and on the set of receipts that fit: neither on the
+/// order of the lines, nor on repeated ones, nor on the pieces in which the bytes come. A receipt
+/// that is repeated needs no place.
 ///
 /// # Errors
-/// After each the source may have been read in part, and `complaints` holds a beginning of what
+/// After each the source may have been read in part, and `line_errors` holds a beginning of what
 /// there was to report.
 /// - [`RunError::Full`]: more than 65,536 different receipts fit. Nothing was written on `sink`.
 /// - [`RunError::NoMemory`]: memory ran out. Nothing was written on `sink`.
-/// - [`RunError::Io`]: the source or `complaints` failed, and nothing was written on `sink`; or
+/// - [`RunError::Io`]: the source or `line_errors` failed, and nothing was written on `sink`; or
 ///   `sink` failed after a beginning of the report.
 pub fn run_report<R: Source, W: Sink, E: Sink>(
     alloc: Global,
     config: &Config,
     source: &mut R,
     sink: &mut W,
-    complaints: &mut E,
+    line_errors: &mut E,
 ) -> Result<u64, RunError>
     ensures { RunsReport
         (run_of (device_run R.remaining R.has_failed source.old source.new)
         (device_run W.contents W.has_failed sink.old sink.new))
-        (device_run E.contents E.has_failed complaints.old complaints.new)
+        (device_run E.contents E.has_failed line_errors.old line_errors.new)
         (report_asked Text config.now) result }
 {
-    run_report_with::<IndexedClosure, R, W, E>(alloc, config, source, sink, complaints)
+    run_report_with::<IndexedClosure, R, W, E>(alloc, config, source, sink, line_errors)
 }
 
 /// The same as [`run_report`], over a closure of the caller's choice.
@@ -71,12 +72,12 @@ pub fn run_report_with<C: Closure, R: Source, W: Sink, E: Sink>(
     config: &Config,
     source: &mut R,
     sink: &mut W,
-    complaints: &mut E,
+    line_errors: &mut E,
 ) -> Result<u64, RunError>
     ensures { RunsReport
         (run_of (device_run R.remaining R.has_failed source.old source.new)
         (device_run W.contents W.has_failed sink.old sink.new))
-        (device_run E.contents E.has_failed complaints.old complaints.new)
+        (device_run E.contents E.has_failed line_errors.old line_errors.new)
         (report_asked Text config.now) result }
 {
     let mut closure = C::new(alloc, config)?;
@@ -86,7 +87,7 @@ pub fn run_report_with<C: Closure, R: Source, W: Sink, E: Sink>(
         OutputForm::Text,
         source,
         sink,
-        complaints,
+        line_errors,
     )
 }
 
@@ -103,19 +104,19 @@ pub fn run_report_into<C: Closure, R: Source, W: Sink, E: Sink>(
     form: OutputForm,
     source: &mut R,
     sink: &mut W,
-    complaints: &mut E,
+    line_errors: &mut E,
 ) -> Result<u64, RunError>
     requires receipts { (C.state closure.old).meaning.held ≡ [] }
     requires records { (C.state closure.old).meaning.records ≡ [] }
     ensures { RunsReport
         (run_of (device_run R.remaining R.has_failed source.old source.new)
         (device_run W.contents W.has_failed sink.old sink.new))
-        (device_run E.contents E.has_failed complaints.old complaints.new)
+        (device_run E.contents E.has_failed line_errors.old line_errors.new)
         (report_asked form (C.state closure.old).meaning.config) result }
 {
     // The prover learns here that each domain has one relationship.
     let _domains = closure.config().domains();
-    let count = take_lines(alloc, closure, source, complaints)?;
+    let count = take_lines(alloc, closure, source, line_errors)?;
     report_to(alloc, closure, form, sink)?;
     Ok(count)
 }

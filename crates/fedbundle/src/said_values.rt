@@ -5,12 +5,11 @@ ghost use Rattle.spiffe_name.specs.TrustDomain.{IsDomainText, RefusesDomain};
 ghost use Rattle.spiffe_name.specs.declared.error.NameError.{NameError};
 ghost use Rattle.fedbundle.specs.SaidValues.{SaysNoRecord, SaysNoVerdict, SaysRecord, SaysVerdict};
 ghost use Rattle.fedbundle.specs.SaidValues.{texts_of_call};
-ghost use Rattle.fedbundle.specs.declared.error.CommandError.TheVariants.{Name};
-ghost use Rattle.fedbundle.specs.declared.exits.Exit.TheVariants.{Refused};
+ghost use Rattle.command_exits.specs.declared.error.CommandError.TheVariants.{Name};
+ghost use Rattle.command_exits.specs.declared.exits.Exit.TheVariants.{Refused};
 
-use crate::error::CommandError;
-use crate::exits::Exit;
 use bundle_view::Verdict;
+use command_exits::{CommandError, Exit};
 use command_line::{Call, OptionName, read_key, wanted};
 use receipt_core::Distrust;
 use spiffe_name::{SpiffeId, TrustDomain};
@@ -19,7 +18,7 @@ use std::alloc::Global;
 /// The trust domain of this name.
 ///
 /// # Errors
-/// `Name` where it is no name of a trust domain, or where memory ran out.
+/// `Name` if it is not the name of a trust domain, or if memory ran out.
 pub fn read_domain(alloc: Global, text: &str) -> Result<TrustDomain, Exit>
     ensures ok { IfOk result (λ domain. (domain ≡ text.now) × IsDomainText text.now) }
     ensures refused { IfErr result
@@ -46,8 +45,8 @@ fn read_endpoint(alloc: Global, text: &str) -> Result<SpiffeId, Exit>
 ///
 /// # Errors
 /// - [`Exit::Usage`]: one of them is missing,
-/// - [`Exit::Refused`] with `Name`: the endpoint is no SPIFFE ID, or memory ran out,
-/// - [`Exit::BadKey`]: the key is none.
+/// - [`Exit::Refused`] with `Name`: the endpoint is not a SPIFFE ID, or memory ran out,
+/// - [`Exit::BadKey`]: `--key` is not a key id.
 pub fn read_verdict(alloc: Global, call: &Call<'_>) -> Result<Verdict, Exit>
     ensures says { IfOk result (SaysVerdict call.now.name (texts_of_call call.now)) }
     ensures ends { IfErr result (SaysNoVerdict call.now.name (texts_of_call call.now)) }
@@ -61,8 +60,8 @@ pub fn read_verdict(alloc: Global, call: &Call<'_>) -> Result<Verdict, Exit>
 ///
 /// # Errors
 /// - [`Exit::Usage`]: one of them is missing,
-/// - [`Exit::Refused`] with `Name`: the domain is no name of one, or memory ran out,
-/// - [`Exit::BadKey`]: the key is none.
+/// - [`Exit::Refused`] with `Name`: `--domain` is not a domain's name, or memory ran out,
+/// - [`Exit::BadKey`]: `--key` is not a key id.
 pub fn read_record(alloc: Global, call: &Call<'_>) -> Result<Distrust, Exit>
     ensures says { IfOk result (SaysRecord call.now.name (texts_of_call call.now)) }
     ensures ends { IfErr result (SaysNoRecord call.now.name (texts_of_call call.now)) }

@@ -2,23 +2,24 @@
 ghost use Rattle.std.specs.Prelude.{◌≡◌, true, IfErr, OnOk};
 ghost use Rattle.std.specs.Io.KnownBytes.{Appends};
 ghost use Rattle.byte_lines.specs.Device.{AppendsBeginning};
-ghost use Rattle.fedbundle.specs.CommandRun.{device_run, run_of};
+ghost use Rattle.fedbundle.specs.CommandRun.{run_of};
+ghost use Rattle.command_exits.specs.DeviceRuns.{device_run};
 ghost use Rattle.fedbundle.specs.Serve.{RunsServe, served_text};
-ghost use Rattle.fedbundle.specs.declared.error.CommandError.TheVariants.{Io};
+ghost use Rattle.command_exits.specs.declared.error.CommandError.TheVariants.{Io};
 
 use crate::counts::write_counted;
-use crate::error::CommandError;
 use byte_lines::{Sink, Source};
 use closure_core::Closure;
+use command_exits::CommandError;
 use replica_sync::serve_one;
 use std::alloc::Global;
 
-/// Serves one session: answers the haves of the source, one after another, until it ends where
-/// a have would begin. Returns how many there were.
+/// Serves one session: answers the haves of the source, one after another, until it ends before the
+/// next have. Returns how many there were.
 ///
 /// # Errors
-/// `Sync`, as [`serve_one`] reports it. The haves before the fault are answered, and nothing
-/// else is written; where the sink failed or memory ran out, a beginning of that.
+/// `Sync`, as [`serve_one`] reports it. The haves before the error are answered, and nothing else
+/// is written; if the sink failed or memory ran out, a beginning of that.
 pub fn run_serve<C: Closure, R: Source, W: Sink>(
     alloc: Global,
     closure: &C,
@@ -37,7 +38,7 @@ pub fn run_serve<C: Closure, R: Source, W: Sink>(
 /// Writes a line `served` with the number of sessions. It takes no memory.
 ///
 /// # Errors
-/// `Io` where the sink failed, which then holds a beginning of the line.
+/// `Io` if the sink failed, which then holds a beginning of the line.
 pub fn write_served<W: Sink>(sessions: u64, sink: &mut W) -> Result<(), CommandError>
     ensures ok { OnOk result
         (Appends (W.contents sink.old) (W.contents sink.new) (served_text sessions)) }

@@ -1,10 +1,11 @@
-//! The commands that show what is held or its configuration, by what their words say: `config`,
+//! The commands that show what is held or its configuration, by what their arguments say: `config`,
 //! `report`, `list`, `diff`, `graph`, `bundle`, `explain`, `migrate`, `reseed`, `polls`, `status`,
 //! and `distrust` if it only shows what a record would change.
 ghost use Rattle.std.specs.Prelude.{◌≡◌, Ok};
 ghost use Rattle.json_reports.specs.ReportJson.{IsReportJson};
 ghost use Rattle.bundle_view.specs.Report.{IsReport};
-ghost use Rattle.fedbundle.specs.CommandRun.{device_run, run_of};
+ghost use Rattle.fedbundle.specs.CommandRun.{run_of};
+ghost use Rattle.command_exits.specs.DeviceRuns.{device_run};
 ghost use Rattle.fedbundle.specs.CurrentBundle.{RunsBundle, RunsBundlePem};
 ghost use Rattle.fedbundle.specs.Shown.{IsReportIn, RunsWriter, ShowsBy};
 ghost use Rattle.fedbundle.specs.Shown.{ShowsBundle, ShowsEffect, ShowsExplanation, ShowsPolls};
@@ -15,8 +16,6 @@ ghost use Rattle.command_line.specs.declared.option_texts.BundleFormat.TheVarian
 
 use crate::bundle::{run_bundle, run_bundle_pem};
 use crate::distrust::show_distrust;
-use crate::error::CommandError;
-use crate::exits::Exit;
 use crate::explain::run_explain;
 use crate::option_values::read_moment;
 use crate::polls::run_polls_in;
@@ -29,6 +28,7 @@ use crate::shown_status::status;
 use bundle_view::write_report;
 use byte_lines::{Sink, Source};
 use closure_core::Closure;
+use command_exits::{CommandError, Exit};
 use command_line::{
     BundleFormat, Call, CommandName, OptionName, OutputForm, given, read_bundle_format,
     read_explanation_form, read_output_form, wanted,
@@ -42,7 +42,7 @@ use std::alloc::Global;
 /// What is to be shown.
 #[derive(Clone, Copy, Debug)]
 pub struct Shown<'call, 'words, 'a> {
-    /// The words, whose texts are lent.
+    /// The arguments, whose texts are lent.
     pub call: &'call Call<'words>,
     /// What a running replica says of itself, which `status` then shows, too; `None` if what is
     /// held was read from a state file.
@@ -51,44 +51,45 @@ pub struct Shown<'call, 'words, 'a> {
     pub moment: i64,
 }
 
-/// Writes what the words ask for, of what is held, and returns the exit status: 1 for a `status`
-/// with a warning, for a `config` or a `diff` that found a difference, and for a `migrate` or a
-/// `reseed` that leaves out or refuses something, which they say on `complaints`; and otherwise 0.
-/// Only those two write there; a `reseed` with `--floors` also says there how many receipts fit.
+/// Writes what the arguments ask for, of what is held, and returns the exit status: 1 for a
+/// `status` with a warning, for a `config` or a `diff` that found a difference, and for a `migrate`
+/// or a `reseed` that leaves out or refuses something, which they say on `line_errors`; and
+/// otherwise 0. Only those two write there; a `reseed` with `--floors` also says there how many
+/// receipts fit.
 ///
 /// `explain` and `polls`, and `status` with `--polls`, read the source, to its end or as far as
 /// [`run_explain`] and [`run_polls_in`] say. It has the other configuration for `config` with
 /// `--with` and `migrate` with `--to`, and a snapshot of the other side for `diff`, which all read
 /// it to its end. The others leave it. `distrust` only shows what the record would change, whether
-/// or not the words have `--dry-run`.
+/// or not the arguments have `--dry-run`.
 ///
 /// # Errors
-/// Where the words are refused, no device was touched.
+/// If the arguments are refused, no device was touched.
 /// - [`Exit::Usage`]: an option is missing or has no form that the command has, or the command is
 ///   another one,
 /// - [`Exit::BadKey`], [`Exit::BadMoment`], [`Exit::BadNumber`]: the text of `--key`, of `--now`,
 ///   or of `--expires-within` or `--peer-quiet` is not one,
 /// - [`Exit::NoBundle`]: `bundle`, of a domain that has no current document. Nothing was written.
 /// - [`Exit::NotAccepted`]: `explain`, of a document that is not accepted. Nothing was written.
-/// - [`Exit::Refused`]: the name of the domain is none, or the error of the command's function.
+/// - [`Exit::Refused`]: `--domain` is not a domain's name, or the error of the command's function.
 pub fn run_shown<C: Closure, R: Source, W: Sink, E: Sink>(
     alloc: Global,
     closure: &C,
     shown: Shown<'_, '_, '_>,
     source: &mut R,
     sink: &mut W,
-    complaints: &mut E,
+    line_errors: &mut E,
 ) -> Result<u8, Exit>
     ensures { RunsShown (shown_call shown.entry (C.state closure.now).meaning)
         (run_of (device_run R.remaining R.has_failed source.old source.new)
         (device_run W.contents W.has_failed sink.old sink.new))
-        (device_run E.contents E.has_failed complaints.old complaints.new) result }
+        (device_run E.contents E.has_failed line_errors.old line_errors.new) result }
 {
     match shown.call.name {
         CommandName::Config => run_config(alloc, closure.config(), shown.call, source, sink),
         CommandName::Diff => diff(alloc, closure, shown, source, sink),
-        CommandName::Migrate => migrate(alloc, closure, shown, source, sink, complaints),
-        CommandName::Reseed => reseed_of(alloc, closure, shown, sink, complaints),
+        CommandName::Migrate => migrate(alloc, closure, shown, source, sink, line_errors),
+        CommandName::Reseed => reseed_of(alloc, closure, shown, sink, line_errors),
         _ => show_alone(alloc, closure, shown, source, sink),
     }
 }

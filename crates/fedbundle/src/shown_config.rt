@@ -1,32 +1,31 @@
-//! What a configuration says, or where two differ, by what the words of `config` say.
+//! What a configuration says, or what differs between two, by what the arguments of `config` say.
 ghost use Rattle.std.specs.Prelude.{◌≡◌, ◌↔◌, IfOk, IsTrue, Ok};
 ghost use Rattle.config_view.specs.ConfigText.{IsConfigDifference, IsConfigText};
 ghost use Rattle.config_view.specs.ConfigJson.{IsConfigJson};
 ghost use Rattle.fed_config.specs.Configuration.{config_id_of};
-ghost use Rattle.fedbundle.specs.CommandRun.{device_run, run_of};
+ghost use Rattle.fedbundle.specs.CommandRun.{run_of};
+ghost use Rattle.command_exits.specs.DeviceRuns.{device_run};
 ghost use Rattle.fedbundle.specs.SaidValues.{texts_of_call};
 ghost use Rattle.fedbundle.specs.Shown.{RunsWriter};
 ghost use Rattle.fedbundle.specs.ShownCommands.{ComparesConfigs, ComparesConfigsIn, IsConfigIn};
 ghost use Rattle.fedbundle.specs.ShownCommands.{ShowsConfig, ShowsOneConfig, config_call};
 ghost use Rattle.fedbundle.specs.ShownCommands.{exit_if_same};
 
-use crate::config_source::read_config;
-use crate::error::CommandError;
-use crate::exits::Exit;
 use byte_lines::{Sink, Source};
+use command_exits::{CommandError, Exit, read_config};
 use command_line::{Call, OptionName, OutputForm, given, read_output_form};
 use config_view::{write_config, write_config_difference, write_config_json};
 use fed_config::Config;
 use std::alloc::Global;
 
-/// Writes what the configuration says; with `--with` where it differs from the one that the source
-/// has, which is read to its end. Returns the exit status: 1 if two have two digests.
+/// Writes what the configuration says; with `--with` what differs from the one that the source has,
+/// which is read to its end. Returns the exit status: 1 if two have two digests.
 ///
 /// # Errors
-/// - [`Exit::Usage`]: the format is neither `text` nor `json`, or it is `json` beside `--with`.
-///   Nothing was read or written.
-/// - [`Exit::Refused`]: the error of [`read_config`], and nothing was written; or `Io` where the
-///   sink failed after a beginning of the text, and `NoMemory` where memory ran out before it.
+/// - [`Exit::Usage`]: the format is neither `text` nor `json`, or it is `json` together with
+///   `--with`. Nothing was read or written.
+/// - [`Exit::Refused`]: the error of [`read_config`], and nothing was written; or `Io` if the sink
+///   failed after a beginning of the text, and `NoMemory` if memory ran out before it.
 pub fn run_config<R: Source, W: Sink>(
     alloc: Global,
     config: &Config,

@@ -1,16 +1,16 @@
 //! What one replica holds and another one does not: `diff`.
 ghost use Rattle.std.specs.Prelude.{◌↔◌, IfOk, IsTrue};
 ghost use Rattle.replica_view.specs.HeldTexts.{HoldSame, IsHeldDifference};
-ghost use Rattle.fedbundle.specs.CommandRun.{device_run, run_of};
+ghost use Rattle.fedbundle.specs.CommandRun.{run_of};
+ghost use Rattle.command_exits.specs.DeviceRuns.{device_run};
 ghost use Rattle.fedbundle.specs.Shown.{RunsWriter, shown_call};
 ghost use Rattle.fedbundle.specs.ShownCommands.{ComparesHeld, ComparesSides, ShowsDifference};
 
-use crate::error::CommandError;
-use crate::exits::Exit;
 use crate::shown::Shown;
 use crate::shown_config::status_of_same;
 use byte_lines::{Sink, Source};
 use closure_core::Closure;
+use command_exits::{CommandError, Exit};
 use command_line::{OptionName, wanted};
 use replica_sync::read_snapshot;
 use replica_view::write_held_difference;
@@ -20,8 +20,8 @@ use std::alloc::Global;
 /// different things.
 ///
 /// # Errors
-/// [`Exit::Refused`] with `Io` where the sink failed after a beginning of the text, or with
-/// `NoMemory` where memory ran out before it.
+/// [`Exit::Refused`] with `Io` if the sink failed after a beginning of the text, or with `NoMemory`
+/// if memory ran out before it.
 pub fn run_diff<C: Closure, W: Sink>(
     alloc: Global,
     one: &C,

@@ -1,20 +1,20 @@
-//! What is held, and which document vouches for which, by what the words of `list` and `graph` say.
+//! What is held, and which document vouches for which, by what the arguments of `list` and `graph`
+//! say.
 ghost use Rattle.std.specs.Prelude.{◌≡◌, false, IfErr, IfOk, option_copied};
 ghost use Rattle.key_view.specs.KeysText.{IsKeysText};
 ghost use Rattle.replica_view.specs.HeldJson.{IsHeldJson};
 ghost use Rattle.replica_view.specs.HeldTexts.{IsHeldText};
 ghost use Rattle.replica_view.specs.TrustGraph.{IsGraphText};
-ghost use Rattle.fedbundle.specs.CommandRun.{device_run};
+ghost use Rattle.command_exits.specs.DeviceRuns.{device_run};
 ghost use Rattle.fedbundle.specs.SaidValues.{texts_of_call};
 ghost use Rattle.fedbundle.specs.Shown.{EndsAtChosen, IsListIn, RunsWriter, SaysChosen, ShowsGraph};
 ghost use Rattle.fedbundle.specs.Shown.{ShowsList, chosen_said, keys_form, shown_call};
 
-use crate::error::CommandError;
-use crate::exits::Exit;
 use crate::said_values::read_domain;
 use crate::shown::Shown;
 use byte_lines::{Sink, write_all};
 use closure_core::Closure;
+use command_exits::{CommandError, Exit};
 use command_line::{Call, OptionName, OutputForm, given, is_flag_given, read_output_form};
 use key_view::{KeysForm, keys_text};
 use replica_view::{write_graph, write_held, write_held_json};

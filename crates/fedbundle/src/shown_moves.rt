@@ -1,8 +1,9 @@
-//! What goes along to another configuration, and a configuration for a start anew, by what the
-//! words of `migrate` and of `reseed` say. Both write on two sinks.
+//! What goes along to another configuration, and a configuration for a new start, by what the
+//! arguments of `migrate` and of `reseed` say. Both write on two sinks.
 ghost use Rattle.std.specs.Prelude.{◌≡◌, ◌++◌, IfErr, IfOk, Ok, OnOk, option_copied};
 ghost use Rattle.std.specs.Prelude.{decimal, option_map};
-ghost use Rattle.fedbundle.specs.CommandRun.{device_run, run_of};
+ghost use Rattle.fedbundle.specs.CommandRun.{run_of};
+ghost use Rattle.command_exits.specs.DeviceRuns.{device_run};
 ghost use Rattle.fedbundle.specs.Migrate.{move_to};
 ghost use Rattle.fedbundle.specs.SaidValues.{texts_of_call};
 ghost use Rattle.fedbundle.specs.Shown.{SaysChosen, shown_call};
@@ -13,14 +14,12 @@ ghost use Rattle.reseeding.specs.declared.new_floors.FloorChoice.TheVariants.{Ra
 ghost use Rattle.fedbundle.specs.ShownCommands.{SaysFloorChoice, ShowsReseed, allowed_said};
 ghost use Rattle.fedbundle.specs.ShownCommands.{ReseedsFloored, stay_line};
 
-use crate::config_source::read_config;
-use crate::error::CommandError;
-use crate::exits::Exit;
 use crate::migrate::run_migrate;
 use crate::said_values::read_domain;
 use crate::shown::Shown;
 use byte_lines::{Sink, Source, push_number, write_all};
 use closure_core::Closure;
+use command_exits::{CommandError, Exit, read_config};
 use command_line::{Call, OptionName, given, is_flag_given};
 use fed_config::Config;
 use migration::Choice;
@@ -29,7 +28,7 @@ use spiffe_name::TrustDomain;
 use std::alloc::{AllocError, Global};
 
 /// Writes the snapshot of what goes along to the configuration that the source has, or under the
-/// same one without `--to`, and on `complaints` a line for each that is left out, which makes the
+/// same one without `--to`, and on `line_errors` a line for each that is left out, which makes the
 /// exit status 1.
 pub(crate) fn migrate<C: Closure, R: Source, W: Sink, E: Sink>(
     alloc: Global,
@@ -37,17 +36,17 @@ pub(crate) fn migrate<C: Closure, R: Source, W: Sink, E: Sink>(
     shown: Shown<'_, '_, '_>,
     source: &mut R,
     sink: &mut W,
-    complaints: &mut E,
+    line_errors: &mut E,
 ) -> Result<u8, Exit>
     ensures { ShowsMigration (shown_call shown.entry (C.state closure.now).meaning)
         (run_of (device_run R.remaining R.has_failed source.old source.new)
         (device_run W.contents W.has_failed sink.old sink.new))
-        (device_run E.contents E.has_failed complaints.old complaints.new) result }
+        (device_run E.contents E.has_failed line_errors.old line_errors.new) result }
 {
     let choice = choice_of(given(shown.call, OptionName::RecordsOnly));
     match given(shown.call, OptionName::To) {
-        Some(_) => migrate_to_read(alloc, closure, choice, source, sink, complaints),
-        None => migrate_to(alloc, closure, closure.config(), choice, sink, complaints),
+        Some(_) => migrate_to_read(alloc, closure, choice, source, sink, line_errors),
+        None => migrate_to(alloc, closure, closure.config(), choice, sink, line_errors),
     }
 }
 
@@ -68,15 +67,15 @@ fn migrate_to_read<C: Closure, R: Source, W: Sink, E: Sink>(
     choice: Choice,
     source: &mut R,
     sink: &mut W,
-    complaints: &mut E,
+    line_errors: &mut E,
 ) -> Result<u8, Exit>
     ensures { MovesToRead choice (C.state closure.now).meaning
         (run_of (device_run R.remaining R.has_failed source.old source.new)
         (device_run W.contents W.has_failed sink.old sink.new))
-        (device_run E.contents E.has_failed complaints.old complaints.new) result }
+        (device_run E.contents E.has_failed line_errors.old line_errors.new) result }
 {
     let to = read_config(alloc, source)?;
-    migrate_to(alloc, closure, &to, choice, sink, complaints)
+    migrate_to(alloc, closure, &to, choice, sink, line_errors)
 }
 
 fn migrate_to<C: Closure, W: Sink, E: Sink>(
@@ -85,13 +84,13 @@ fn migrate_to<C: Closure, W: Sink, E: Sink>(
     to: &Config,
     choice: Choice,
     sink: &mut W,
-    complaints: &mut E,
+    line_errors: &mut E,
 ) -> Result<u8, Exit>
     ensures { ShowsMove (move_to choice to.now (C.state closure.now).meaning)
         (device_run W.contents W.has_failed sink.old sink.new)
-        (device_run E.contents E.has_failed complaints.old complaints.new) result }
+        (device_run E.contents E.has_failed line_errors.old line_errors.new) result }
 {
-    let count = run_migrate(alloc, closure, to, choice, sink, complaints)?;
+    let count = run_migrate(alloc, closure, to, choice, sink, line_errors)?;
     Ok(status_of_left(count))
 }
 
@@ -102,7 +101,7 @@ fn status_of_left(count: u64) -> u8
     if count == 0 { 0 } else { 1 }
 }
 
-/// Writes the configuration for a new start, and with `--floors` on `complaints` a line that says
+/// Writes the configuration for a new start, and with `--floors` on `line_errors` a line that says
 /// how many receipts fit it; or there the lines of the domains that are refused, which make the
 /// exit status 1.
 pub(crate) fn reseed_of<C: Closure, W: Sink, E: Sink>(
@@ -110,14 +109,14 @@ pub(crate) fn reseed_of<C: Closure, W: Sink, E: Sink>(
     closure: &C,
     shown: Shown<'_, '_, '_>,
     sink: &mut W,
-    complaints: &mut E,
+    line_errors: &mut E,
 ) -> Result<u8, Exit>
     ensures { ShowsReseed (shown_call shown.entry (C.state closure.now).meaning)
         (device_run W.contents W.has_failed sink.old sink.new)
-        (device_run E.contents E.has_failed complaints.old complaints.new) result }
+        (device_run E.contents E.has_failed line_errors.old line_errors.new) result }
 {
     let allowed = allowed_domain(alloc, shown.call)?;
-    reseed_floored(alloc, closure, shown, allowed.as_ref(), sink, complaints)
+    reseed_floored(alloc, closure, shown, allowed.as_ref(), sink, line_errors)
 }
 
 fn reseed_floored<C: Closure, W: Sink, E: Sink>(
@@ -126,15 +125,15 @@ fn reseed_floored<C: Closure, W: Sink, E: Sink>(
     shown: Shown<'_, '_, '_>,
     allowed: Option<&TrustDomain>,
     sink: &mut W,
-    complaints: &mut E,
+    line_errors: &mut E,
 ) -> Result<u8, Exit>
     ensures { ReseedsFloored (shown_call shown.entry (C.state closure.now).meaning)
         (option_copied allowed.entry)
         (device_run W.contents W.has_failed sink.old sink.new)
-        (device_run E.contents E.has_failed complaints.old complaints.new) result }
+        (device_run E.contents E.has_failed line_errors.old line_errors.new) result }
 {
     let floors = floors_of(given(shown.call, OptionName::Floors));
-    reseed_into(alloc, closure, allowed, floors, sink, complaints)
+    reseed_into(alloc, closure, allowed, floors, sink, line_errors)
 }
 
 fn floors_of(text: Option<&str>) -> FloorChoice
@@ -163,23 +162,29 @@ fn reseed_into<C: Closure, W: Sink, E: Sink>(
     allowed: Option<&TrustDomain>,
     floors: FloorChoice,
     sink: &mut W,
-    complaints: &mut E,
+    line_errors: &mut E,
 ) -> Result<u8, Exit>
     ensures { ReseedsInto (C.state closure.now).meaning
         (record { allowed = option_copied allowed.entry; floors = floors })
         (device_run W.contents W.has_failed sink.old sink.new)
-        (device_run E.contents E.has_failed complaints.old complaints.new) result }
+        (device_run E.contents E.has_failed line_errors.old line_errors.new) result }
 {
     match reseed(alloc, closure, allowed, floors)? {
         Reseeded::Seeded(new) => {
-            let beside = stay_line(alloc, floors, new.staying, closure.receipt_count())?;
-            print_both(new.text.as_slice(), beside.as_slice(), 0, sink, complaints)
+            let with_it = stay_line(alloc, floors, new.staying, closure.receipt_count())?;
+            print_both(
+                new.text.as_slice(),
+                with_it.as_slice(),
+                0,
+                sink,
+                line_errors,
+            )
         }
-        Reseeded::Refusals(lines) => print_both(b"", lines.as_slice(), 1, sink, complaints),
+        Reseeded::Refusals(lines) => print_both(b"", lines.as_slice(), 1, sink, line_errors),
     }
 }
 
-// What is said beside the new configuration, if anything.
+// What is said with the new configuration, if anything.
 fn stay_line(
     alloc: Global,
     floors: FloorChoice,
@@ -210,20 +215,20 @@ fn push_labelled(line: &mut Vec<u8>, label: &[u8], number: u64) -> Result<(), Al
     push_number(line, number)
 }
 
-// Writes the output, and then what is said beside it, and returns the status.
+// Writes the output, and then what is said with it, and returns the status.
 fn print_both<W: Sink, E: Sink>(
     output: &[u8],
-    beside: &[u8],
+    with_it: &[u8],
     status: u8,
     sink: &mut W,
-    complaints: &mut E,
+    line_errors: &mut E,
 ) -> Result<u8, Exit>
-    ensures { PrintsBoth (record { output = output.now; beside = beside.now; status = status })
+    ensures { PrintsBoth (record { output = output.now; with_it = with_it.now; status = status })
         (device_run W.contents W.has_failed sink.old sink.new)
-        (device_run E.contents E.has_failed complaints.old complaints.new) result }
+        (device_run E.contents E.has_failed line_errors.old line_errors.new) result }
 {
     match print(output, 0, sink) {
-        Ok(_) => print(beside, status, complaints),
+        Ok(_) => print(with_it, status, line_errors),
         failed => failed,
     }
 }

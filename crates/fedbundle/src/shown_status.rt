@@ -1,19 +1,19 @@
-//! How a replica stands, by what the words of `status` say.
+//! The status of a replica, by what the arguments of `status` say.
 ghost use Rattle.std.specs.Prelude.{◌≡◌, [], IfErr, IfOk};
 ghost use Rattle.status_view.specs.StatusRuns.{IsWarned};
 ghost use Rattle.status_warnings.specs.WarnedStatus.{IsWarnedStatusIn, watching_of};
-ghost use Rattle.fedbundle.specs.CommandRun.{device_run, run_of};
+ghost use Rattle.fedbundle.specs.CommandRun.{run_of};
+ghost use Rattle.command_exits.specs.DeviceRuns.{device_run};
 ghost use Rattle.fedbundle.specs.SaidValues.{texts_of_call};
 ghost use Rattle.fedbundle.specs.Shown.{EndsAtLimits, EndsAtSecond, ReadsPollLog, RunsWriter};
 ghost use Rattle.fedbundle.specs.Shown.{SaysLimits, SaysSecond, ShowsPolled, ShowsStanding};
 ghost use Rattle.fedbundle.specs.Shown.{ShowsStatus, second_said, shown_call, look_with};
 
-use crate::error::CommandError;
-use crate::exits::Exit;
 use crate::option_values::read_status_format;
 use crate::shown::Shown;
 use byte_lines::{Sink, Source};
 use closure_core::Closure;
+use command_exits::{CommandError, Exit};
 use command_line::{Call, OptionName, given, number_given};
 use poll_log::{PollLog, read_polls, read_seconds};
 use status_view::{RunningStatus, StatusFormat};
@@ -30,7 +30,8 @@ const PEER_QUIET: u64 = 600;
 
 const MOST_QUIET: u64 = 31_536_000;
 
-/// What is looked at beside what is held and how domains are fetched, and how that is written.
+/// What is looked at in addition to what is held and how domains are fetched, and how that is
+/// written.
 #[derive(Clone, Copy, Debug)]
 pub(crate) struct StatusLook<'a> {
     limits: WarnLimits,
@@ -38,8 +39,8 @@ pub(crate) struct StatusLook<'a> {
     format: StatusFormat,
 }
 
-/// Writes how the replica stands. With `--polls` the source has the polls that were made. A warning
-/// makes the exit status 1.
+/// Writes the status of the replica. With `--polls` the source has the polls that were made. A
+/// warning makes the exit status 1.
 pub(crate) fn status<C: Closure, R: Source, W: Sink>(
     alloc: Global,
     closure: &C,

@@ -52,7 +52,7 @@ pub record HasOpened (config snapshot : List ℕ) (new : Option Replica)
   pub opens : OpensBytes config snapshot (meaning_in replica)
   pub done : ReturnsDone returned
 
--- The bytes are refused, for this cause, and it stays closed.
+-- The bytes are refused, for this cause, and it remains closed.
 pub record HasNotOpened (config snapshot : List ℕ) (new : Option Replica)
     (returned : ℤ) : Type 0 where
   pub error : CallError
@@ -81,7 +81,7 @@ pub record HandleRun : Type 0 where
   pub said : ℕ
   pub returned : ℤ
 
--- The handle is closed: the call is refused, counts nothing, and the handle stays closed.
+-- The handle is closed: the call is refused, counts nothing, and the handle remains closed.
 pub record IsUsedClosed (run : HandleRun) : Type 0 where
   pub closed : run.new ≡ None
   pub refused : CountsNone Usage run.said run.returned
@@ -171,7 +171,8 @@ pub record BufferRun : Type 0 where
 abbrev pub out_of : BufferRun → HandleRun → OutRun
 out_of buffer run = out_run buffer.before buffer.after run.said run.returned
 
--- The handle is closed: the call is refused, and the handle stays closed and the buffer as it was.
+-- The handle is closed: the call is refused, the handle remains closed, and the buffer is as it
+-- was.
 pub record IsShownClosed (buffer : BufferRun) (run : HandleRun) : Type 0 where
   pub closed : run.new ≡ None
   pub refused : RefusesOut Usage (out_of buffer run)
@@ -182,7 +183,7 @@ pub record PutsText (P : List ℕ → Type 0) (buffer : BufferRun) (run : Handle
   pub is : P text
   pub written : WritesOut text (out_of buffer run)
 
--- There is none, for this cause, and the buffer is as it was.
+-- There is no text, for this cause, and the buffer is as it was.
 pub record PutsFault (Q : CallError → Type 0) (buffer : BufferRun) (run : HandleRun) : Type 0 where
   pub error : CallError
   pub cause : Q error
@@ -239,7 +240,7 @@ ObservesByHandle fetched buffer run = MatchOption run.old (IsShownClosed buffer 
 
 -- ---- what there may be none of
 
--- There is none, and the buffer is as it was.
+-- There is no text, and the buffer is as it was.
 pub record PutsNone (N : Type 0) (buffer : BufferRun) (run : HandleRun) : Type 0 where
   pub absent : N
   pub none : LacksOut (out_of buffer run)

@@ -25,7 +25,7 @@ pub record PutsReport (config lines : List ℕ) (buffer : BufferRun)
   pub written : WritesOut reported.report.items (out_of_stateless buffer run)
   pub counted : run.count ≡ reported.refused
 
--- There is none, for this cause, and the buffer is as it was.
+-- There is no text, for this cause, and the buffer is as it was.
 pub record RefusesCall (Q : CallError → Type 0) (buffer : BufferRun)
     (run : StatelessRun) : Type 0 where
   pub error : CallError

@@ -3,7 +3,7 @@ ghost use Rattle.std.specs.Prelude.{◌≡◌, ◌≤◌, codes};
 ghost use Rattle.std.specs.declared.option.Option.TheVariants.{None};
 ghost use Rattle.fedbundle_c.specs.Exports.{DistrustsByHandle, MergesByHandle};
 ghost use Rattle.fedbundle_c.specs.Exports.{ObservesByHandle, TakesByHandle};
-ghost use Rattle.replica_c_calls.specs.Outcomes.{TellsFault, fault_text};
+ghost use Rattle.replica_c_calls.specs.Outcomes.{ReportsFault, fault_text};
 
 use crate::handle::Handle;
 use closure_core::{Distrusted, Taken};
@@ -30,7 +30,7 @@ pub extern "C" fn fedbundle_raw_take(
     }) line.now }
     ensures length { outcome.new.length ≡ 0 }
     ensures fault { outcome.new.fault_length ≤ 240 }
-    ensures told { TellsFault result outcome.new.fault_length }
+    ensures stated { ReportsFault result outcome.new.fault_length }
     ensures closed { handle.old.value ≡ None → fault_text outcome.new ≡ codes "usage" }
 {
     outcome.clear();
@@ -64,7 +64,7 @@ pub extern "C" fn fedbundle_raw_distrust(
     }) domain.now key.now }
     ensures length { outcome.new.length ≡ 0 }
     ensures fault { outcome.new.fault_length ≤ 240 }
-    ensures told { TellsFault result outcome.new.fault_length }
+    ensures stated { ReportsFault result outcome.new.fault_length }
     ensures closed { handle.old.value ≡ None → fault_text outcome.new ≡ codes "usage" }
 {
     outcome.clear();
@@ -96,7 +96,7 @@ pub extern "C" fn fedbundle_raw_merge(
     }) snapshot.now }
     ensures length { outcome.new.length ≡ 0 }
     ensures fault { outcome.new.fault_length ≤ 240 }
-    ensures told { TellsFault result outcome.new.fault_length }
+    ensures stated { ReportsFault result outcome.new.fault_length }
     ensures closed { handle.old.value ≡ None → fault_text outcome.new ≡ codes "usage" }
 {
     outcome.clear();
@@ -140,7 +140,7 @@ pub extern "C" fn fedbundle_raw_observe(
         }) }
     ensures count { outcome.new.count ≡ 0 }
     ensures fault { outcome.new.fault_length ≤ 240 }
-    ensures told { TellsFault result outcome.new.fault_length }
+    ensures stated { ReportsFault result outcome.new.fault_length }
     ensures closed { handle.old.value ≡ None → fault_text outcome.new ≡ codes "usage" }
 {
     outcome.clear();

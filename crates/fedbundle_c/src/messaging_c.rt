@@ -2,7 +2,7 @@
 ghost use Rattle.std.specs.Prelude.{◌≡◌, ◌≤◌, codes};
 ghost use Rattle.std.specs.declared.option.Option.TheVariants.{None};
 ghost use Rattle.fedbundle_c.specs.Exports.{AbsorbsByHandle, AnswersByHandle, HavesByHandle};
-ghost use Rattle.replica_c_calls.specs.Outcomes.{TellsFault, fault_text};
+ghost use Rattle.replica_c_calls.specs.Outcomes.{ReportsFault, fault_text};
 
 use crate::handle::Handle;
 use replica_c_calls::{CallError, CallOutcome, absorb_bytes, answer_bytes, have_bytes};
@@ -26,7 +26,7 @@ pub extern "C" fn fedbundle_raw_have(
         }) }
     ensures count { outcome.new.count ≡ 0 }
     ensures fault { outcome.new.fault_length ≤ 240 }
-    ensures told { TellsFault result outcome.new.fault_length }
+    ensures stated { ReportsFault result outcome.new.fault_length }
     ensures closed { handle.old.value ≡ None → fault_text outcome.new ≡ codes "usage" }
 {
     outcome.clear();
@@ -56,7 +56,7 @@ pub extern "C" fn fedbundle_raw_answer(
         }) }
     ensures count { outcome.new.count ≡ 0 }
     ensures fault { outcome.new.fault_length ≤ 240 }
-    ensures told { TellsFault result outcome.new.fault_length }
+    ensures stated { ReportsFault result outcome.new.fault_length }
     ensures closed { handle.old.value ≡ None → fault_text outcome.new ≡ codes "usage" }
 {
     outcome.clear();
@@ -84,7 +84,7 @@ pub extern "C" fn fedbundle_raw_absorb(
     }) answered.now }
     ensures length { outcome.new.length ≡ 0 }
     ensures fault { outcome.new.fault_length ≤ 240 }
-    ensures told { TellsFault result outcome.new.fault_length }
+    ensures stated { ReportsFault result outcome.new.fault_length }
     ensures closed { handle.old.value ≡ None → fault_text outcome.new ≡ codes "usage" }
 {
     outcome.clear();

@@ -3,7 +3,7 @@ ghost use Rattle.std.specs.Prelude.{◌≡◌, ◌≤◌, codes, MatchResult};
 ghost use Rattle.std.specs.declared.option.Option.TheVariants.{None};
 ghost use Rattle.fedbundle_c.specs.Exports.{OpensHandle, meaning_in};
 ghost use Rattle.replica_c_calls.specs.Opening.{OpensBytes, RefusesOpening};
-ghost use Rattle.replica_c_calls.specs.Outcomes.{TellsFault, WritesOut, out_run};
+ghost use Rattle.replica_c_calls.specs.Outcomes.{ReportsFault, WritesOut, out_run};
 
 use crate::handle::Handle;
 use crate::held_replica::Replica;
@@ -17,14 +17,14 @@ pub extern "C" fn fedbundle_raw_version(out: &mut [u8], outcome: &mut CallOutcom
     ensures does { WritesOut (codes "0.8.0") (out_run out.old out.new outcome.new.length result) }
     ensures count { outcome.new.count ≡ 0 }
     ensures fault { outcome.new.fault_length ≤ 240 }
-    ensures told { TellsFault result outcome.new.fault_length }
+    ensures stated { ReportsFault result outcome.new.fault_length }
 {
     outcome.put(b"0.8.0", out)
 }
 
 /// Opens a closed handle: it holds a replica of the configuration then, with what the snapshot
-/// holds, or with nothing if there are no bytes of a snapshot. If it is refused, the handle stays
-/// as it is.
+/// holds, or with nothing if there are no bytes of a snapshot. If it is refused, the handle is
+/// unchanged.
 #[unsafe(no_mangle)]
 pub extern "C" fn fedbundle_raw_open(
     alloc: Global,
@@ -37,7 +37,7 @@ pub extern "C" fn fedbundle_raw_open(
     ensures count { outcome.new.count ≡ 0 }
     ensures length { outcome.new.length ≡ 0 }
     ensures fault { outcome.new.fault_length ≤ 240 }
-    ensures told { TellsFault result outcome.new.fault_length }
+    ensures stated { ReportsFault result outcome.new.fault_length }
 {
     outcome.clear();
     if let Some(before) = handle.take_out(alloc) {
@@ -65,7 +65,7 @@ fn opened(alloc: Global, config: &[u8], snapshot: &[u8]) -> Result<Box<Replica>,
     }
 }
 
-/// Frees the replica of a handle. A closed handle stays closed. That its memory is given back is
+/// Frees the replica of a handle. A closed handle remains closed. That its memory is given back is
 /// only tested, under valgrind: no contract counts memory.
 #[unsafe(no_mangle)]
 pub extern "C" fn fedbundle_raw_close(alloc: Global, handle: &mut Handle)

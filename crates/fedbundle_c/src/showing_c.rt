@@ -3,7 +3,7 @@ ghost use Rattle.std.specs.Prelude.{◌≡◌, ◌≤◌, codes};
 ghost use Rattle.std.specs.declared.option.Option.TheVariants.{None};
 ghost use Rattle.fedbundle_c.specs.Exports.{CurrentByHandle, ExplainsByHandle, ReportsByHandle};
 ghost use Rattle.fedbundle_c.specs.Exports.{SnapshotsByHandle};
-ghost use Rattle.replica_c_calls.specs.Outcomes.{TellsFault, fault_text};
+ghost use Rattle.replica_c_calls.specs.Outcomes.{ReportsFault, fault_text};
 
 use crate::handle::Handle;
 use replica_c_calls::{
@@ -28,7 +28,7 @@ pub extern "C" fn fedbundle_raw_replica_report(
         }) }
     ensures count { outcome.new.count ≡ 0 }
     ensures fault { outcome.new.fault_length ≤ 240 }
-    ensures told { TellsFault result outcome.new.fault_length }
+    ensures stated { ReportsFault result outcome.new.fault_length }
     ensures closed { handle.old.value ≡ None → fault_text outcome.new ≡ codes "usage" }
 {
     outcome.clear();
@@ -57,7 +57,7 @@ pub extern "C" fn fedbundle_raw_snapshot(
         }) }
     ensures count { outcome.new.count ≡ 0 }
     ensures fault { outcome.new.fault_length ≤ 240 }
-    ensures told { TellsFault result outcome.new.fault_length }
+    ensures stated { ReportsFault result outcome.new.fault_length }
     ensures closed { handle.old.value ≡ None → fault_text outcome.new ≡ codes "usage" }
 {
     outcome.clear();
@@ -70,7 +70,7 @@ pub extern "C" fn fedbundle_raw_snapshot(
 }
 
 /// Writes the current bundle of a domain in its canonical form, with a line feed, or returns
-/// [`NONE`](replica_c_calls::NONE) if there is none.
+/// [`NONE`](replica_c_calls::NONE) if the domain has none.
 #[unsafe(no_mangle)]
 pub extern "C" fn fedbundle_raw_current(
     alloc: Global,
@@ -88,7 +88,7 @@ pub extern "C" fn fedbundle_raw_current(
         }) }
     ensures count { outcome.new.count ≡ 0 }
     ensures fault { outcome.new.fault_length ≤ 240 }
-    ensures told { TellsFault result outcome.new.fault_length }
+    ensures stated { ReportsFault result outcome.new.fault_length }
     ensures closed { handle.old.value ≡ None → fault_text outcome.new ≡ codes "usage" }
 {
     outcome.clear();
@@ -121,7 +121,7 @@ pub extern "C" fn fedbundle_raw_explain(
         }) }
     ensures count { outcome.new.count ≡ 0 }
     ensures fault { outcome.new.fault_length ≤ 240 }
-    ensures told { TellsFault result outcome.new.fault_length }
+    ensures stated { ReportsFault result outcome.new.fault_length }
     ensures closed { handle.old.value ≡ None → fault_text outcome.new ≡ codes "usage" }
 {
     outcome.clear();

@@ -1,7 +1,7 @@
 //! Exports: the calls that hold no replica.
 ghost use Rattle.std.specs.Prelude.{◌≤◌};
 ghost use Rattle.fedbundle_c.specs.Stateless.{CanonsByBytes, ReportsByBytes};
-ghost use Rattle.replica_c_calls.specs.Outcomes.{TellsFault};
+ghost use Rattle.replica_c_calls.specs.Outcomes.{ReportsFault};
 
 use command_c_calls::{canon_bytes, report_lines};
 use replica_c_calls::CallOutcome;
@@ -25,7 +25,7 @@ pub extern "C" fn fedbundle_raw_report(
           returned = result;
         }) }
     ensures fault { outcome.new.fault_length ≤ 240 }
-    ensures told { TellsFault result outcome.new.fault_length }
+    ensures stated { ReportsFault result outcome.new.fault_length }
 {
     match report_lines(alloc, config, lines) {
         Ok(reported) => {
@@ -57,7 +57,7 @@ pub extern "C" fn fedbundle_raw_canon(
           returned = result;
         }) }
     ensures fault { outcome.new.fault_length ≤ 240 }
-    ensures told { TellsFault result outcome.new.fault_length }
+    ensures stated { ReportsFault result outcome.new.fault_length }
 {
     let made = canon_bytes(alloc, domain, document);
     outcome.put_result(made, out)

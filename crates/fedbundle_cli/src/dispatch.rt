@@ -1,13 +1,13 @@
 // What the arguments ask for: a running replica is asked (`--at`), this process becomes one
 // (`replica`), or it carries out the command with its own files and streams (`subcommands`).
 use crate::replica_settings;
+use command_exits::{CommandError, Exit};
 use command_faults::{end_without_call, status_of};
+use command_line::{
+    Call, CommandName, OptionName, WordsError, given, is_flag_given, manner_of, read_words,
+};
 use command_streams::options::config_of;
 use command_streams::{print_clap, texts_of, words_of_process};
-use fedbundle::{
-    Call, CommandError, CommandName, Exit, OptionName, WordsError, given, is_flag_given, manner_of,
-    read_words,
-};
 use replica_client::{ask_distrust, ask_running};
 use subcommands::carry_out_here;
 

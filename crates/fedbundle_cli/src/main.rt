@@ -1,13 +1,13 @@
 // The program `fedbundle`: it reads its arguments, hands its files and standard streams to the
-// command's function, and ends with the exit status that the function's answer has. Proved are
-// safety and, if the system's calls return, that it returns.
+// command's function, and ends with the exit status that the function's answer has. It is proved to
+// be safe and, if the system's calls return, to return.
 #![tactic(auto)]
 
 mod dispatch;
 mod replica_settings;
 
+use command_exits::{CommandError, Exit};
 use command_streams::{ClosedStreams, print_exit};
-use fedbundle::{CommandError, Exit};
 use std::process::ExitCode;
 
 fn main(rt: HostRuntime) -> ExitCode {

@@ -1,9 +1,11 @@
-// `replica`: what the words say of it, read, and the replica run.
-use command_line::{VERSION, number_given};
+// `replica`: what the arguments say of it, read, and the replica run.
+use command_exits::{CommandError, Exit};
+use command_line::{
+    Call, OptionName, VERSION, given, is_flag_given, manner_of, number_given, wanted,
+};
 use command_streams::options::may_listen;
 use command_streams::{options, progress_mode, warn_of_anywhere};
 use fed_config::Config;
-use fedbundle::{Call, CommandError, Exit, OptionName, given, is_flag_given, manner_of, wanted};
 use local_answers::PageLimits;
 use progress_line::ProgressMode;
 use replica_loop::{Settings, run_replica};
@@ -11,17 +13,17 @@ use std::alloc::Global;
 use std::net::SocketAddr;
 use std::time::Duration;
 
-/// How many seconds after a pull began the next one from that peer begins where nothing else is
-/// said, and at most.
+/// How many seconds after a pull began the next one from that peer begins if nothing else is said,
+/// and at most.
 const EVERY_SECONDS: u64 = 60;
 
 const MAX_EVERY_SECONDS: u64 = 86_400;
 
-/// How many bytes requests and their replies may have together where nothing else is said.
+/// How many bytes requests and their replies may have together if nothing else is said.
 const MOST_REQUEST_BYTES: u64 = 536_870_912;
 
 /// How many days before its end the pages warn of a certificate, and how many seconds a peer may be
-/// quiet, where nothing else is said; and at most.
+/// quiet, if nothing else is said; and at most.
 const EXPIRES_WITHIN: u64 = 7;
 
 const MAX_EXPIRES_WITHIN: u64 = 36_525;

@@ -1,5 +1,5 @@
 //! Documents: read from texts and values, and what they answer.
-use crate::words::{add_line, tell, yes};
+use crate::words::{add_line, print_out, yes};
 use bundle_doc::Document;
 use hex::FromHex;
 use jwk_set::KeyId;
@@ -8,7 +8,7 @@ use serde_json::Value;
 use spiffe_name::TrustDomain;
 use std::alloc::{AllocError, Global};
 
-/// Tells the document of the domain that the bytes say, or why they are not one.
+/// Reports the document of the domain that the bytes say, or why they are not one.
 pub(crate) fn read(
     alloc: Global,
     script: &Script,
@@ -17,13 +17,13 @@ pub(crate) fn read(
     answer: &mut String,
 ) -> Result<(), AllocError> {
     match Document::read(alloc, bytes) {
-        Ok(document) => tell_of_domain(alloc, script, domain, &document, answer),
-        Err(error) => tell(&error, answer),
+        Ok(document) => print_of_domain(alloc, script, domain, &document, answer),
+        Err(error) => print_out(&error, answer),
     }
 }
 
-/// Tells the document that the bytes are the canonical text of, or that they are left to the reader
-/// of any text.
+/// Reports the document that the bytes are the canonical text of, or that they are left to the
+/// reader of any text.
 pub(crate) fn read_directly(
     alloc: Global,
     script: &Script,
@@ -32,12 +32,12 @@ pub(crate) fn read_directly(
     answer: &mut String,
 ) -> Result<(), AllocError> {
     match Document::read_canonical(alloc, bytes)? {
-        Some(document) => tell_of_domain(alloc, script, domain, &document, answer),
+        Some(document) => print_of_domain(alloc, script, domain, &document, answer),
         None => answer.push_str("left\n"),
     }
 }
 
-/// Tells the document that a JSON value says, or why it is not one.
+/// Reports the document that a JSON value says, or why it is not one.
 pub(crate) fn read_value(
     alloc: Global,
     script: &Script,
@@ -46,12 +46,12 @@ pub(crate) fn read_value(
     answer: &mut String,
 ) -> Result<(), AllocError> {
     match Value::from_slice(alloc, bytes) {
-        Ok(value) => tell_of_value(alloc, script, domain, &value, answer),
+        Ok(value) => print_of_value(alloc, script, domain, &value, answer),
         Err(_) => answer.push_str("no JSON\n"),
     }
 }
 
-fn tell_of_value(
+fn print_of_value(
     alloc: Global,
     script: &Script,
     domain: &str,
@@ -59,12 +59,12 @@ fn tell_of_value(
     answer: &mut String,
 ) -> Result<(), AllocError> {
     match Document::from_value(alloc, value) {
-        Ok(document) => tell_of_domain(alloc, script, domain, &document, answer),
-        Err(error) => tell(&error, answer),
+        Ok(document) => print_of_domain(alloc, script, domain, &document, answer),
+        Err(error) => print_out(&error, answer),
     }
 }
 
-fn tell_of_domain(
+fn print_of_domain(
     alloc: Global,
     script: &Script,
     domain: &str,
@@ -72,14 +72,14 @@ fn tell_of_domain(
     answer: &mut String,
 ) -> Result<(), AllocError> {
     match TrustDomain::read(alloc, domain) {
-        Ok(domain) => tell_document(alloc, script, &domain, document, answer),
-        Err(error) => tell(&error, answer),
+        Ok(domain) => print_document(alloc, script, &domain, document, answer),
+        Err(error) => print_out(&error, answer),
     }
 }
 
-// Tells the document, which is the same copied, and read from its canonical text in both ways, and
-// from its value.
-fn tell_document(
+// Reports the document, which is the same copied, and read from its canonical text in both ways,
+// and from its value.
+fn print_document(
     alloc: Global,
     script: &Script,
     domain: &TrustDomain,
@@ -118,26 +118,26 @@ impl Seen<'_> {
         document: &Document,
         answers: &mut Answers,
     ) -> Result<(), AllocError> {
-        let mut told = String::new(self.alloc);
-        self.describe(canonical, document, &mut told)?;
-        answers.add(setting, told.as_str())
+        let mut stated = String::new(self.alloc);
+        self.describe(canonical, document, &mut stated)?;
+        answers.add(setting, stated.as_str())
     }
 
     fn describe(
         &self,
         canonical: &[u8],
         document: &Document,
-        told: &mut String,
+        stated: &mut String,
     ) -> Result<(), AllocError> {
         if *document != *self.document {
-            told.push_str("another document\n")?;
+            stated.push_str("another document\n")?;
         }
-        self.script.show(canonical, told)?;
+        self.script.show(canonical, stated)?;
         let id = document.id(self.domain);
         let count = document.authorities().len();
-        write!(told, "\nid {id}\nauthorities {count}\n")?;
-        tell_number("rank", document.rank(), told)?;
-        tell_number("hint", document.hint(), told)
+        write!(stated, "\nid {id}\nauthorities {count}\n")?;
+        print_number("rank", document.rank(), stated)?;
+        print_number("hint", document.hint(), stated)
     }
 
     fn add_copy(&self, answers: &mut Answers) -> Result<(), AllocError> {
@@ -184,14 +184,14 @@ impl Seen<'_> {
     }
 }
 
-fn tell_number(name: &str, number: Option<u64>, told: &mut String) -> Result<(), AllocError> {
+fn print_number(name: &str, number: Option<u64>, stated: &mut String) -> Result<(), AllocError> {
     match number {
-        Some(number) => write!(told, "{name} {number}\n"),
-        None => write!(told, "no {name}\n"),
+        Some(number) => write!(stated, "{name} {number}\n"),
+        None => write!(stated, "no {name}\n"),
     }
 }
 
-/// Tells whether the bytes are the same document as the text of this name.
+/// Reports whether the bytes are the same document as the text of this name.
 pub(crate) fn compare(
     alloc: Global,
     script: &Script,
@@ -201,7 +201,7 @@ pub(crate) fn compare(
 ) -> Result<(), AllocError> {
     match Document::read(alloc, script.text(name).unwrap_or(b"")) {
         Ok(document) => compare_with(alloc, &document, bytes, answer),
-        Err(error) => tell(&error, answer),
+        Err(error) => print_out(&error, answer),
     }
 }
 
@@ -217,11 +217,11 @@ fn compare_with(
         } else {
             "another\n"
         }),
-        Err(error) => tell(&error, answer),
+        Err(error) => print_out(&error, answer),
     }
 }
 
-/// Tells whether the document of the bytes has the key of these digits.
+/// Reports whether the document of the bytes has the key of these digits.
 pub(crate) fn has_key(
     alloc: Global,
     digits: &str,
@@ -232,7 +232,7 @@ pub(crate) fn has_key(
         return answer.push_str("no key id\n");
     };
     match Document::read(alloc, bytes) {
-        Ok(document) => { tell(&yes(document.has_key(&KeyId(key))), answer) }
-        Err(error) => tell(&error, answer),
+        Ok(document) => { print_out(&yes(document.has_key(&KeyId(key))), answer) }
+        Err(error) => print_out(&error, answer),
     }
 }

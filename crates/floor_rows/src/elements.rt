@@ -4,7 +4,7 @@ use row_script::{Answers, Script};
 use serde_json::Value;
 use std::alloc::{AllocError, Global};
 
-/// Tells the authority that an element says: its text and its key id.
+/// Reports the authority that an element says: its text and its key id.
 pub(crate) fn read(
     alloc: Global,
     script: &Script,
@@ -24,12 +24,12 @@ fn read_value(
     answer: &mut String,
 ) -> Result<(), AllocError> {
     match read_element(alloc, element)? {
-        Some(authority) => tell(alloc, script, &authority, answer),
+        Some(authority) => print_out(alloc, script, &authority, answer),
         None => answer.push_str("none\n"),
     }
 }
 
-fn tell(
+fn print_out(
     alloc: Global,
     script: &Script,
     authority: &Authority,
@@ -107,25 +107,25 @@ fn add(
     authority: &Authority,
     answers: &mut Answers,
 ) -> Result<(), AllocError> {
-    let mut told = String::new(alloc);
-    describe(script, text, authority, &mut told)?;
-    answers.add(setting, told.as_str())
+    let mut stated = String::new(alloc);
+    describe(script, text, authority, &mut stated)?;
+    answers.add(setting, stated.as_str())
 }
 
 fn describe(
     script: &Script,
     text: &str,
     authority: &Authority,
-    told: &mut String,
+    stated: &mut String,
 ) -> Result<(), AllocError> {
-    script.show(text.as_bytes(), told)?;
+    script.show(text.as_bytes(), stated)?;
     match authority.key_id() {
-        Some(key) => write!(told, "\nkey {key}\n"),
-        None => told.push_str("\nno key id\n"),
+        Some(key) => write!(stated, "\nkey {key}\n"),
+        None => stated.push_str("\nno key id\n"),
     }
 }
 
-/// Tells a text of the symbols of base64url, and its copy.
+/// Reports a text of the symbols of base64url, and its copy.
 pub(crate) fn read_url_text(
     alloc: Global,
     script: &Script,
@@ -134,14 +134,14 @@ pub(crate) fn read_url_text(
 ) -> Result<(), AllocError> {
     match UrlText::read(alloc, text)? {
         Some(read) => {
-            tell_text(script, read.as_str(), answer)?;
-            tell_equal(read.try_clone()? == read, answer)
+            print_text(script, read.as_str(), answer)?;
+            print_equal(read.try_clone()? == read, answer)
         }
         None => answer.push_str("none\n"),
     }
 }
 
-/// Tells a text that is not empty, and its copy.
+/// Reports a text that is not empty, and its copy.
 pub(crate) fn read_non_empty_text(
     alloc: Global,
     script: &Script,
@@ -150,14 +150,14 @@ pub(crate) fn read_non_empty_text(
 ) -> Result<(), AllocError> {
     match NonEmptyText::read(alloc, text)? {
         Some(read) => {
-            tell_text(script, read.as_str(), answer)?;
-            tell_equal(read.try_clone()? == read, answer)
+            print_text(script, read.as_str(), answer)?;
+            print_equal(read.try_clone()? == read, answer)
         }
         None => answer.push_str("none\n"),
     }
 }
 
-/// Tells the bytes of a certificate, its text and its copy.
+/// Reports the bytes of a certificate, its text and its copy.
 pub(crate) fn read_certificate(
     alloc: Global,
     script: &Script,
@@ -165,12 +165,12 @@ pub(crate) fn read_certificate(
     answer: &mut String,
 ) -> Result<(), AllocError> {
     match Certificate::decode(alloc, text)? {
-        Some(read) => tell_certificate(alloc, script, &read, answer),
+        Some(read) => print_certificate(alloc, script, &read, answer),
         None => answer.push_str("none\n"),
     }
 }
 
-fn tell_certificate(
+fn print_certificate(
     alloc: Global,
     script: &Script,
     certificate: &Certificate,
@@ -178,26 +178,26 @@ fn tell_certificate(
 ) -> Result<(), AllocError> {
     script.show(certificate.as_bytes(), answer)?;
     answer.push_str("\n")?;
-    tell_encoded(alloc, script, certificate, answer)?;
-    tell_equal(certificate.try_clone()? == *certificate, answer)
+    print_encoded(alloc, script, certificate, answer)?;
+    print_equal(certificate.try_clone()? == *certificate, answer)
 }
 
-fn tell_encoded(
+fn print_encoded(
     alloc: Global,
     script: &Script,
     certificate: &Certificate,
     answer: &mut String,
 ) -> Result<(), AllocError> {
     let text = certificate.encode(alloc)?;
-    tell_text(script, text.as_str(), answer)
+    print_text(script, text.as_str(), answer)
 }
 
-fn tell_text(script: &Script, text: &str, answer: &mut String) -> Result<(), AllocError> {
+fn print_text(script: &Script, text: &str, answer: &mut String) -> Result<(), AllocError> {
     script.show(text.as_bytes(), answer)?;
     answer.push_str("\n")
 }
 
-fn tell_equal(is_equal: bool, answer: &mut String) -> Result<(), AllocError> {
+fn print_equal(is_equal: bool, answer: &mut String) -> Result<(), AllocError> {
     answer.push_str(if is_equal {
         "equal to its copy\n"
     } else {

@@ -1,15 +1,15 @@
 //! How causes print.
 use crate::names;
-use crate::words::tell;
+use crate::words::print_out;
 use bundle_doc::DocError;
 use fed_config::ConfigError;
 use std::alloc::AllocError;
 use std::fmt::Display;
 
-/// Tells each cause of each crate.
+/// Reports each cause of each crate.
 pub(crate) fn report_all(answer: &mut String) -> Result<(), AllocError> {
-    names::tell_errors(answer)?;
-    tell_each(
+    names::print_errors(answer)?;
+    print_each(
         &[
             DocError::TooLong,
             DocError::NotJson,
@@ -22,11 +22,11 @@ pub(crate) fn report_all(answer: &mut String) -> Result<(), AllocError> {
         ],
         answer,
     )?;
-    tell_configurations(answer)
+    print_configurations(answer)
 }
 
-fn tell_configurations(answer: &mut String) -> Result<(), AllocError> {
-    tell_each(
+fn print_configurations(answer: &mut String) -> Result<(), AllocError> {
+    print_each(
         &[
             ConfigError::NotJson,
             ConfigError::Shape,
@@ -42,9 +42,9 @@ fn tell_configurations(answer: &mut String) -> Result<(), AllocError> {
     )
 }
 
-fn tell_each<E: Display>(errors: &[E], answer: &mut String) -> Result<(), AllocError> {
+fn print_each<E: Display>(errors: &[E], answer: &mut String) -> Result<(), AllocError> {
     for error in errors {
-        tell(error, answer)?;
+        print_out(error, answer)?;
     }
     Ok(())
 }

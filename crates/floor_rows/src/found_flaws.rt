@@ -1,4 +1,4 @@
-//! What is wrong in what was refused, and where.
+//! What is wrong in what was refused, and at which place.
 use fault_view::{find_flaw, is_ignored, json_fault, push_quoted};
 use fed_config::Config;
 use serde_json::Value;

@@ -2,22 +2,22 @@
 use cert_key::{CertParts, moment_text, name_text, read_certificate};
 use std::alloc::{AllocError, Global};
 
-/// Tells the parts of a certificate.
+/// Reports the parts of a certificate.
 pub(crate) fn read(alloc: Global, der: &[u8], answer: &mut String) -> Result<(), AllocError> {
     match read_certificate(der) {
-        Some(parts) => tell(alloc, &parts, answer),
+        Some(parts) => print_out(alloc, &parts, answer),
         None => answer.push_str("none\n"),
     }
 }
 
-fn tell(alloc: Global, parts: &CertParts<'_>, answer: &mut String) -> Result<(), AllocError> {
+fn print_out(alloc: Global, parts: &CertParts<'_>, answer: &mut String) -> Result<(), AllocError> {
     let public_key = hex::encode(alloc, parts.public_key)?;
     let subject = hex::encode(alloc, parts.subject)?;
     write!(answer, "public key {public_key}\nsubject {subject}\n")?;
     write!(answer, "from {} to {}\n", parts.not_before, parts.not_after)
 }
 
-/// Tells the text of a name.
+/// Reports the text of a name.
 pub(crate) fn read_name(alloc: Global, der: &[u8], answer: &mut String) -> Result<(), AllocError> {
     match name_text(alloc, der)? {
         Some(text) => write!(answer, "text {text}\n"),
@@ -25,7 +25,7 @@ pub(crate) fn read_name(alloc: Global, der: &[u8], answer: &mut String) -> Resul
     }
 }
 
-/// Tells the text of a time, which is given in seconds.
+/// Reports the text of a time, which is given in seconds.
 pub(crate) fn read_moment(
     alloc: Global,
     seconds: &str,

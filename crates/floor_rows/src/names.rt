@@ -1,5 +1,5 @@
 //! Names of trust domains and SPIFFE IDs.
-use crate::words::tell;
+use crate::words::print_out;
 use row_script::Script;
 use spiffe_name::{NameError, SpiffeId, TrustDomain};
 use std::alloc::{AllocError, Global};
@@ -7,7 +7,7 @@ use std::cmp::Ordering;
 use std::collections::{BTreeSet, HashSet};
 use std::hash::Hash;
 
-/// Tells the name that the text is, or why it is not one.
+/// Reports the name that the text is, or why it is not one.
 pub(crate) fn read_domain(
     alloc: Global,
     script: &Script,
@@ -16,11 +16,11 @@ pub(crate) fn read_domain(
 ) -> Result<(), AllocError> {
     match TrustDomain::read(alloc, text) {
         Ok(domain) => show_line(script, "domain", domain.as_str(), answer),
-        Err(error) => tell(&error, answer),
+        Err(error) => print_out(&error, answer),
     }
 }
 
-/// Tells the ID that the text is, with its parts, or why it is not one.
+/// Reports the ID that the text is, with its parts, or why it is not one.
 pub(crate) fn read_id(
     alloc: Global,
     script: &Script,
@@ -29,7 +29,7 @@ pub(crate) fn read_id(
 ) -> Result<(), AllocError> {
     match SpiffeId::read(alloc, text) {
         Ok(id) => show_id(script, &id, answer),
-        Err(error) => tell(&error, answer),
+        Err(error) => print_out(&error, answer),
     }
 }
 
@@ -50,7 +50,7 @@ fn show_line(
     answer.push_str("\n")
 }
 
-/// Tells how the first name compares with the second, and which of its copy and the second are
+/// Reports how the first name compares with the second, and which of its copy and the second are
 /// found in sets of it.
 pub(crate) fn domains_in_sets(
     alloc: Global,
@@ -60,7 +60,7 @@ pub(crate) fn domains_in_sets(
 ) -> Result<(), AllocError> {
     match TrustDomain::read(alloc, second) {
         Ok(second) => domain_in_sets(alloc, first, &second, answer),
-        Err(error) => tell(&error, answer),
+        Err(error) => print_out(&error, answer),
     }
 }
 
@@ -72,7 +72,7 @@ fn domain_in_sets(
 ) -> Result<(), AllocError> {
     match TrustDomain::read(alloc, first) {
         Ok(first) => copy_domain_in_sets(alloc, &first, second, answer),
-        Err(error) => tell(&error, answer),
+        Err(error) => print_out(&error, answer),
     }
 }
 
@@ -82,12 +82,12 @@ fn copy_domain_in_sets(
     second: &TrustDomain,
     answer: &mut String,
 ) -> Result<(), AllocError> {
-    tell_order(first, second, answer)?;
-    tell_ordered(alloc, first.try_clone(alloc)?, first, second, answer)?;
-    tell_hashed(alloc, first.try_clone(alloc)?, first, second, answer)
+    print_order(first, second, answer)?;
+    print_ordered(alloc, first.try_clone(alloc)?, first, second, answer)?;
+    print_hashed(alloc, first.try_clone(alloc)?, first, second, answer)
 }
 
-/// The same of IDs.
+/// The same for IDs.
 pub(crate) fn ids_in_sets(
     alloc: Global,
     first: &str,
@@ -96,7 +96,7 @@ pub(crate) fn ids_in_sets(
 ) -> Result<(), AllocError> {
     match SpiffeId::read(alloc, second) {
         Ok(second) => id_in_sets(alloc, first, &second, answer),
-        Err(error) => tell(&error, answer),
+        Err(error) => print_out(&error, answer),
     }
 }
 
@@ -108,7 +108,7 @@ fn id_in_sets(
 ) -> Result<(), AllocError> {
     match SpiffeId::read(alloc, first) {
         Ok(first) => copy_id_in_sets(alloc, &first, second, answer),
-        Err(error) => tell(&error, answer),
+        Err(error) => print_out(&error, answer),
     }
 }
 
@@ -118,19 +118,19 @@ fn copy_id_in_sets(
     second: &SpiffeId,
     answer: &mut String,
 ) -> Result<(), AllocError> {
-    tell_order(first, second, answer)?;
-    tell_copy(alloc, first, answer)?;
-    tell_ordered(alloc, first.try_clone(alloc)?, first, second, answer)?;
-    tell_hashed(alloc, first.try_clone(alloc)?, first, second, answer)
+    print_order(first, second, answer)?;
+    print_copy(alloc, first, answer)?;
+    print_ordered(alloc, first.try_clone(alloc)?, first, second, answer)?;
+    print_hashed(alloc, first.try_clone(alloc)?, first, second, answer)
 }
 
-fn tell_copy(alloc: Global, id: &SpiffeId, answer: &mut String) -> Result<(), AllocError> {
+fn print_copy(alloc: Global, id: &SpiffeId, answer: &mut String) -> Result<(), AllocError> {
     let copy = id.try_clone(alloc)?;
     let path = copy.path();
     write!(answer, "copy's path {path}\n")
 }
 
-fn tell_order<T: Ord>(first: &T, second: &T, answer: &mut String) -> Result<(), AllocError> {
+fn print_order<T: Ord>(first: &T, second: &T, answer: &mut String) -> Result<(), AllocError> {
     answer.push_str(match first.cmp(second) {
         Ordering::Less => "less\n",
         Ordering::Equal => "equal\n",
@@ -138,7 +138,7 @@ fn tell_order<T: Ord>(first: &T, second: &T, answer: &mut String) -> Result<(), 
     })
 }
 
-fn tell_ordered<T: Ord + Drop>(
+fn print_ordered<T: Ord + Drop>(
     alloc: Global,
     copy: T,
     first: &T,
@@ -147,10 +147,10 @@ fn tell_ordered<T: Ord + Drop>(
 ) -> Result<(), AllocError> {
     let mut set = BTreeSet::new(alloc);
     set.insert(copy)?;
-    tell_found("ordered", set.contains(first), set.contains(second), answer)
+    print_found("ordered", set.contains(first), set.contains(second), answer)
 }
 
-fn tell_hashed<T: Hash + Eq + Drop>(
+fn print_hashed<T: Hash + Eq + Drop>(
     alloc: Global,
     copy: T,
     first: &T,
@@ -159,10 +159,10 @@ fn tell_hashed<T: Hash + Eq + Drop>(
 ) -> Result<(), AllocError> {
     let mut set = HashSet::new(alloc);
     set.insert(copy)?;
-    tell_found("hashed", set.contains(first), set.contains(second), answer)
+    print_found("hashed", set.contains(first), set.contains(second), answer)
 }
 
-fn tell_found(
+fn print_found(
     set: &str,
     has_first: bool,
     has_second: bool,
@@ -174,8 +174,8 @@ fn tell_found(
     )
 }
 
-/// Tells each cause.
-pub(crate) fn tell_errors(answer: &mut String) -> Result<(), AllocError> {
+/// Reports each cause.
+pub(crate) fn print_errors(answer: &mut String) -> Result<(), AllocError> {
     for error in [
         NameError::Empty,
         NameError::TooLong,
@@ -184,7 +184,7 @@ pub(crate) fn tell_errors(answer: &mut String) -> Result<(), AllocError> {
         NameError::BadPath(21),
         NameError::NoMemory,
     ] {
-        tell(&error, answer)?;
+        print_out(&error, answer)?;
     }
     Ok(())
 }

@@ -19,7 +19,7 @@ pub(crate) fn add_line<D: Display>(
     answers.add(setting, text.as_str())
 }
 
-/// Tells something on a line of its own.
-pub(crate) fn tell<D: Display>(line: &D, answer: &mut String) -> Result<(), AllocError> {
+/// Reports something on a line of its own.
+pub(crate) fn print_out<D: Display>(line: &D, answer: &mut String) -> Result<(), AllocError> {
     write!(answer, "{line}\n")
 }

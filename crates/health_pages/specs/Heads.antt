@@ -71,11 +71,11 @@ abbrev pub asked_by : (method target : List ℕ) → (fine : Bool)
 asked_by method target fine = if is_get method || is_head method
     then asked_with (page_at target) fine else Err BadMethod
 
--- the same of a whole head
+-- the same for a whole head
 abbrev pub asked_of : RequestHead → Result (Page × Option (List ℕ)) PageFault
 asked_of h = asked_by h.method h.target (are_fine h.minor (map name_and_value h.fields))
 
--- the same of what is read
+-- the same for what is read
 abbrev pub result_view : Result AskedPage PageFault → Result (Page × Option (List ℕ)) PageFault
 result_view (Ok asked) = Ok (asked_view asked)
 result_view (Err fault) = Err fault

@@ -61,6 +61,6 @@ page_or_graph None target = graph_at target
 abbrev pub page_at : List ℕ → Option (Page × Option (List ℕ))
 page_at target = page_or_graph (page_of target) target
 
--- the same of what is read
+-- the same for what is read
 abbrev pub asked_view : AskedPage → Page × Option (List ℕ)
 asked_view asked = (asked.page, option_map (λ domain. domain.now) asked.domain)

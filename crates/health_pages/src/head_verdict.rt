@@ -17,7 +17,7 @@ const MOST_FIELDS: usize = 64;
 pub struct HeadVerdict<'a> {
     /// Whether the method is HEAD: then the response has no body.
     pub is_head: bool,
-    /// The page, or why there is none.
+    /// The page, or why there is no page.
     pub asked: Result<AskedPage<'a>, PageFault>,
 }
 

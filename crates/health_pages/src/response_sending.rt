@@ -28,7 +28,7 @@ impl ResponseSending {
         }
     }
 
-    /// How many bytes the response has, as far as 64 bits tell.
+    /// How many bytes the response has, at most 2^64 - 1.
     pub fn bytes(&self) -> u64 {
         let head = self.response.head.len() as u64;
         head.saturating_add(self.response.body.len() as u64)

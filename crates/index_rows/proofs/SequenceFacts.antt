@@ -48,7 +48,7 @@ less_from x n h =
           ]
     ]
 
--- The same of `Greater`.
+-- The same for `Greater`.
 greater_from : (x n : ℕ) → nat_cmp x n ≡ Greater → n < x
 greater_from x n h =
     elim (cases_lt n x) [
@@ -64,7 +64,7 @@ greater_from x n h =
 pub sizes_rise : (items : List ℕ) (n : ℕ) → AllPairs (λ x y. ltb x y ≡ true) items → IsRising (λ item. nat_cmp item n) items
 sizes_rise items n all = order_rises_lem ltb (λ item. nat_cmp item n) items all (size_keeps n)
 
--- A number that is inserted where it was missing leaves them sorted.
+-- A missing number that is inserted in its place leaves them sorted.
 pub sizes_insert : (items : List ℕ) (at n : ℕ) → AllPairs (λ x y. ltb x y ≡ true) items → IsMissing (λ item. nat_cmp item n) items at
     → AllPairs (λ x y. ltb x y ≡ true) (insert items at n)
 sizes_insert items at n all missing =

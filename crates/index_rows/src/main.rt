@@ -1,5 +1,5 @@
 //! The program `index_rows`: it reads rows from standard input, builds nets of nodes and labels and
-//! sequences of numbers, and prints what each row came to.
+//! sequences of numbers, and prints the result of each row.
 #![tactic(auto)]
 
 mod nets;

@@ -1,10 +1,10 @@
-//! Nets of nodes and labels. Each helper tests what its call requires, and tells if it does not
+//! Nets of nodes and labels. Each helper tests what its call requires, and reports if it does not
 //! hold.
 use row_script::Row;
 use std::alloc::AllocError;
 use wait_index::{LabelNo, NodeNo, Reach};
 
-/// Does to the net what a row asks, and tells what came of it.
+/// Does to the net what a row asks, and reports what came of it.
 pub(crate) fn change(
     reach: &mut Reach,
     row: &Row<'_>,
@@ -20,13 +20,13 @@ pub(crate) fn change(
         "chain" => add_chain(reach, number(row.words), answer),
         "mark" => mark(reach, number(row.words), answer),
         "close" => close(reach, number(row.words), answer),
-        "state" => tell_state(reach, answer),
-        "counts" => tell_counts(reach, answer),
+        "state" => print_state(reach, answer),
+        "counts" => print_counts(reach, answer),
         _ => answer.push_str("unknown verb\n"),
     }
 }
 
-/// The number that a word says, or 0; `max` is the greatest.
+/// The number that an argument says, or 0; `max` is the greatest.
 pub(crate) fn number(word: &str) -> usize {
     match word {
         "max" => usize::MAX,
@@ -151,7 +151,7 @@ fn close(reach: &mut Reach, label: usize, answer: &mut String) -> Result<(), All
 }
 
 // The marked nodes and the open labels, sorted, and the turns so far.
-fn tell_state(reach: &Reach, answer: &mut String) -> Result<(), AllocError> {
+fn print_state(reach: &Reach, answer: &mut String) -> Result<(), AllocError> {
     answer.push_str("marked")?;
     for node in 0..reach.counts().0 {
         if reach.is_marked(NodeNo::new(node as u32)) {
@@ -159,13 +159,13 @@ fn tell_state(reach: &Reach, answer: &mut String) -> Result<(), AllocError> {
         }
     }
     answer.push_str("\nopen")?;
-    tell_open(reach, answer)?;
+    print_open(reach, answer)?;
     let listed = reach.marked().len();
     let visits = reach.visits();
     write!(answer, "\nlisted {listed}, visits {visits}\n")
 }
 
-fn tell_open(reach: &Reach, answer: &mut String) -> Result<(), AllocError> {
+fn print_open(reach: &Reach, answer: &mut String) -> Result<(), AllocError> {
     for label in 0..reach.label_count() {
         if reach.is_open(LabelNo::new(label as u32)) {
             write!(answer, " {label}")?;
@@ -174,7 +174,7 @@ fn tell_open(reach: &Reach, answer: &mut String) -> Result<(), AllocError> {
     Ok(())
 }
 
-fn tell_counts(reach: &Reach, answer: &mut String) -> Result<(), AllocError> {
+fn print_counts(reach: &Reach, answer: &mut String) -> Result<(), AllocError> {
     let (nodes, offers, waits) = reach.counts();
     let labels = reach.label_count();
     write!(

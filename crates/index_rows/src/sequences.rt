@@ -5,7 +5,7 @@ use crate::nets::number;
 use sorted_order::Order;
 use std::alloc::{AllocError, Global};
 
-/// Inserts this many numbers, each at the front, in the middle or at the end, and tells the
+/// Inserts this many numbers, each at the front, in the middle or at the end, and reports the
 /// sequence by its places, and from a place on.
 pub(crate) fn insert(alloc: Global, words: &str, answer: &mut String) -> Result<(), AllocError> {
     let (insertions, from) = words.split_once(' ').unwrap_or((words, "0"));
@@ -13,11 +13,11 @@ pub(crate) fn insert(alloc: Global, words: &str, answer: &mut String) -> Result<
     for number in 0..number(insertions).min(1_000_000) {
         put(&mut order, number as u32)?;
     }
-    tell_places(&order, answer)?;
-    tell_from(&order, number(from), answer)
+    print_places(&order, answer)?;
+    print_from(&order, number(from), answer)
 }
 
-// Where the next number goes: at the front, in the middle or at the end.
+// The place of the next number: at the front, in the middle or at the end.
 fn place(step: u32, numbers: usize) -> usize
     ensures { result ≤ numbers }
 {
@@ -39,7 +39,7 @@ fn put(order: &mut Order, number: u32) -> Result<(), AllocError> {
 
 // How many numbers there are, the first and the last, and the sum of each with its place, which
 // counts from 1.
-fn tell_places(order: &Order, answer: &mut String) -> Result<(), AllocError> {
+fn print_places(order: &Order, answer: &mut String) -> Result<(), AllocError> {
     let count = order.len();
     write!(answer, "{count} numbers\n")?;
     let mut sum = 0u64;
@@ -53,7 +53,7 @@ fn weighed(at: usize, number: u32) -> u64 {
     (at as u64).wrapping_add(1).wrapping_mul(u64::from(number))
 }
 
-fn tell_from(order: &Order, from: usize, answer: &mut String) -> Result<(), AllocError> {
+fn print_from(order: &Order, from: usize, answer: &mut String) -> Result<(), AllocError> {
     let from = from.min(order.len());
     let mut at = from;
     let mut sum = 0u64;

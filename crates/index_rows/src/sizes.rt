@@ -58,7 +58,7 @@ impl Sizes {
         found.next().is_some()
     }
 
-    fn tell(&self, answer: &mut String) -> Result<(), AllocError> {
+    fn print_out(&self, answer: &mut String) -> Result<(), AllocError> {
         answer.push_str("in order of arrival")?;
         for number in self.arena.items() {
             write!(answer, " {number}")?;
@@ -71,7 +71,7 @@ impl Sizes {
     }
 }
 
-/// Inserts the numbers up to a `/` in turn, tells the different ones in both orders, and which of
+/// Inserts the numbers up to a `/` in turn, reports the different ones in both orders, and which of
 /// the numbers after it are there.
 pub(crate) fn insert(alloc: Global, words: &str, answer: &mut String) -> Result<(), AllocError> {
     let (numbers, sought) = words.split_once(" / ").unwrap_or((words, ""));
@@ -81,8 +81,8 @@ pub(crate) fn insert(alloc: Global, words: &str, answer: &mut String) -> Result<
     for word in numbers.split(' ') {
         add(&mut sizes, word, answer)?;
     }
-    sizes.tell(answer)?;
-    tell_sought(&sizes, sought, answer)
+    sizes.print_out(answer)?;
+    print_sought(&sizes, sought, answer)
 }
 
 fn add(sizes: &mut Sizes, word: &str, answer: &mut String) -> Result<(), AllocError> {
@@ -92,7 +92,7 @@ fn add(sizes: &mut Sizes, word: &str, answer: &mut String) -> Result<(), AllocEr
     Ok(())
 }
 
-fn tell_sought(sizes: &Sizes, words: &str, answer: &mut String) -> Result<(), AllocError> {
+fn print_sought(sizes: &Sizes, words: &str, answer: &mut String) -> Result<(), AllocError> {
     for word in words.split(' ') {
         let is_there = sizes.has(size_of(word));
         write!(answer, "{word} is there: {is_there}\n")?;

@@ -53,7 +53,7 @@ fn push_quoted_digest(out: &mut Vec<u8>, digest: &[u8; 32]) -> Result<(), AllocE
     out.extend_from_slice(b"\"")
 }
 
-/// Adds a number, or `null` if there is none, after its label.
+/// Adds a number, or `null` if there is no number, after its label.
 ///
 /// # Errors
 /// Memory ran out. Nothing is said then of what is there.
@@ -65,7 +65,7 @@ pub fn push_optional(out: &mut Vec<u8>, label: &[u8], number: Option<u64>) -> Re
     push_number_or_null(out, number)
 }
 
-/// Adds a number, or `null` if there is none.
+/// Adds a number, or `null` if there is no number.
 ///
 /// # Errors
 /// Memory ran out. Nothing is said then of what is there.

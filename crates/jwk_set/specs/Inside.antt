@@ -1,2 +1,2 @@
--- Where the bytes of a text lie.
+-- The place of a text's bytes.
 pub mod KeptText

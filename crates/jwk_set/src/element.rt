@@ -23,7 +23,7 @@ use std::alloc::{AllocError, Global};
 /// looked at, so a `kid` in the first role, or an `x5c` in the second, changes nothing.
 ///
 /// If one of these is missing or malformed, or the value is not an object at all, the element says
-/// no authority. That is not an error: the answer is `None`, and the caller goes on to the next
+/// no authority. That is not an error: the answer is `None`, and the caller continues with the next
 /// element.
 ///
 /// # Errors

@@ -167,9 +167,9 @@ impl Model for Certificate {
 }
 
 impl Certificate {
-    /// The certificate that the text is the base64 of (RFC 4648, section 4), or else `None`. In
-    /// such a text padding is where it is due, the unused bits are zero, and at least one byte is
-    /// encoded.
+    /// The certificate that the text is the base64 of (RFC 4648, section 4), or else `None`. Such a
+    /// text has the padding that is due, its unused bits are zero, and it encodes at least one
+    /// byte.
     ///
     /// # Errors
     /// Memory ran out.

@@ -7,8 +7,8 @@ use std::alloc::{AllocError, Global};
 use std::sync::Arc;
 
 /// A text that is kept. One of at most 8 bytes, as most exponents and names of curves are, lies in
-/// the value itself, and any other behind a pointer, where its copies share it. So each value takes
-/// 24 bytes.
+/// the value itself, and any other behind a pointer, shared by its copies. So each value takes 24
+/// bytes.
 #[derive(Debug, Drop)]
 pub(crate) enum KeptText {
     Short(ArrayString<8>),

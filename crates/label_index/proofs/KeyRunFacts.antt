@@ -76,11 +76,11 @@ key-rises labels domain key h = record {
   rising = λ i j d l within.
       let first : Label = get_or labels i d in
       let second : Label = get_or labels j d in
-      let stands : Label → ℕ = λ label. ordering_index (cmp_to_key domain key label) in
+      let placed : Label → ℕ = λ label. ordering_index (cmp_to_key domain key label) in
       let x : Label = record { domain = domain; document = d.document; key = key } in
       elim (cases_order i j) [
         | inl e ↦
-            let f : stands first ≡ stands second = ap (λ k. stands (get_or labels k d)) e in
+            let f : placed first ≡ placed second = ap (λ k. placed (get_or labels k d)) e in
             omega (arith, f)
         | inr c ↦
             elim c [
@@ -160,12 +160,12 @@ equal-from Greater e = absurd (cc)
 
 module _ (stock : ArenaView Label) (domain : ℕ) (key : KeyId) where
   -- how the label with the number compares to those of the key
-  abbrev stands : ℕ → Ordering
-  stands number = compared_at (cmp_to_key domain key) stock.items number
+  abbrev placed : ℕ → Ordering
+  placed number = compared_at (cmp_to_key domain key) stock.items number
 
   -- whether the label with the number is one of the key
   abbrev test : ℕ → Bool
-  test number = is_equal (stands number)
+  test number = is_equal (placed number)
 
   -- No more labels are of the key than there are, so the list of those to be closed has room.
   pub key-fits : Arranges stock.order (length stock.items)
@@ -178,7 +178,7 @@ module _ (stock : ArenaView Label) (domain : ℕ) (key : KeyId) where
   key-numbers h = record {
     within = All-filter test (λ number. number < length stock.items) stock.order h.within;
     exactly = λ number label at.
-        let same : stands number ≡ cmp_to_key domain key label =
+        let same : placed number ≡ cmp_to_key domain key label =
         ap (compared_if (cmp_to_key domain key)) at
         in
         let has : Contains stock.order number =
@@ -187,7 +187,7 @@ module _ (stock : ArenaView Label) (domain : ℕ) (key : KeyId) where
         let k = of_key-compared domain key label in (
           λ c.
               let kept = Contains-from_filter test stock.order number c in
-              k.0 (sym same ∙ equal-from (stands number) kept.1),
+              k.0 (sym same ∙ equal-from (placed number) kept.1),
           λ is. Contains-filter test stock.order number has (ap is_equal (same ∙ k.1 is)),
         );
   }

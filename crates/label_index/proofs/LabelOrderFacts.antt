@@ -85,7 +85,7 @@ rising-from_in_order labels x h = record {
 after-less : (a x : Label) → label_cmp a x ≡ Greater → label_cmp x a ≡ Less
 after-less a x e = label-total.antisymm x a ∙ ap ordering_reverse e
 
--- A label that is missing is put where the search ended, and all are in order.
+-- A label that is missing is put at the place of the search's end, and all are in order.
 pub in_order-insert : (labels : List Label) (place : ℕ) (x : Label) → IsInOrder labels
     → IsMissing (λ a. label_cmp a x) labels place → IsInOrder (insert labels place x)
 in_order-insert labels place x h m i j d l within =

@@ -10,7 +10,7 @@ use Rattle.jwk_set.specs.declared.authority.KeyId.{KeyId}
 use Rattle.sorted_order.specs.ArenaView.{ArenaView}
 use Rattle.wait_index.specs.Index.{Index, Last}
 use Rattle.wait_index.specs.Net.{Net, is_closed, ListsReached, with_node, with_label, with_offer}
-use Rattle.wait_index.specs.Net.{with_wait, with_root, has_wait, visits_of, ClosesIn, TellsFallen}
+use Rattle.wait_index.specs.Net.{with_wait, with_root, has_wait, visits_of, ClosesIn, ReportsFallen}
 use Rattle.label_index.specs.declared.label.Label.{Label}
 
 -- labels are ordered by domain number, key id and document id, so those of a key are together
@@ -160,5 +160,5 @@ pub record Closes (old : LabelIndexView) (IsMeant : Label
   pub work : ClosesIn old.net numbers (visits_of old.net old.marked)
       (visits_of new.net new.marked) count
   pub fewer : visits_of new.net new.marked ≤ visits_of old.net old.marked
-  pub fallen : TellsFallen old.net numbers new.last.fallen new.last.kept new.marked
+  pub fallen : ReportsFallen old.net numbers new.last.fallen new.last.kept new.marked
   pub many : length new.last.fallen + new.last.kept ≡ length old.marked

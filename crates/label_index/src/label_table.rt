@@ -77,7 +77,7 @@ impl LabelTable {
         self.labels.items()
     }
 
-    /// The number of the label, or, as an error, the place in the order where it would be.
+    /// The number of the label, or, as an error, the place that it would have in the order.
     pub(crate) fn find(&self, label: Label) -> Result<u32, usize>
         ensures { FindsNumber (λ item. label_cmp item label) self.now result }
     {

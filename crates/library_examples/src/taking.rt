@@ -43,7 +43,7 @@ fn take_next<C: Closure, R: Source>(
     Ok(true)
 }
 
-/// Takes the receipt of a line, and says what came of it. A replica that serves goes on after a
+/// Takes the receipt of a line, and says what came of it. A replica that serves continues after a
 /// line that is refused.
 fn take_line<C: Closure>(
     alloc: Global,

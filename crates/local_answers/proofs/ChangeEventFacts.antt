@@ -1,4 +1,4 @@
--- What a replica that stays comes to hold, by the events of a world.
+-- What a running replica holds after the events of a world.
 use Rattle.std.proofs.Common.{◌≡◌, ◌≢◌, ℕ, ◌<◌, ◌≤◌, ◌⊎◌, inl, inr, Bool, true, false, ◌&&◌, List, [], ◌∷◌, length, refl, sym, ap, ◌∙◌, subst, arith}
 use Rattle.std.proofs.Common.{append-nil, le-leb, Some}
 use Rattle.std.specs.Prelude.{Contains, slice_get}
@@ -86,7 +86,7 @@ below-all (entry ∷ entries) m =
     below-both (state_of m) (state_of (with_entry entry m)) (state_of (with_entries entries (with_entry entry m)))
     (below-one entry m) (below-all entries (with_entry entry m))
 
--- The configuration stays.
+-- The configuration is unchanged.
 one-config : (entry : Entry) (m : Meaning) → (with_entry entry m).config ≡ m.config
 one-config (Record x) m = refl
 one-config (AReceipt r) m = refl
@@ -151,7 +151,8 @@ record-passes revokes c x known =
 
 -- ---- one event
 
--- A gain within the limits is joined, if the test passes; if it does not, this is the same where nothing is joined.
+-- A gain within the limits is joined if the test passes. If it does not pass, the gain has nothing
+-- new.
 gain-is : (w : World) (i : ℕ) (state gain : State) (b : Bool) → w.now i ≡ state → (b ≡ true) ⊎ (joined state gain ≡ state)
     → is_within_limits (joined state gain) ≡ true → (apply w (where_so b (gains i gain))).now i ≡ joined state gain
 gain-is w i state gain true here h room =
@@ -160,7 +161,7 @@ gain-is w i state gain true here h room =
 gain-is w i state gain false here (inl e) room = absurd (let bad : false ≡ true = e in cc)
 gain-is w i state gain false here (inr same) room = here ∙ sym same
 
--- Nothing else changes in a world where a replica gains.
+-- Nothing else changes in a world when a replica gains.
 pub record OnlyAt (i : ℕ) (old new : World) : Type 0 where
   pub others : (j : ℕ) → j ≢ i → new.now j ≡ old.now j
   pub sent : new.sent ≡ old.sent
@@ -195,7 +196,7 @@ only-run rules (entry ∷ entries) i w =
 
 module _ (takes : (past : WorldRun) (i : ℕ) (r : Receipt) → i < past.replicas → IsFitting past.config r → Gains past (Take i r) i (only_receipt r))
     (revokes : (past : WorldRun) (i : ℕ) (x : Distrust) → i < past.replicas → HasDomain past.config x.domain → Gains past (Revoke i x) i (only_record x)) where
-  -- By the event of an entry it is held, where that is part of what can be held.
+  -- After the event of an entry it is held, if that is part of what can be held.
   entry-is : (c : Configuration) (n i : ℕ) → i < n → (entry : Entry) (m : Meaning) (w : World) (large : State) → w.now i ≡ state_of m
       → IsBelow (state_of (with_entry entry m)) large → IsHoldable c large → (happens (rules_of c n) w (event_of i entry)).now i ≡ state_of (with_entry entry m)
   entry-is c n i l (Record x) m w large here below can =
@@ -217,7 +218,7 @@ module _ (takes : (past : WorldRun) (i : ℕ) (r : Receipt) → i < past.replica
       ])
       (below-within c (state_of (with_entry (AReceipt r) m)) large below can)
 
-  -- By the events of entries they are held, where all of that can be.
+  -- After the events of entries they are held, if all of that can be.
   entries-are : (c : Configuration) (n i : ℕ) → i < n → (entries : List Entry) (m : Meaning) (w : World) → w.now i ≡ state_of m
       → IsHoldable c (state_of (with_entries entries m)) → (run_from (rules_of c n) w (events_of i entries)).now i ≡ state_of (with_entries entries m)
   entries-are c n i l [] m w here can = here

@@ -17,7 +17,8 @@ use Rattle.bundle_view.specs.declared.observation.Verdict.{Verdict}
 use Rattle.replica_core.specs.declared.error.SyncError.{SyncError}
 use Rattle.replica_core.specs.declared.error.SyncError.TheVariants.{Io as StreamFailed}
 use Rattle.replica_texts.specs.Snapshots.{is_io}
-use Rattle.fedbundle.specs.CommandRun.{DeviceRun, StateRun, state_run}
+use Rattle.fedbundle.specs.CommandRun.{StateRun, state_run}
+use Rattle.command_exits.specs.DeviceRuns.{DeviceRun}
 use Rattle.fedbundle.specs.Distrust.{RunsDistrust}
 use Rattle.fedbundle.specs.Observe.{Fetched, IsAsHeld, RefusesToMake}
 use Rattle.command_line.specs.OptionTexts.{SaysFlag}
@@ -26,10 +27,10 @@ use Rattle.command_line.specs.declared.words.WordsError.{WordsError}
 use Rattle.command_line.specs.declared.words.WordsError.TheVariants as no_call
 use Rattle.command_line.specs.declared.command_name.CommandName.TheVariants as command
 use Rattle.command_line.specs.declared.command_name.OptionName.TheVariants.{Domain, DryRun, Verbose}
-use Rattle.fedbundle.specs.declared.error.CommandError.{CommandError}
-use Rattle.fedbundle.specs.declared.error.CommandError.TheVariants.{NoMemory, Observe, Sync, Take}
-use Rattle.fedbundle.specs.declared.exits.Exit.{Exit}
-use Rattle.fedbundle.specs.declared.exits.Exit.TheVariants.{Refused, TooManyBytes, Usage}
+use Rattle.command_exits.specs.declared.error.CommandError.{CommandError}
+use Rattle.command_exits.specs.declared.error.CommandError.TheVariants.{NoMemory, Observe, Sync, Take}
+use Rattle.command_exits.specs.declared.exits.Exit.{Exit}
+use Rattle.command_exits.specs.declared.exits.Exit.TheVariants.{Refused, TooManyBytes, Usage}
 use Rattle.request_lines.specs.RequestLines.{SaysWords}
 use Rattle.request_lines.specs.declared.request_error.RequestError.TheVariants as line_error
 use Rattle.local_answers.specs.Journalling.{JournalsChange}
@@ -52,22 +53,22 @@ use Rattle.local_answers.proofs.RequestFacts.{observe_unmade, same_journalled}
 pub silent : (reply : Reply) (output errors : List ℕ) (status : ℕ) → output ≡ [] → IsWith reply output errors status → IsWith reply [] errors status
 silent reply output errors status nothing with = subst (λ l. IsWith reply l errors status) nothing with
 
--- a complaint beside it
-pub complained : (output errors : List ℕ) (result : Result Reply AllocError) → output ≡ [] → IfOk result (λ reply. IsWith reply output errors 2)
+-- an error text, and no output
+pub line_errors_named : (output errors : List ℕ) (result : Result Reply AllocError) → output ≡ [] → IfOk result (λ reply. IsWith reply output errors 2)
     → IfOk result (RepliesByKind false)
-complained output errors (Ok reply) nothing with =
+line_errors_named output errors (Ok reply) nothing with =
     subst (λ l. IsWith reply [] l 2) (sym with.errors) (silent reply output errors 2 nothing with)
-complained output errors (Err e) nothing with = tt
+line_errors_named output errors (Err e) nothing with = tt
 
--- an output, and nothing beside it
+-- an output, and no error text
 pub printed : (output errors : List ℕ) (result : Result Reply AllocError) → errors ≡ [] → IfOk result (λ reply. IsWith reply output errors 0)
     → IfOk result (RepliesByKind true)
 printed output errors (Ok reply) nothing with =
     subst (λ l. IsWith reply l [] 0) (sym with.output) (subst (λ l. IsWith reply output l 0) nothing with)
 printed output errors (Err e) nothing with = tt
 
--- The error of reading words is replied, and tells what they are: for clap they are at fault, or they
--- are not a call.
+-- The error of reading arguments is replied, and says what they are: clap refuses them, or they are
+-- not a call.
 pub said_of_words : (Refuses : WordsError → Type 0) (spelt words : List (List ℕ)) (error : WordsError) (reply : Reply) → spelt ≡ words
     → ((e : Error) → Refuses (no_call.Words e) → IsAmong (kind_of e) (fault_of the_command spelt))
     → (Refuses no_call.Usage → IsNoRequest spelt) → Refuses error → RepliesToError error reply → SaysOfWords words reply
@@ -91,21 +92,21 @@ some_help DisplayHelp one = refl
 some_help DisplayVersion one = refl
 some_help kind one = absurd (one (other_kind kind DisplayHelp refl refl, other_kind kind DisplayVersion refl refl))
 
--- Clap's answer tells which it is.
-pub complains : (kind : ErrorKind) (told : Bool) → told ≡ true → (IsTrue told ↔ ((kind ≢ DisplayHelp) × (kind ≢ DisplayVersion)))
+-- Clap's answer says which it is.
+pub names_line_errors : (kind : ErrorKind) (stated : Bool) → stated ≡ true → (IsTrue stated ↔ ((kind ≢ DisplayHelp) × (kind ≢ DisplayVersion)))
     → is_help kind ≡ false
-complains kind told is both = no_help kind (both.0 is)
+names_line_errors kind stated is both = no_help kind (both.0 is)
 
-pub helps : (kind : ErrorKind) (told : Bool) → told ≡ false → (IsTrue told ↔ ((kind ≢ DisplayHelp) × (kind ≢ DisplayVersion)))
+pub helps : (kind : ErrorKind) (stated : Bool) → stated ≡ false → (IsTrue stated ↔ ((kind ≢ DisplayHelp) × (kind ≢ DisplayVersion)))
     → is_help kind ≡ true
-helps kind told is both = some_help kind (λ neither. both_ways told is (both.1 neither))
+helps kind stated is both = some_help kind (λ neither. both_ways stated is (both.1 neither))
 
 -- nothing is journalled for what clap shows
 by_kind_unjournalled : (helps : Bool) (reply : Reply) → RepliesByKind helps reply → reply.journal.items ≡ []
 by_kind_unjournalled true reply with = with.unjournalled
 by_kind_unjournalled false reply with = with.unjournalled
 
--- nor for words that are not a call
+-- nor for arguments that are not a call
 pub error_unjournalled : (error : WordsError) (reply : Reply) → RepliesToError error reply → reply.journal.items ≡ []
 error_unjournalled (no_call.Words e) reply replied = by_kind_unjournalled (is_help (kind_of e)) reply replied
 error_unjournalled no_call.Usage reply ended = ended.2.unjournalled
@@ -113,7 +114,7 @@ error_unjournalled no_call.NoMemory reply replied = absurd replied
 
 -- ---- `observe`
 
--- where no receipt is made, by the exit
+-- if no receipt is made, by the exit
 pub observe_prevented : (s : HeldAndRoom) (source : DeviceRun) (input : List ℕ) (fetched : Fetched) (e : CommandError) (exit : Exit)
     → exit ≡ memory_exit e → source.before ≡ Some input → RefusesToMake source s.meaning fetched e
     → EndsObserve (change_run (state_run s s) input) fetched exit
@@ -126,7 +127,7 @@ observe_unchanged run fetched (Refused (Observe e)) ends = ends.runs.refused.unc
 observe_unchanged run fetched (Refused NoMemory) ends = ends
 observe_unchanged run fetched exit ends = absurd ends
 
--- what was fetched, as the words say it
+-- what was fetched, as the arguments say it
 pub says_fetched : (run : CallRun) (domain text : List ℕ) (verdict : Verdict) → said run Domain ≡ Some text
     → (domain ≡ text) × IsDomainText text → SaysVerdict run.name run.texts verdict
     → SaysFetched run (record { domain = domain; verdict = verdict })
@@ -135,7 +136,7 @@ says_fetched run domain text verdict given read says =
 
 -- ---- `merge`
 
--- an error of a failed source tells that it failed
+-- an error of a failed source says that it failed
 pub source_failed : (T : Type 0) (e : SyncError) (new old : Bool) → new ≡ (is_io {T = T} (Err e) || old) → e ≡ StreamFailed → new ≡ true
 source_failed T e new old fault io = fault ∙ ap (λ w. is_io {T = T} (Err w) || old) io
 
@@ -147,7 +148,7 @@ merge_unchanged run (Refused (Take e)) ends = ends.runs.refused.unchanged.meanin
 merge_unchanged run (Refused NoMemory) ends = ends
 merge_unchanged run exit ends = absurd ends
 
--- a fault of the stream, or another refusal of it
+-- an error of the stream, or another refusal of it
 pub exit_of_sync : (e : SyncError) → (e ≡ StreamFailed → ⊥) → Refused (Sync e) ≡ exit_of_unread e
 exit_of_sync StreamFailed other = absurd (other refl)
 exit_of_sync e other = refl
@@ -167,8 +168,8 @@ distrust_unchanged state x (Refused NoMemory) ends = ends
 distrust_unchanged state x exit ends = absurd ends
 
 -- what a flag's text says
-pub flag_said : (text told : Option (List ℕ)) (flag value : Bool) → text ≡ told → SaysFlag text flag → flag ≡ value → SaysFlag told value
-flag_said text told flag value same says is = subst (SaysFlag told) is (subst (λ t. SaysFlag t flag) same says)
+pub flag_said : (text stated : Option (List ℕ)) (flag value : Bool) → text ≡ stated → SaysFlag text flag → flag ≡ value → SaysFlag stated value
+flag_said text stated flag value same says is = subst (SaysFlag stated) is (subst (λ t. SaysFlag t flag) same says)
 
 -- ---- calls
 
@@ -182,7 +183,7 @@ pub observe_called : (run : CallRun) (fetched : Fetched) (result : Result Reply 
 observe_called run fetched (Ok reply) says answers = record { fetched = fetched; says = says; answers = answers }
 observe_called run fetched (Err exit) says answers = tt
 
--- the same of how it ends
+-- the same for how it ends
 pub observe_call_ends : (run : CallRun) (fetched : Fetched) (result : Result Reply Exit) → SaysFetched run fetched
     → IfErr result (EndsObserve run.change fetched) → IfErr result (Ends command.Observe run)
 observe_call_ends run fetched (Ok reply) says ends = tt
@@ -193,10 +194,10 @@ pub within_room : (run : CallRun) (room : ℕ) → LeavesRoom run.name run.texts
 within_room run room is low = record { room = room; is_room = is; within = low }
 
 -- the input was too long
-pub not_within : (told : Bool) (count room : ℕ) → (IsTrue told ↔ (count ≤ room)) → told ≡ false → room < count
-not_within told count room both is = elim (cases_lt room count) [
+pub not_within : (stated : Bool) (count room : ℕ) → (IsTrue stated ↔ (count ≤ room)) → stated ≡ false → room < count
+not_within stated count room both is = elim (cases_lt room count) [
   | inl over ↦ over
-  | inr high ↦ absurd (both_ways told is (both.1 (omega (arith, high))))
+  | inr high ↦ absurd (both_ways stated is (both.1 (omega (arith, high))))
 ]
 
 -- what `merge` answers, as the answer of its call
@@ -222,7 +223,7 @@ pub dry_run_called : (run : CallRun) (result : Result Reply Exit) → SaysFlag (
 dry_run_called run (Ok reply) dry answers = record { dry = true; is_dry = dry; answers = answers }
 dry_run_called run (Err exit) dry answers = tt
 
--- the same of how it ends
+-- the same for how it ends
 pub dry_run_ends : (run : CallRun) (result : Result Reply Exit) → SaysFlag (said run DryRun) true
     → IfErr result (EndsOver run) → IfErr result (Ends command.Distrust run)
 dry_run_ends run (Ok reply) dry ends = tt
@@ -240,14 +241,14 @@ distrust_called run x verbose (Ok reply) says lasting flag held = record {
 }
 distrust_called run x verbose (Err exit) says lasting flag held = tt
 
--- the same of how it ends
+-- the same for how it ends
 pub distrust_call_ends : (run : CallRun) (x : Distrust) (result : Result Reply Exit) → SaysRecord run.name run.texts x
     → SaysFlag (said run DryRun) false → IfErr result (EndsDistrust run.change.state x) → IfErr result (Ends command.Distrust run)
 distrust_call_ends run x (Ok reply) says lasting ends = tt
 distrust_call_ends run x (Err exit) says lasting ends =
     inr (record { dry = false; is_dry = lasting; ends = inr (record { x = x; says = says; ends = ends }) })
 
--- where nothing is journalled and nothing has changed
+-- if nothing is journalled and nothing has changed
 pub none_journalled : (state : HeldAndRoom) (result : Result Reply Exit) → IfOk result (λ reply. reply.journal.items ≡ [])
     → IfOk result (λ reply. JournalsChange reply.journal.items (state_run state state))
 none_journalled state (Ok reply) none = same_journalled state state reply.journal.items none refl
@@ -255,7 +256,7 @@ none_journalled state (Err exit) none = tt
 
 -- ---- requests
 
--- what is replied to a call is replied to the line of its words
+-- what is replied to a call is replied to the line of its arguments
 pub line_called : (line : List ℕ) (words : List (List ℕ)) (run : CallRun) (result : Result Reply RequestFault) → SaysWords line words
     → CallsInRequest words run.name run.texts → IfOk result (RepliesToCall run) → IfOk result (RepliesTo line run.running run.change)
 line_called line words run (Ok reply) says calls replied = record {
@@ -265,17 +266,17 @@ line_called line words run (Ok reply) says calls replied = record {
 }
 line_called line words run (Err fault) says calls replied = tt
 
--- out of memory is a fault of any line
+-- out of memory is an error of any line
 pub lacks_memory : (line : List ℕ) (fault : RequestFault) → fault ≡ request_fault.NoMemory → RefusesWordsLine line fault
 lacks_memory line fault is = record { why = line_error.NoMemory; refused = tt; is = is }
 
--- the same of a result
+-- the same for a result
 pub result_lacks_memory : (line : List ℕ) (result : Result Reply RequestFault) → IfErr result (λ fault. fault ≡ request_fault.NoMemory)
     → IfErr result (RefusesWordsLine line)
 result_lacks_memory line (Ok reply) is = tt
 result_lacks_memory line (Err fault) is = lacks_memory line fault is
 
--- one more word was taken: the step of the loop in `texts_of_words`
+-- one more argument was taken: the step of the loop in `texts_of_words`
 pub word_more : {X : Type 0} (f : X → List ℕ) (xs : List X) (k : ℕ) (x : X) → k < length xs → x ≡ get_or xs k x
     → (old new : List (List ℕ)) (text : List ℕ) → new ≡ old ++ text ∷ [] → f x ≡ text
     → new ++ map f (drop (k + 1) xs) ≡ old ++ map f (drop k xs)

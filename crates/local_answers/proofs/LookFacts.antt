@@ -1,14 +1,14 @@
--- What is replied where nothing can be changed.
+-- What is replied if nothing can be changed.
 use Rattle.std.proofs.Common.{◌⊎◌, ℕ, false, List, inl, inr, Result, Ok, Err, IfErr, IfOk}
 use Rattle.command_line.specs.Words.{CallsInRequest}
-use Rattle.fedbundle.specs.declared.exits.Exit.{Exit}
+use Rattle.command_exits.specs.declared.exits.Exit.{Exit}
 use Rattle.request_lines.specs.RequestLines.{SaysWords}
 use Rattle.local_answers.specs.Looking.{AnswersLook, Changes, EndsLook, LooksAtCall, RepliesToLook}
 use Rattle.local_answers.specs.RequestRun.{AnswersShown, CallRun, EndsOver}
 use Rattle.local_answers.specs.declared.reply.Reply.{Reply}
 use Rattle.local_answers.specs.declared.request_fault.RequestFault.{RequestFault}
 
--- what is replied to a call is replied to the line of its words
+-- what is replied to a call is replied to the line of its arguments
 pub line_looked : (line : List ℕ) (words : List (List ℕ)) (run : CallRun) (result : Result Reply RequestFault) → SaysWords line words
     → CallsInRequest words run.name run.texts → IfOk result (LooksAtCall run) → IfOk result (RepliesToLook line run.running run.change)
 line_looked line words run (Ok reply) says calls replied = record {
@@ -23,7 +23,7 @@ pub look_answered : (run : CallRun) (result : Result Reply Exit) → Changes run
 look_answered run (Ok reply) looks shows = record { looks = looks; shows = shows }
 look_answered run (Err exit) looks shows = tt
 
--- the same of how it ends
+-- the same for how it ends
 pub look_ended : (run : CallRun) (result : Result Reply Exit) → Changes run false → IfErr result (EndsOver run)
     → IfErr result (EndsLook run)
 look_ended run (Ok reply) looks ends = tt

@@ -1,4 +1,5 @@
--- The lines of what is new: which items of another set are not in this one, and what they make with it.
+-- The lines of what is new: which items of another set are not in this one, and what they make with
+-- it.
 use Rattle.std.proofs.Common.{◌≡◌, ℕ, ◌+◌, ◌≤◌, inl, inr, List, [], ◌∷◌, ◌++◌, length, map, flat_map, refl, sym, ap, ◌∙◌, subst, arith}
 use Rattle.std.proofs.Common.{append_assoc, append-nil}
 use Rattle.std.specs.declared.cmp.Ordering.{Ordering}
@@ -30,14 +31,14 @@ use Rattle.local_answers.specs.Inside.NewLineSteps.{AreReceiptLines, AreRecordLi
 all_without : {X : Type 0} (P : X → Type 0) (xs ys : List X) (x : X) → AllByRecursion P (xs ++ x ∷ ys) → AllByRecursion P (xs ++ ys)
 all_without P xs ys x h = all_append P xs ys (all_front P xs (x ∷ ys) h) (all_back P xs (x ∷ ys) h).1
 
--- a rising list rises without one of its items
+-- a sorted list is sorted without one of its items
 rising_without : {X : Type 0} (cmp : X → X → Ordering) (xs ys : List X) (x : X) → IsStrictlySortedBy cmp (xs ++ x ∷ ys) → IsStrictlySortedBy cmp (xs ++ ys)
 rising_without cmp [] ys x h = rising_tail cmp x ys h
 rising_without cmp (z ∷ zs) ys x h =
     rising_cons cmp z (zs ++ ys) (all_without (λ y. cmp z y ≡ Less) zs ys x (rising_head cmp z (zs ++ x ∷ ys) h))
     (rising_without cmp zs ys x (rising_tail cmp z (zs ++ x ∷ ys) h))
 
--- the front of a rising list rises
+-- the front of a sorted list is sorted
 rising_front : {X : Type 0} (cmp : X → X → Ordering) (xs ys : List X) → IsStrictlySortedBy cmp (xs ++ ys) → ys ≡ [] → IsStrictlySortedBy cmp xs
 rising_front cmp xs ys h none = subst (IsStrictlySortedBy cmp) (ap (λ l. xs ++ l) none ∙ append-nil xs) h
 
@@ -81,7 +82,7 @@ sift_new P cmp set all rest later new x e lacks sifted =
       fresh = all_append (λ y. Contains set y → ⊥) new (x ∷ []) sifted.fresh (lacks, tt);
     }
 
--- items that are all new make a set longer by as many
+-- items that are all new make a set longer by their number
 new_count : {X : Type 0} (P : X → Type 0) (cmp : X → X → Ordering) → AreSets P cmp → (xs set : List X) → AllByRecursion P xs → AllByRecursion P set
     → IsStrictlySortedBy cmp xs → AllByRecursion (λ x. Contains set x → ⊥) xs → length (with_items cmp xs set) ≡ length set + length xs
 new_count P cmp sets [] set form those rising fresh = omega arith
@@ -150,7 +151,7 @@ receipt_new m all rest later r text line more count so_far e lacks is grown =
       few = omega arith;
     }
 
--- where nothing is left
+-- when nothing is left
 pub receipts_end : (m other : Meaning) (rest : List Receipt) (text : List ℕ) (count : ℕ) → IsMeaning m
     → SiftsReceipts m other.held rest text count → rest ≡ [] → AreReceiptLines m other text count
 receipts_end m other rest text count is so_far e =
@@ -198,7 +199,7 @@ record_new m all rest later x text line more so_far e lacks is grown = record {
   spelt = lines_more Record so_far.new x text line more so_far.spelt is grown;
 }
 
--- where nothing is left
+-- when nothing is left
 pub records_end : (m other : Meaning) (rest : List Distrust) (text : List ℕ) → SiftsRecords m other.records rest text → rest ≡ [] → AreRecordLines m other text
 records_end m other rest text so_far e = record {
   new = so_far.new;
@@ -263,7 +264,7 @@ line_new m entry text form lacks is = record {
   meaning = refl;
 }
 
--- none, where it is held
+-- none, if it is held
 pub line_held : (m : Meaning) (entry : Entry) (text : List ℕ) → IsMeaning m → HoldsEntry m entry → text ≡ [] → IsLineIfNew m entry text
 line_held m (AReceipt r) text is has none = record {
   entries = [];

@@ -1,17 +1,18 @@
--- Where the line of words ends as more bytes come, and which limits are passed.
+-- The end of the line of arguments as more bytes come, and which limits are passed.
 use Rattle.std.proofs.Common.{◌≡◌, ◌≢◌, ℕ, ◌+◌, ◌≤◌, List, [], ◌∷◌, ◌++◌, length, take, drop, Option, None, Some}
 use Rattle.std.proofs.Common.{Result, Ok, Err, OnOk, OnErr, unwrap_or, sym, ap, ◌∙◌, subst, append_assoc, length-append, length-take, arith}
 use Rattle.std.proofs.Math.Seq.{take-append_seam, drop-append-add}
 use Rattle.std.proofs.lemmas.List.{append-nil}
 use Rattle.std.proofs.lemmas.List.Elements.{All-append}
 use Rattle.byte_lines.specs.Lines.{HasNoFeed}
-use Rattle.byte_lines.specs.Inside.Ahead.{AtFeed, IsFeed}
+use Rattle.byte_lines.specs.Ahead.{AtFeed, IsFeed}
 use Rattle.request_lines.specs.RequestLines.{request_limit}
 use Rattle.local_answers.specs.RequestLimits.{IsBeyondLimit, IsRequest, IsWithin, IsWithinWith, PassesLimit}
 use Rattle.local_answers.specs.declared.request_fault.RequestFault.{RequestFault}
 use Rattle.local_answers.specs.declared.request_fault.RequestFault.TheVariants.{WordsTooLong, InputTooLong}
 
--- bytes that are a text without a line feed, one, and others have their first line feed behind the text
+-- bytes that are a text without a line feed, one, and others have their first line feed behind the
+-- text
 feed_of_split : (bytes text rest : List ℕ) (place : ℕ) → bytes ≡ text ++ 10 ∷ rest → HasNoFeed text → length text ≡ place → IsFeed bytes place
 feed_of_split bytes text rest place parts plain size =
     let front : take place bytes ≡ text = (λ i. take (sym size i) (parts i)) ∙ take-append_seam text (10 ∷ rest) in
@@ -22,14 +23,14 @@ feed_of_split bytes text rest place parts plain size =
       parts = parts ∙ (λ i. sym front i ++ 10 ∷ sym back i);
     }
 
--- a line feed that came stays the first one
+-- a line feed that came is still the first one
 pub feed_stays : (bytes piece : List ℕ) (place : ℕ) → IsFeed bytes place → IsFeed (bytes ++ piece) place
 feed_stays bytes piece place feed =
     feed_of_split (bytes ++ piece) (take place bytes) (drop (place + 1) bytes ++ piece) place
     (ap (λ l. l ++ piece) feed.parts ∙ append_assoc (take place bytes) (10 ∷ drop (place + 1) bytes) piece)
     feed.plain (omega (arith, length-take place bytes, feed.inside))
 
--- where none came before, the first one of the piece is the first one of all
+-- if none came before, the first one of the piece is the first one of all
 pub feed_comes : (bytes piece : List ℕ) (place : ℕ) → HasNoFeed bytes → IsFeed piece place → IsFeed (bytes ++ piece) (length bytes + place)
 feed_comes bytes piece place plain feed =
     feed_of_split (bytes ++ piece) (bytes ++ take place piece) (drop (place + 1) piece) (length bytes + place)
@@ -37,7 +38,7 @@ feed_comes bytes piece place plain feed =
     (All-append (λ (x : ℕ). x ≢ 10) bytes (take place piece) plain feed.plain)
     (omega (arith, length-append bytes (take place piece), length-take place piece, feed.inside))
 
--- where none comes at all, none is in all
+-- if neither has one, they have none together
 pub feed_misses : (bytes piece : List ℕ) → HasNoFeed bytes → HasNoFeed piece → HasNoFeed (bytes ++ piece)
 feed_misses bytes piece plain more = All-append (λ (x : ℕ). x ≢ 10) bytes piece plain more
 
@@ -77,7 +78,7 @@ request_of bytes place feed within = record {
   );
 }
 
--- the same of what was kept and a piece, counted apart
+-- the same for what was kept and a piece, counted apart
 pub passes_with : (bytes piece : List ℕ) (count : ℕ) (end : Option ℕ) (e : RequestFault) → length bytes + length piece ≡ count
     → AtFeed (bytes ++ piece) end → IsBeyondLimit count end e → PassesLimit (bytes ++ piece) e
 passes_with bytes piece count end e size feed over =
@@ -109,7 +110,7 @@ right_of bytes (Some k) feed within = record {
   within = λ x e. subst (IsWithinWith (length bytes)) (one_of_some k x e) within;
 }
 
--- what is kept stays right, whether the piece was kept or not
+-- what is kept is still right, whether the piece was kept or not
 pub kept_right : {E : Type 0} (result : Result (Unit {0}) E) (old new piece : List ℕ) (old_end new_end end : Option ℕ) (count : ℕ)
     → EndsRight old old_end
     → OnOk result ((new ≡ old ++ piece) × (new_end ≡ end)) → OnErr result ((new ≡ old) × (new_end ≡ old_end))

@@ -1,4 +1,5 @@
--- What a replica holds by the pieces of an answer, as it holds it in a world by taking the answer's first lines.
+-- What a replica holds by the pieces of an answer, as it holds it in a world by taking the answer's
+-- first lines.
 use Rattle.std.proofs.Common.{◌≡◌, ℕ, zero, suc, ◌-◌, ◌<◌, inl, inr, Bool, true, List, [], ◌∷◌, ◌++◌, length, take, refl, sym, ap, ◌∙◌}
 use Rattle.std.proofs.Common.{append-nil, append_assoc, arith, subst, Option, Some}
 use Rattle.std.specs.Prelude.{slice_get}
@@ -48,7 +49,7 @@ all-again : (m : Meaning) → IsMeaning m → (entries : List Entry) → AllByRe
 all-again m valid [] has = refl
 all-again m valid (entry ∷ entries) has = ap (with_entries entries) (held-again m valid entry has.0) ∙ all-again m valid entries has.1
 
--- What is held stays held where no less is.
+-- What is held is still held if no less is.
 still-holds : (m n : Meaning) → IsPartOf (state_of m) (state_of n) → (entry : Entry) → HoldsEntry m entry → HoldsEntry n entry
 still-holds m n part (Record x) has = part.distrusts x has
 still-holds m n part (AReceipt r) has = part.receipts r has
@@ -135,7 +136,8 @@ content-formed content is =
 
 -- ---- one piece
 
--- Of the entries that were done and those that come, these were taken up to the piece c, and the later pieces take the rest.
+-- The entries that were done and those that come: these were taken up to the piece c, and the later
+-- pieces take the rest.
 record IsTurn (back : List PulledPiece) (c : PulledPiece) (done entries : List Entry) : Type 0 where
   pub taken : List Entry
   pub rest : List Entry
@@ -188,7 +190,7 @@ later-turn config (d ∷ front) back c done (entry ∷ entries) before each grow
 
 -- ---- in a world
 
--- the configuration stays
+-- the configuration is unchanged
 piece-config : (config : Configuration) (front back : List PulledPiece) (c : PulledPiece) → AllByRecursion (IsPieceOf config) (front ++ c ∷ back)
     → IsPieceOf config c
 piece-config config [] back c each = each.0
@@ -228,7 +230,7 @@ turn-of config bucket g front back c amid e =
       piece-config config front back c each,
     )
 
--- A piece of an answer is the taking of its first lines, so many of them.
+-- A piece of an answer is the taking of a number of its first lines.
 pub pieces-in-world : (config : Configuration) (bucket n i answerer have place : ℕ) (w : World) (g : PulledGive)
     (front back : List PulledPiece) (c : PulledPiece) → i < n → IsPulledAmid config bucket g → pieces_of g ≡ front ++ c ∷ back → w.now i ≡ state_of c.old
     → slice_get w.sent place ≡ Some (sent_give answerer have g.give)

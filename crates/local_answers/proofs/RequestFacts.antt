@@ -16,14 +16,15 @@ use Rattle.replica_core.specs.declared.entry.Entry.TheVariants.{Record}
 use Rattle.replica_core.specs.declared.error.SyncError.{SyncError}
 use Rattle.replica_core.specs.declared.error.SyncError.TheVariants.{Io as StreamFailed}
 use Rattle.replica_texts.specs.Snapshots.{IsSnapshot, RefusesSnapshot}
-use Rattle.fedbundle.specs.CommandRun.{DeviceRun, HasFailed, run_of, state_run}
+use Rattle.fedbundle.specs.CommandRun.{run_of, state_run}
+use Rattle.command_exits.specs.DeviceRuns.{DeviceRun, HasFailed}
 use Rattle.fedbundle.specs.Distrust.{HoldsRecord}
 use Rattle.fedbundle.specs.Explain.{receipt_line}
 use Rattle.fedbundle.specs.Merge.{count_text}
 use Rattle.fedbundle.specs.Observe.{Fetched, MakesReceipt, RefusesToMake, fetched_bundle}
-use Rattle.fedbundle.specs.declared.error.CommandError.{CommandError}
-use Rattle.fedbundle.specs.declared.error.CommandError.TheVariants.{Io, NoMemory, Observe, Sync, Take}
-use Rattle.fedbundle.specs.declared.exits.Exit.TheVariants.{Refused}
+use Rattle.command_exits.specs.declared.error.CommandError.{CommandError}
+use Rattle.command_exits.specs.declared.error.CommandError.TheVariants.{Io, NoMemory, Observe, Sync, Take}
+use Rattle.command_exits.specs.declared.exits.Exit.TheVariants.{Refused}
 use Rattle.local_answers.specs.Journalling.{AreLinesOfOther, IsLineIfNew, JournalsChange}
 use Rattle.local_answers.specs.RequestRun.{AnswersMerge, AnswersObserve, EndsMerge, EndsObserve, change_run, exit_of_unread, memory_exit}
 
@@ -40,11 +41,11 @@ pub merge_journals : (old new : HeldAndRoom) (other : Meaning) (text : List ℕ)
 merge_journals old new other text receipts count lines merged =
     record { entries = lines.entries; lines = lines.lines; meaning = merged.merged.meaning ∙ sym lines.union }
 
--- none, where nothing has changed
+-- none, if nothing has changed
 pub nothing_journalled : (state : HeldAndRoom) → JournalsChange [] (state_run state state)
 nothing_journalled state = record { entries = []; lines = record { each = tt; fresh = tt; spelt = refl }; meaning = refl }
 
--- the same, where what is held is the same
+-- the same, if what is held is the same
 pub same_journalled : (old new : HeldAndRoom) (text : List ℕ) → text ≡ [] → new.meaning ≡ old.meaning → JournalsChange text (state_run old new)
 same_journalled old new text none same = record { entries = []; lines = record { each = tt; fresh = tt; spelt = none }; meaning = same }
 
@@ -65,11 +66,11 @@ distrust_journals old new x text is line (inr already) =
 abbrev memory_sink : List ℕ → DeviceRun
 memory_sink output = record { before = Some []; after = Some output; had_failed = false; has_failed = false }
 
--- where nothing was done nothing is changed
+-- if nothing was done nothing is changed
 as_before : (s : HeldAndRoom) → IsUnchanged s s
 as_before s = record { meaning = refl; room = record { receipts = omega arith; offers = omega arith } }
 
--- where no receipt is made nothing is observed
+-- if no receipt is made nothing is observed
 pub observe_unmade : (s : HeldAndRoom) (source : DeviceRun) (input : List ℕ) (fetched : Fetched) (e : CommandError) → source.before ≡ Some input
     → RefusesToMake source s.meaning fetched e → EndsObserve (change_run (state_run s s) input) fetched (memory_exit e)
 observe_unmade s source input fetched Io is none = refl
@@ -86,7 +87,7 @@ observe_unmade s source input fetched (Observe why) is none = record {
 }
 observe_unmade s source input fetched e is none = absurd none
 
--- where it is not taken neither
+-- nor if it is not taken
 pub observe_untaken : (old new : HeldAndRoom) (source : DeviceRun) (input : List ℕ) (fetched : Fetched) (r : Receipt) (why : ObserveError)
     → source.before ≡ Some input → (made : MakesReceipt source old.meaning fetched r)
     → HasNotObserved old (fetched_bundle fetched made.bytes) new why
@@ -97,7 +98,7 @@ observe_untaken old new source input fetched r why is made refused = record {
   runs = record { bytes = made.bytes; read = made.read; refused = refused; unwritten = refl };
 }
 
--- where it is taken its line is the output
+-- if it is taken its line is the output
 pub observe_taken : (old new : HeldAndRoom) (source : DeviceRun) (input : List ℕ) (fetched : Fetched) (r : Receipt) (text : List ℕ)
     → source.before ≡ Some input → (made : MakesReceipt source old.meaning fetched r)
     → HasObserved old.meaning (fetched_bundle fetched made.bytes) new.meaning r → text ≡ receipt_line r
@@ -123,7 +124,7 @@ merge_unread s source input why is cause fault = record {
   runs = record { cause = cause; fault = fault; unchanged = refl; unwritten = refl };
 }
 
--- where what it holds is not taken neither
+-- nor if what it holds is not taken
 pub merge_untaken : (old new : HeldAndRoom) (source : DeviceRun) (input : List ℕ) (other : Meaning) (why : TakeError) → source.before ≡ Some input
     → IsSnapshot old.meaning.config source.before other → HasRefusedMerge old other new why
     → EndsMerge (change_run (state_run old new) input) (Refused (Take why))
@@ -133,7 +134,7 @@ merge_untaken old new source input other why is snapshot refused = record {
   runs = record { other = other; snapshot = snapshot; refused = refused; unwritten = refl };
 }
 
--- where it is taken the output counts what was new
+-- if it is taken the output counts what was new
 pub merge_taken : (old new : HeldAndRoom) (source : DeviceRun) (input : List ℕ) (other : Meaning) (text line : List ℕ) (receipts count : ℕ)
     → source.before ≡ Some input → IsSnapshot old.meaning.config source.before other → IsAtEnd source.after
     → AreLinesOfOther old.meaning other text receipts → HasMergedInRoom old other new count → line ≡ count_text receipts

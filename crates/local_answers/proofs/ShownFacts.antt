@@ -3,10 +3,11 @@ use Rattle.std.proofs.Common.{◌≡◌, ◌⊎◌, inl, inr, ℕ, ℤ, Bool, Li
 use Rattle.std.proofs.Common.{true, false, refl, sym, ap, ◌∙◌, subst}
 use Rattle.receipt_core.specs.Acceptance.{Meaning}
 use Rattle.receipt_core.specs.declared.distrust.Distrust.{Distrust}
-use Rattle.fedbundle.specs.CommandRun.{CommandRun, DeviceRun, WritesNothing}
+use Rattle.fedbundle.specs.CommandRun.{CommandRun, WritesNothing}
+use Rattle.command_exits.specs.DeviceRuns.{DeviceRun}
 use Rattle.fedbundle.specs.CurrentBundle.{RunsBundle, RunsBundlePem}
 use Rattle.fedbundle.specs.Distrust.{ShowsDistrust}
-use Rattle.fedbundle.specs.Exits.{AppendsExit, exit_status_of}
+use Rattle.command_exits.specs.Exits.{AppendsExit, exit_status_of}
 use Rattle.fedbundle.specs.Explain.{ExplanationCall, RunsExplain, explanation_call}
 use Rattle.fedbundle.specs.Polls.{RunsPollsIn, polls_call}
 use Rattle.fedbundle.specs.Shown.{IsReportIn, RunsWriter, ShownCall, ShowsBundle, ShowsBy, ShowsEffect, ShowsExplanation}
@@ -23,10 +24,10 @@ use Rattle.command_line.specs.declared.command_name.OptionName.TheVariants.{Poll
 use Rattle.status_warnings.specs.WarnedStatus.{IsWarnedStatusIn}
 use Rattle.command_line.specs.declared.command_name.CommandName.{CommandName}
 use Rattle.command_line.specs.declared.command_name.CommandName.TheVariants as command
-use Rattle.fedbundle.specs.declared.error.CommandError.{CommandError}
-use Rattle.fedbundle.specs.declared.error.CommandError.TheVariants.{Document, Io, NoMemory, Poll, Take}
-use Rattle.fedbundle.specs.declared.exits.Exit.{Exit}
-use Rattle.fedbundle.specs.declared.exits.Exit.TheVariants.{NoBundle, NotAccepted, Refused}
+use Rattle.command_exits.specs.declared.error.CommandError.{CommandError}
+use Rattle.command_exits.specs.declared.error.CommandError.TheVariants.{Document, Io, NoMemory, Poll, Take}
+use Rattle.command_exits.specs.declared.exits.Exit.{Exit}
+use Rattle.command_exits.specs.declared.exits.Exit.TheVariants.{NoBundle, NotAccepted, Refused}
 use Rattle.command_line.specs.declared.option_texts.BundleFormat.{BundleFormat}
 use Rattle.command_line.specs.declared.option_texts.BundleFormat.TheVariants.{Json, Pem}
 use Rattle.command_line.specs.declared.option_texts.OutputForm.{OutputForm}
@@ -41,17 +42,17 @@ use Rattle.local_answers.specs.declared.reply.Reply.{Reply}
 all_held : (empty text filled : List ℕ) → empty ≡ [] → filled ≡ empty ++ text → text ≡ filled
 all_held empty text filled none written = sym (written ∙ ap (λ l. l ++ text) none)
 
--- any fault but one of a device is reported as it is
+-- any error except one of a device is reported as it is
 pub exit_of_other : (e : CommandError) → (e ≡ Io → ⊥) → Refused e ≡ memory_exit e
 exit_of_other Io other = absurd (other refl)
 exit_of_other e other = refl
 
--- the same of an exit that is no refusal
+-- the same for an exit that is not a refusal
 pub exit_of_none : (exit : Exit) → ((e : CommandError) → exit ≡ Refused e → ⊥) → exit ≡ exit_over_memory exit
 exit_of_none (Refused e) other = absurd (other e refl)
 exit_of_none exit other = refl
 
--- ---- where a command ended, and not by a device, nothing was written
+-- ---- if a command ended, and not by a device, nothing was written
 
 -- by the answer of a writer
 writer_unwritten : (Is : List ℕ → Type 0) (sink : DeviceRun) (answer : Result (Unit {0}) CommandError) (exit : Exit) → RunsWriter Is sink answer
@@ -102,7 +103,7 @@ explain_unwritten m call run (Err NoMemory) exit runs is sound = runs
 explain_unwritten m call run (Err (Document why)) exit runs is sound = runs.unwritten
 explain_unwritten m call run (Err e) exit runs is sound = absurd runs
 
--- of the moments of polls
+-- of the times of polls
 moments_unwritten : (form : OutputForm) (m : Meaning) (now : ℤ) (run : CommandRun) (answer : Result (Unit {0}) CommandError) (exit : Exit)
     → RunsPollsIn run m (polls_call (polls_form form) now) answer → Err exit ≡ exit_if_done answer → (exit ≡ Refused Io → ⊥) → WritesNothing run.sink
 moments_unwritten form m now run (Ok v) exit runs is sound = let no : ⊥ = cc in absurd no
@@ -120,7 +121,7 @@ effect_unwritten m x sink (Err NoMemory) exit runs is sound = runs
 effect_unwritten m x sink (Err (Take why)) exit runs is sound = runs.unwritten
 effect_unwritten m x sink (Err e) exit runs is sound = absurd runs
 
--- of a command, whether its words are refused or its function ends
+-- of a command, whether its arguments are refused or its function ends
 report_unwritten : (call : ShownCall) (sink : DeviceRun) (exit : Exit) → ShowsReport call sink (Err exit) → (exit ≡ Refused Io → ⊥) → WritesNothing sink
 report_unwritten call sink exit (inl refused) sound = refused.unwritten.0
 report_unwritten call sink exit (inr shows) sound =
@@ -229,95 +230,95 @@ difference_unwritten call run exit (inr (inl ended)) sound = ended.unwritten.0
 difference_unwritten call run exit (inr (inr compares)) sound = compared_unwritten _ _ run.sink exit compares.compares sound
 
 -- of `migrate`, on both sinks
-answer_unwritten : (move : Move) (sink complaints : DeviceRun) (answer : Result ℕ CommandError) (exit : Exit) → RunsMigrate move sink complaints answer
-    → EndsMove answer (Err exit) → (exit ≡ Refused Io → ⊥) → (exit ≡ Refused NoMemory → ⊥) → WritesNothing sink × WritesNothing complaints
-answer_unwritten move sink complaints (Ok n) exit runs (inl (none, same)) sound memory = let no : ⊥ = cc in absurd no
-answer_unwritten move sink complaints (Ok n) exit runs (inr (some, same)) sound memory = let no : ⊥ = cc in absurd no
-answer_unwritten move sink complaints (Err Io) exit runs is sound memory = let same : exit ≡ Refused Io = cc in absurd (sound same)
-answer_unwritten move sink complaints (Err NoMemory) exit runs is sound memory = let same : exit ≡ Refused NoMemory = cc in absurd (memory same)
-answer_unwritten move sink complaints (Err e) exit runs is sound memory = absurd runs.answer
+answer_unwritten : (move : Move) (sink line_errors : DeviceRun) (answer : Result ℕ CommandError) (exit : Exit) → RunsMigrate move sink line_errors answer
+    → EndsMove answer (Err exit) → (exit ≡ Refused Io → ⊥) → (exit ≡ Refused NoMemory → ⊥) → WritesNothing sink × WritesNothing line_errors
+answer_unwritten move sink line_errors (Ok n) exit runs (inl (none, same)) sound memory = let no : ⊥ = cc in absurd no
+answer_unwritten move sink line_errors (Ok n) exit runs (inr (some, same)) sound memory = let no : ⊥ = cc in absurd no
+answer_unwritten move sink line_errors (Err Io) exit runs is sound memory = let same : exit ≡ Refused Io = cc in absurd (sound same)
+answer_unwritten move sink line_errors (Err NoMemory) exit runs is sound memory = let same : exit ≡ Refused NoMemory = cc in absurd (memory same)
+answer_unwritten move sink line_errors (Err e) exit runs is sound memory = absurd runs.answer
 
-move_unwritten : (move : Move) (sink complaints : DeviceRun) (exit : Exit) → ShowsMove move sink complaints (Err exit) → (exit ≡ Refused Io → ⊥)
-    → (exit ≡ Refused NoMemory → ⊥) → WritesNothing sink × WritesNothing complaints
-move_unwritten move sink complaints exit shows sound memory = answer_unwritten move sink complaints shows.answer exit shows.runs shows.is sound memory
+move_unwritten : (move : Move) (sink line_errors : DeviceRun) (exit : Exit) → ShowsMove move sink line_errors (Err exit) → (exit ≡ Refused Io → ⊥)
+    → (exit ≡ Refused NoMemory → ⊥) → WritesNothing sink × WritesNothing line_errors
+move_unwritten move sink line_errors exit shows sound memory = answer_unwritten move sink line_errors shows.answer exit shows.runs shows.is sound memory
 
-moves_unwritten : (said : Option (List ℕ)) (choice : Choice) (m : Meaning) (run : CommandRun) (complaints : DeviceRun) (exit : Exit)
-    → MovesTo said choice m run complaints (Err exit) → (exit ≡ Refused Io → ⊥) → (exit ≡ Refused NoMemory → ⊥)
-    → WritesNothing run.sink × WritesNothing complaints
-moves_unwritten None choice m run complaints exit moves sound memory = move_unwritten _ run.sink complaints exit moves.0 sound memory
-moves_unwritten (Some path) choice m run complaints exit (inl ended) sound memory = (ended.0.unwritten.0, ended.1.0)
-moves_unwritten (Some path) choice m run complaints exit (inr on) sound memory = move_unwritten _ run.sink complaints exit on.moves sound memory
+moves_unwritten : (said : Option (List ℕ)) (choice : Choice) (m : Meaning) (run : CommandRun) (line_errors : DeviceRun) (exit : Exit)
+    → MovesTo said choice m run line_errors (Err exit) → (exit ≡ Refused Io → ⊥) → (exit ≡ Refused NoMemory → ⊥)
+    → WritesNothing run.sink × WritesNothing line_errors
+moves_unwritten None choice m run line_errors exit moves sound memory = move_unwritten _ run.sink line_errors exit moves.0 sound memory
+moves_unwritten (Some path) choice m run line_errors exit (inl ended) sound memory = (ended.0.unwritten.0, ended.1.0)
+moves_unwritten (Some path) choice m run line_errors exit (inr on) sound memory = move_unwritten _ run.sink line_errors exit on.moves sound memory
 
 -- of `reseed`, on both sinks
-both_failed : (texts : TwoTexts) (sink complaints : DeviceRun) (exit : Exit) → PrintsBoth texts sink complaints (Err exit) → exit ≡ Refused Io
-both_failed texts sink complaints (Refused Io) prints = refl
-both_failed texts sink complaints exit prints = absurd prints
+both_failed : (texts : TwoTexts) (sink line_errors : DeviceRun) (exit : Exit) → PrintsBoth texts sink line_errors (Err exit) → exit ≡ Refused Io
+both_failed texts sink line_errors (Refused Io) prints = refl
+both_failed texts sink line_errors exit prints = absurd prints
 
-reseed_unwritten : (call : ShownCall) (sink complaints : DeviceRun) (exit : Exit) → ShowsReseed call sink complaints (Err exit)
-    → (exit ≡ Refused Io → ⊥) → WritesNothing sink × WritesNothing complaints
-reseed_unwritten call sink complaints exit (inl refused) sound = (refused.0.unwritten.0, refused.1.0)
-reseed_unwritten call sink complaints exit (inr said) sound = elim said.reseeds.reseeds [
+reseed_unwritten : (call : ShownCall) (sink line_errors : DeviceRun) (exit : Exit) → ShowsReseed call sink line_errors (Err exit)
+    → (exit ≡ Refused Io → ⊥) → WritesNothing sink × WritesNothing line_errors
+reseed_unwritten call sink line_errors exit (inl refused) sound = (refused.0.unwritten.0, refused.1.0)
+reseed_unwritten call sink line_errors exit (inr said) sound = elim said.reseeds.reseeds [
   | inl lacks ↦ (lacks.unwritten.0, lacks.silent.0)
-  | inr prints ↦ absurd (sound (both_failed (reseed_texts said.reseeds.floors (length call.meaning.held) prints.outcome) sink complaints exit prints.prints))
+  | inr prints ↦ absurd (sound (both_failed (reseed_texts said.reseeds.floors (length call.meaning.held) prints.outcome) sink line_errors exit prints.prints))
 ]
 
 -- of a command by its name
-named_unwritten : (name : CommandName) (call : ShownCall) (run : CommandRun) (complaints : DeviceRun) (exit : Exit)
-    → ShowsNamed name call run complaints (Err exit) → (exit ≡ Refused Io → ⊥) → (exit ≡ Refused NoMemory → ⊥)
-    → WritesNothing run.sink × WritesNothing complaints
-named_unwritten command.Config call run complaints exit shows sound memory =
+named_unwritten : (name : CommandName) (call : ShownCall) (run : CommandRun) (line_errors : DeviceRun) (exit : Exit)
+    → ShowsNamed name call run line_errors (Err exit) → (exit ≡ Refused Io → ⊥) → (exit ≡ Refused NoMemory → ⊥)
+    → WritesNothing run.sink × WritesNothing line_errors
+named_unwritten command.Config call run line_errors exit shows sound memory =
     (config_unwritten (config_call call.name call.texts call.meaning.config) run exit shows.0 sound, shows.1.0)
-named_unwritten command.Diff call run complaints exit shows sound memory = (difference_unwritten call run exit shows.0 sound, shows.1.0)
-named_unwritten command.Migrate call run complaints exit shows sound memory =
-    moves_unwritten (shown_said call To) shows.choice call.meaning run complaints exit shows.moves sound memory
-named_unwritten command.Reseed call run complaints exit shows sound memory = reseed_unwritten call run.sink complaints exit shows.0 sound
-named_unwritten name call run complaints exit shows sound memory = (shown_unwritten name call run exit shows.0 sound, shows.1.0)
+named_unwritten command.Diff call run line_errors exit shows sound memory = (difference_unwritten call run exit shows.0 sound, shows.1.0)
+named_unwritten command.Migrate call run line_errors exit shows sound memory =
+    moves_unwritten (shown_said call To) shows.choice call.meaning run line_errors exit shows.moves sound memory
+named_unwritten command.Reseed call run line_errors exit shows sound memory = reseed_unwritten call run.sink line_errors exit shows.0 sound
+named_unwritten name call run line_errors exit shows sound memory = (shown_unwritten name call run exit shows.0 sound, shows.1.0)
 
 -- ---- what is shown, over memory
 
 -- what runs at a second that is the one of the replica
-pub runs_at : (run : CallRun) (devices : CommandRun) (complaints : DeviceRun) (result : Result ℕ Exit) (told : ℤ) → told ≡ run.running.moment
-    → RunsShown (record (shown_in run) { moment = told }) devices complaints result → RunsShown (shown_in run) devices complaints result
-runs_at run devices complaints result told same runs =
-    subst (λ (z : ℤ). RunsShown (record (shown_in run) { moment = z }) devices complaints result) same runs
+pub runs_at : (run : CallRun) (devices : CommandRun) (line_errors : DeviceRun) (result : Result ℕ Exit) (stated : ℤ) → stated ≡ run.running.moment
+    → RunsShown (record (shown_in run) { moment = stated }) devices line_errors result → RunsShown (shown_in run) devices line_errors result
+runs_at run devices line_errors result stated same runs =
+    subst (λ (z : ℤ). RunsShown (record (shown_in run) { moment = z }) devices line_errors result) same runs
 
--- the command ended: its device failed only where memory ran out
-ended_over : (run : CallRun) (devices : CommandRun) (complaints : DeviceRun) (exit : Exit) → devices.source.before ≡ Some run.change.input
-    → devices.sink.before ≡ Some [] → complaints.before ≡ Some [] → RunsShown (shown_in run) devices complaints (Err exit)
+-- the command ended: its device failed only because memory ran out
+ended_over : (run : CallRun) (devices : CommandRun) (line_errors : DeviceRun) (exit : Exit) → devices.source.before ≡ Some run.change.input
+    → devices.sink.before ≡ Some [] → line_errors.before ≡ Some [] → RunsShown (shown_in run) devices line_errors (Err exit)
     → EndsOver run (exit_over_memory exit)
-ended_over run devices complaints (Refused Io) source empty silent runs = inl tt
-ended_over run devices complaints (Refused NoMemory) source empty silent runs = inl tt
-ended_over run devices complaints exit source empty silent runs =
-    let unwritten = named_unwritten run.name (shown_in run) devices complaints exit runs (λ io. cc) (λ none. cc) in
+ended_over run devices line_errors (Refused Io) source empty silent runs = inl tt
+ended_over run devices line_errors (Refused NoMemory) source empty silent runs = inl tt
+ended_over run devices line_errors exit source empty silent runs =
+    let unwritten = named_unwritten run.name (shown_in run) devices line_errors exit runs (λ io. cc) (λ none. cc) in
     inr (record {
       devices = devices;
       over = record { source = source; empty = empty; filled = unwritten.0 ∙ empty };
-      complaints = complaints;
+      line_errors = line_errors;
       silent = silent;
       said = unwritten.1 ∙ silent;
       runs = runs;
     })
 
--- the same of how it is told
-pub shown_ended : (run : CallRun) (devices : CommandRun) (complaints : DeviceRun) (exit why : Exit) → why ≡ exit_over_memory exit
-    → devices.source.before ≡ Some run.change.input → devices.sink.before ≡ Some [] → complaints.before ≡ Some []
-    → RunsShown (shown_in run) devices complaints (Err exit) → EndsOver run why
-shown_ended run devices complaints exit why is source empty silent runs =
-    subst (EndsOver run) (sym is) (ended_over run devices complaints exit source empty silent runs)
+-- the same for how it is reported
+pub shown_ended : (run : CallRun) (devices : CommandRun) (line_errors : DeviceRun) (exit why : Exit) → why ≡ exit_over_memory exit
+    → devices.source.before ≡ Some run.change.input → devices.sink.before ≡ Some [] → line_errors.before ≡ Some []
+    → RunsShown (shown_in run) devices line_errors (Err exit) → EndsOver run why
+shown_ended run devices line_errors exit why is source empty silent runs =
+    subst (EndsOver run) (sym is) (ended_over run devices line_errors exit source empty silent runs)
 
--- the command is done: its output is replied, and what it complains of beside that
-pub shown_done : (run : CallRun) (devices : CommandRun) (complaints : DeviceRun) (output beside : List ℕ) (status : ℕ) (reply : Reply)
+-- the command is done: its output and its error text are replied
+pub shown_done : (run : CallRun) (devices : CommandRun) (line_errors : DeviceRun) (output with_it : List ℕ) (status : ℕ) (reply : Reply)
     → devices.source.before ≡ Some run.change.input → devices.sink.before ≡ Some [] → devices.sink.after ≡ Some output
-    → complaints.before ≡ Some [] → complaints.after ≡ Some beside
-    → RunsShown (shown_in run) devices complaints (Ok status) → IsWith reply output beside status → AnswersShown run reply
-shown_done run devices complaints output beside status reply source empty filled silent said runs with = record {
+    → line_errors.before ≡ Some [] → line_errors.after ≡ Some with_it
+    → RunsShown (shown_in run) devices line_errors (Ok status) → IsWith reply output with_it status → AnswersShown run reply
+shown_done run devices line_errors output with_it status reply source empty filled silent said runs with = record {
   output = output;
-  beside = beside;
+  with_it = with_it;
   status = status;
   shows = record {
     devices = devices;
     over = record { source = source; empty = empty; filled = filled };
-    complaints = complaints;
+    line_errors = line_errors;
     silent = silent;
     said = said;
     runs = runs;
@@ -340,7 +341,7 @@ ended_with exit reply empty line errors output status written none is nothing ri
 
 -- ---- calls
 
--- a number of the words is none, or memory ran out
+-- a number in the arguments is out of its range, or memory ran out
 pub anyhow : (name : CommandName) (run : CallRun) (exit why : Exit) → exit ≡ why → EndsAnyhow run why → Ends name run exit
 anyhow name run exit why is so = inl (subst (EndsAnyhow run) (sym is) so)
 
@@ -349,7 +350,7 @@ pub answers_as : (name other : CommandName) (run : CallRun) (result : Result Rep
     → IfOk result (Answers name run)
 answers_as name other run result is answers = subst (λ n. IfOk result (Answers n run)) (sym is) answers
 
--- the same of how it ends
+-- the same for how it ends
 pub ends_as : (name other : CommandName) (run : CallRun) (result : Result Reply Exit) → name ≡ other → IfErr result (Ends other run)
     → IfErr result (Ends name run)
 ends_as name other run result is ends = subst (λ n. IfErr result (Ends n run)) (sym is) ends
@@ -363,7 +364,7 @@ answers_shown command.Distrust run result observe merge distrust stop answers = 
 answers_shown command.Stop run result observe merge distrust stop answers = absurd (stop refl)
 answers_shown name run result observe merge distrust stop answers = answers
 
--- the same of how it ends
+-- the same for how it ends
 pub ends_shown : (name : CommandName) (run : CallRun) (result : Result Reply Exit) → (name ≡ command.Observe → ⊥) → (name ≡ command.Merge → ⊥)
     → (name ≡ command.Distrust → ⊥) → (name ≡ command.Stop → ⊥) → IfErr result (EndsOver run)
     → IfErr result (Ends name run)

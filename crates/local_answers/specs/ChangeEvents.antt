@@ -1,4 +1,4 @@
--- A replica that stays, in a world of replicas: the events by which what it holds changes, and the
+-- A running replica, in a world of replicas: the events by which what it holds changes, and the
 -- messages that it sends.
 use Rattle.std.specs.Prelude.{◌≡◌, ◌++◌, ℕ, List, [], ◌∷◌, flat_map, map}
 use Rattle.std.specs.List.{AllByRecursion}
@@ -16,7 +16,7 @@ use Rattle.replica_sync.specs.PulledPieces.{IsPulledGive, PulledGive, PulledPiec
 
 -- ---- changes
 
--- the event by which replica i comes to hold the entry
+-- the event that makes replica i hold the entry
 abbrev pub event_of : ℕ → Entry → Event
 event_of i (Record x) = Revoke i x
 event_of i (AReceipt r) = Take i r

@@ -21,22 +21,21 @@ pub record AreNewLines (m : Meaning) (entries : List Entry) (text : List ℕ) : 
   pub fresh : AllByRecursion (λ e. HoldsEntry m e → ⊥) entries
   pub spelt : text ≡ flat_map entry_text entries
 
--- The text is the lines of what is held now and was not before. Where nothing has changed it is
--- empty. A journal that has it at its end is read as what is held now
--- (`replica_journal::laws::journals`).
+-- The text is the lines of what is held now and was not before. If nothing has changed it is empty.
+-- A journal that has it at its end is read as what is held now (`replica_journal::laws::journals`).
 pub record JournalsChange (text : List ℕ) (state : StateRun) : Type 0 where
   pub entries : List Entry
   pub lines : AreNewLines state.old.meaning entries text
   pub meaning : state.new.meaning ≡ with_entries entries state.old.meaning
 
--- The text is the lines of what the other holds and m does not; so many are receipts.
+-- The text is the lines of what the other holds and m does not; this many are receipts.
 pub record AreLinesOfOther (m other : Meaning) (text : List ℕ) (receipts : ℕ) : Type 0 where
   pub entries : List Entry
   pub lines : AreNewLines m entries text
   pub union : with_entries entries m ≡ union_of m other
   pub count : length (all_receipts m other) ≡ length m.held + receipts
 
--- The text is the line of this entry, or empty where that is held.
+-- The text is the line of this entry, or empty if that is held.
 pub record IsLineIfNew (m : Meaning) (entry : Entry) (text : List ℕ) : Type 0 where
   pub entries : List Entry
   pub lines : AreNewLines m entries text

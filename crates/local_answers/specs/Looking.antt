@@ -5,8 +5,8 @@ use Rattle.command_line.specs.Words.{CallsInRequest}
 use Rattle.command_line.specs.declared.command_name.CommandName.{CommandName}
 use Rattle.command_line.specs.declared.command_name.CommandName.TheVariants as command
 use Rattle.command_line.specs.declared.command_name.OptionName.TheVariants.{DryRun}
-use Rattle.fedbundle.specs.declared.exits.Exit.{Exit}
-use Rattle.fedbundle.specs.declared.exits.Exit.TheVariants.{ReadOnly}
+use Rattle.command_exits.specs.declared.exits.Exit.{Exit}
+use Rattle.command_exits.specs.declared.exits.Exit.TheVariants.{ReadOnly}
 use Rattle.request_lines.specs.RequestLines.{SaysWords}
 use Rattle.status_view.specs.declared.running.RunningStatus.{RunningStatus}
 use Rattle.local_answers.specs.RequestRun.{AnswersShown, CallRun, ChangeRun, EndsAnyhow, EndsShown}
@@ -21,7 +21,7 @@ is_change command.Stop is_dry = true
 is_change command.Distrust is_dry = not is_dry
 is_change name is_dry = false
 
--- the same of a call
+-- the same for a call
 pub record Changes (run : CallRun) (changes : Bool) : Type 0 where
   pub dry : Bool
   pub is_dry : SaysFlag (said run DryRun) dry
@@ -56,7 +56,7 @@ pub record RepliesWithLookEnd (run : CallRun) (reply : Reply) : Type 0 where
 abbrev pub LooksAtCall : CallRun → Reply → Type 0
 LooksAtCall run reply = AnswersLook run reply ⊎ RepliesWithLookEnd run reply
 
--- The words are a call in a request, and that is replied.
+-- The arguments are a call in a request, and that is replied.
 pub record LooksAsCommand (words : List (List ℕ)) (running : RunningStatus) (change : ChangeRun)
     (reply : Reply) : Type 0 where
   pub name : CommandName
@@ -64,7 +64,7 @@ pub record LooksAsCommand (words : List (List ℕ)) (running : RunningStatus) (c
   pub call : CallsInRequest words name texts
   pub replied : LooksAtCall (call_run name texts running change) reply
 
--- What is replied to a line of words.
+-- What is replied to a line of arguments.
 pub record RepliesToLook (line : List ℕ) (running : RunningStatus) (change : ChangeRun)
     (reply : Reply) : Type 0 where
   pub words : List (List ℕ)

@@ -1,4 +1,4 @@
--- What a page of a running replica shows, in the words of the request that it stands for.
+-- What a page of a running replica shows, by the arguments of the request whose output it has.
 use Rattle.std.specs.Prelude.{◌≡◌, ℕ, List, [], ◌∷◌, ◌++◌, ◌==◌, ◌&&◌, Bool, codes, decimal}
 use Rattle.std.specs.Prelude.{flat_map, if◌then◌else◌, length, MatchBool, nat_lt}
 use Rattle.std.specs.Prelude.{Option, Some, None}
@@ -35,7 +35,7 @@ pub record IsAnswer (status : ResponseStatus) (content : ContentType) (body : Li
   pub is_content : answer.content ≡ content
   pub is_body : answer.body.items ≡ body
 
--- ---- the words of a page
+-- ---- the arguments of a page
 
 abbrev pub status_words : (format : List ℕ) → PageLimits → List (List ℕ)
 status_words format limits = codes "status" ∷ format
@@ -54,11 +54,11 @@ words_of limits Keys domain = codes "list" ∷ codes "--keys" ∷ codes "--forma
 words_of limits Graph domain = graph_words domain
 words_of limits page domain = []
 
--- the words of a page, of a domain if one is named
+-- the arguments of a page, of a domain if one is named
 abbrev pub page_words : PageLimits → Page × Option (List ℕ) → List (List ℕ)
 page_words limits asked = words_of limits asked.0 asked.1
 
--- what a request with these words and no input is replied, if it may only look
+-- what a request with these arguments and no input is replied, if it may only look
 abbrev pub RepliesWith : PageSource → StateRun → List (List ℕ) → Reply → Type 0
 RepliesWith source state words reply =
     RepliesToLook (compact_text (words_value words)) source.running (change_run state []) reply
@@ -105,7 +105,7 @@ abbrev pub quiet_warnings : PageSource → List Warning
 quiet_warnings source =
     flat_map (quiet_warning (warn_limits source) source.running.began) source.running.peers.now
 
--- there are peers, and as many are quiet
+-- there are peers, and all of them are quiet
 abbrev pub is_unheard : (quiet peers : ℕ) → Bool
 is_unheard quiet peers = nat_lt 0 quiet && quiet == peers
 

@@ -17,7 +17,7 @@ abbrev pub first_line : List ℕ → List ℕ → ℕ → List ℕ
 first_line output errors status = ended
     (reply_line (record { errors = length errors; output = length output; status = status }))
 
--- the whole reply where there is none of a command
+-- the whole reply if no command gives one
 abbrev pub fault_reply : RequestFault → List ℕ
 fault_reply WordsTooLong =
     codes "{\"errors\":26,\"output\":0,\"status\":1}\nfedbundle: words too long\n"
@@ -30,13 +30,13 @@ fault_reply TooManyRequests =
 fault_reply NoMemory =
     codes "{\"errors\":23,\"output\":0,\"status\":4}\nfedbundle: E2 NoMemory\n"
 
--- the fault of a request whose line of words is not read
+-- the error of a request whose line of arguments is not read
 abbrev pub words_fault : RequestError → RequestFault
 words_fault TooLong = WordsTooLong
 words_fault BadLine = BadWords
 words_fault line_error.NoMemory = NoMemory
 
--- The line of words is refused, or memory ran out, and that is the fault.
+-- The line of arguments is refused, or memory ran out, and that is the error.
 pub record RefusesWordsLine (line : List ℕ) (fault : RequestFault) : Type 0 where
   pub why : RequestError
   pub refused : RefusesLine IsOfWords line why

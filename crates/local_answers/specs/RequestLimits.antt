@@ -1,4 +1,4 @@
--- When bytes are a request: the line of its words, and its input, each within its limit.
+-- When bytes are a request: the line of its arguments, and its input, each within its limit.
 use Rattle.std.specs.Prelude.{◌≡◌, ℕ, ◌-◌, ◌<◌, ◌≤◌, ◌++◌, ◌∷◌, ⊤, List, length, Option}
 use Rattle.std.specs.Prelude.{None, Some}
 use Rattle.byte_lines.specs.Lines.{HasNoFeed}
@@ -13,8 +13,8 @@ use Rattle.local_answers.specs.declared.request_fault.RequestFault.TheVariants.{
 abbrev pub input_limit : ℕ
 input_limit = 268435456
 
--- The bytes are these words, a line feed, and this input. Words have no line feed, so there is one
--- such split at most.
+-- The bytes are these arguments, a line feed, and this input. Arguments have no line feed, so there
+-- is at most one such split.
 pub record SplitsInto (bytes words input : List ℕ) : Type 0 where
   pub parts : bytes ≡ words ++ 10 ∷ input
   pub plain : HasNoFeed words
@@ -25,7 +25,7 @@ pub record IsRequest (bytes words input : List ℕ) : Type 0 where
   pub short : length words ≤ request_limit
   pub small : length input ≤ input_limit
 
--- The words are within their limit, and the input is not.
+-- The arguments are within their limit, and the input is not.
 pub record HasLongInput (bytes : List ℕ) : Type 0 where
   pub words : List ℕ
   pub input : List ℕ
@@ -42,12 +42,12 @@ PassesLimit bytes _ = ⊥
 
 -- ---- the place of the line feed
 
--- Of so many bytes with the line of words ending there neither part is too long.
+-- If there are this many bytes and the line of arguments ends there, neither part is too long.
 pub record IsWithinWith (count end : ℕ) : Type 0 where
   pub words : end ≤ request_limit
   pub input : count - end - 1 ≤ input_limit
 
--- the same where it may not have ended
+-- the same if it may not have ended
 abbrev pub IsWithin : ℕ → Option ℕ → Type 0
 IsWithin count None = count ≤ request_limit
 IsWithin count (Some end) = IsWithinWith count end

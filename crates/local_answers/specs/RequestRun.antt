@@ -1,5 +1,5 @@
--- What comes of a request, in the words of the command's function over files: its source has the
--- input, and its sink, which held nothing, holds the output.
+-- What comes of a request, in terms of the command's function over files: its source has the input,
+-- and its sink, which held nothing, holds the output.
 use Rattle.std.specs.Prelude.{◌≡◌, ◌⊎◌, ℕ, List, [], Bool, true, false, Option, Some}
 use Rattle.std.specs.Prelude.{Result, Ok, Err, ◌+◌, ◌-◌, ◌^◌, ◌<◌, ◌≤◌, length, codes, min}
 use Rattle.clap.specs.Words.{IsAmong, fault_of, kind_of}
@@ -8,7 +8,8 @@ use Rattle.clap.specs.declared.error.kind.ErrorKind.TheVariants.{DisplayHelp, Di
 use Rattle.spiffe_name.specs.TrustDomain.{IsDomainText}
 use Rattle.receipt_core.specs.Acceptance.{Meaning}
 use Rattle.receipt_core.specs.declared.distrust.Distrust.{Distrust}
-use Rattle.fedbundle.specs.CommandRun.{CommandRun, DeviceRun, StateRun}
+use Rattle.fedbundle.specs.CommandRun.{CommandRun, StateRun}
+use Rattle.command_exits.specs.DeviceRuns.{DeviceRun}
 use Rattle.fedbundle.specs.Distrust.{HoldsRecord, RunsDistrust, ShowsDistrust}
 use Rattle.fedbundle.specs.Merge.{RunsMerge}
 use Rattle.fedbundle.specs.Observe.{Fetched, IsAsHeld, RunsObserve}
@@ -17,7 +18,7 @@ use Rattle.fedbundle.specs.SaidValues.{EndsAtDomain, SaysNoRecord, SaysNoVerdict
 use Rattle.fedbundle.specs.SaidValues.{SaysVerdict}
 use Rattle.fedbundle.specs.Shown.{ShownCall}
 use Rattle.fedbundle.specs.ShownCommands.{RunsShown}
-use Rattle.fedbundle.specs.Exits.{IsExitLine, exit_status_of}
+use Rattle.command_exits.specs.Exits.{IsExitLine, exit_status_of}
 use Rattle.command_line.specs.Words.{CallsInRequest, the_command}
 use Rattle.command_line.specs.declared.command_name.CommandName.{CommandName}
 use Rattle.command_line.specs.declared.command_name.CommandName.TheVariants as command
@@ -29,12 +30,12 @@ use Rattle.command_line.specs.declared.words.WordsError.{WordsError}
 use Rattle.command_line.specs.declared.words.WordsError.TheVariants as no_call
 use Rattle.replica_core.specs.declared.error.SyncError.{SyncError}
 use Rattle.replica_core.specs.declared.error.SyncError.TheVariants.{Io as StreamFailed}
-use Rattle.fedbundle.specs.declared.error.CommandError.{CommandError}
-use Rattle.fedbundle.specs.declared.error.CommandError.TheVariants.{Io, NoMemory, Observe, Sync}
-use Rattle.fedbundle.specs.declared.error.CommandError.TheVariants.{Take}
-use Rattle.fedbundle.specs.declared.exits.Exit.{Exit}
-use Rattle.fedbundle.specs.declared.exits.Exit.TheVariants.{BadNumber, Refused, TooManyBytes}
-use Rattle.fedbundle.specs.declared.exits.Exit.TheVariants.{Usage}
+use Rattle.command_exits.specs.declared.error.CommandError.{CommandError}
+use Rattle.command_exits.specs.declared.error.CommandError.TheVariants.{Io, NoMemory, Observe, Sync}
+use Rattle.command_exits.specs.declared.error.CommandError.TheVariants.{Take}
+use Rattle.command_exits.specs.declared.exits.Exit.{Exit}
+use Rattle.command_exits.specs.declared.exits.Exit.TheVariants.{BadNumber, Refused, TooManyBytes}
+use Rattle.command_exits.specs.declared.exits.Exit.TheVariants.{Usage}
 use Rattle.request_lines.specs.RequestLines.{SaysWords}
 use Rattle.status_view.specs.declared.running.RunningStatus.{RunningStatus}
 use Rattle.local_answers.specs.Replies.{first_line}
@@ -54,15 +55,15 @@ pub record Gives (Runs : CommandRun → Type 0) (input output : List ℕ) : Type
   pub over : OverMemory devices input output
   pub runs : Runs devices
 
--- The same with a second sink, which held nothing and holds what is said beside the output.
-pub record GivesBeside (Runs : CommandRun → DeviceRun → Type 0) (input output beside : List ℕ)
+-- The same with a second sink, which held nothing and holds what is said with the output.
+pub record GivesWithIt (Runs : CommandRun → DeviceRun → Type 0) (input output with_it : List ℕ)
     : Type 0 where
   pub devices : CommandRun
   pub over : OverMemory devices input output
-  pub complaints : DeviceRun
-  pub silent : complaints.before ≡ Some []
-  pub said : complaints.after ≡ Some beside
-  pub runs : Runs devices complaints
+  pub line_errors : DeviceRun
+  pub silent : line_errors.before ≡ Some []
+  pub said : line_errors.after ≡ Some with_it
+  pub runs : Runs devices line_errors
 
 -- Into some such sink this is so.
 pub record GivesInto (Runs : DeviceRun → Type 0) (output : List ℕ) : Type 0 where
@@ -71,7 +72,7 @@ pub record GivesInto (Runs : DeviceRun → Type 0) (output : List ℕ) : Type 0 
   pub filled : sink.after ≡ Some output
   pub runs : Runs sink
 
--- A device over memory fails only where memory runs out.
+-- A device over memory fails only if memory runs out.
 abbrev pub memory_exit : CommandError → Exit
 memory_exit Io = Refused NoMemory
 memory_exit e = Refused e
@@ -130,20 +131,20 @@ EndsDistrust state x exit = ⊥
 -- ---- the reply
 
 -- These streams and this status, which the first line says; nothing is journalled, and the replica
--- goes on.
-pub record IsWith (reply : Reply) (text beside : List ℕ) (exit : ℕ) : Type 0 where
-  pub head : reply.head.items ≡ first_line text beside exit
+-- continues.
+pub record IsWith (reply : Reply) (text with_it : List ℕ) (exit : ℕ) : Type 0 where
+  pub head : reply.head.items ≡ first_line text with_it exit
   pub output : reply.output.items ≡ text
-  pub errors : reply.errors.items ≡ beside
+  pub errors : reply.errors.items ≡ with_it
   pub status : reply.status ≡ exit
   pub unjournalled : reply.journal.items ≡ []
-  pub goes_on : reply.ends ≡ false
+  pub continues : reply.ends ≡ false
 
--- The command is done: its output, and what it says beside it.
+-- The command is done: its output, and what is on standard error.
 abbrev pub IsReplied : Reply → List ℕ → List ℕ → Type 0
 IsReplied reply output errors = IsWith reply output errors 0
 
--- The command is done with an output of which this is so, and nothing is said beside it.
+-- The command is done with an output of which this is so, and nothing is on standard error.
 pub record HasStreams (Answers : List ℕ → Type 0) (reply : Reply) : Type 0 where
   pub output : List ℕ
   pub answers : Answers output
@@ -151,7 +152,7 @@ pub record HasStreams (Answers : List ℕ → Type 0) (reply : Reply) : Type 0 w
   pub is_output : reply.output.items ≡ output
   pub errors : reply.errors.items ≡ []
   pub status : reply.status ≡ 0
-  pub goes_on : reply.ends ≡ false
+  pub continues : reply.ends ≡ false
 
 -- what is said if there is no memory to say what a record changes
 abbrev pub unsaid_line : List ℕ
@@ -164,7 +165,7 @@ SaysEffect m x true errors = GivesInto (λ sink. ShowsDistrust m x sink (Ok tt))
     ⊎ (errors ≡ unsaid_line)
 SaysEffect m x false errors = errors ≡ []
 
--- The record is held, nothing is on standard output, and beside it stands what was asked for.
+-- The record is held, nothing is on standard output, and what was asked for is on standard error.
 pub record SaysDistrusted (state : StateRun) (x : Distrust) (is_verbose : Bool)
     (reply : Reply) : Type 0 where
   pub errors : List ℕ
@@ -174,7 +175,7 @@ pub record SaysDistrusted (state : StateRun) (x : Distrust) (is_verbose : Bool)
   pub output : reply.output.items ≡ []
   pub is_errors : reply.errors.items ≡ errors
   pub status : reply.status ≡ 0
-  pub goes_on : reply.ends ≡ false
+  pub continues : reply.ends ≡ false
 
 -- The command ended so: nothing but the line that says why.
 abbrev pub IsEnded : Reply → Exit → Type 0
@@ -183,22 +184,22 @@ IsEnded reply exit = (line : List ℕ) × IsExitLine exit line
 
 -- ---- a call
 
--- a call whose words were read, what the replica says of itself, the input, and what is held before
--- and after
+-- a call whose arguments were read, what the replica says of itself, the input, and what is held
+-- before and after
 pub record CallRun : Type 0 where
   pub name : CommandName
   pub texts : List (Option (List ℕ))
   pub running : RunningStatus
   pub change : ChangeRun
 
--- the text that the words give the option
+-- the text that the arguments give the option
 abbrev pub said : CallRun → OptionName → Option (List ℕ)
 said run option = option_said run.name run.texts option
 
 abbrev pub IsGiven : CallRun → OptionName → List ℕ → Type 0
 IsGiven run option text = said run option ≡ Some text
 
--- The words say whose bundle was fetched, and what TLS said.
+-- The arguments say whose bundle was fetched, and what TLS said.
 pub record SaysFetched (run : CallRun) (fetched : Fetched) : Type 0 where
   pub domain : IsGiven run Domain fetched.domain
   pub form : IsDomainText fetched.domain
@@ -210,12 +211,12 @@ call_run name texts running change =
 
 -- ---- how much may come
 
--- how many bytes both files of the replica have, as far as 64 bits tell
+-- how many bytes both files of the replica have, at most what 64 bits hold
 abbrev pub bytes_of_files : RunningStatus → ℕ
 bytes_of_files r = min (r.snapshot_bytes + r.journal_bytes) (2 ^ 64 - 1)
 
--- How many bytes the input of `merge` may have: of the most that the words allow, what the files of
--- the replica leave.
+-- How many bytes the input of `merge` may have: what the files of the replica leave of the most
+-- that the arguments allow.
 pub record LeavesRoom (name : CommandName) (texts : List (Option (List ℕ)))
     (running : RunningStatus) (room : ℕ) : Type 0 where
   pub manner : Manner
@@ -234,9 +235,10 @@ pub record PassesRoom (run : CallRun) : Type 0 where
   pub is_room : LeavesRoom run.name run.texts run.running room
   pub over : room < length run.change.input
 
--- ---- what a call answers, of what the words say
+-- ---- what a call answers, by what the arguments say
 
--- the words and what is held, of a command that only shows it, with what the replica says of itself
+-- the arguments and what is held, of a command that only shows it, with what the replica says of
+-- itself
 abbrev pub shown_in : CallRun → ShownCall
 shown_in run = record {
   name = run.name;
@@ -246,16 +248,15 @@ shown_in run = record {
   moment = run.running.moment;
 }
 
--- A command that shows what is held, over memory: its output, what it complains of beside that, and
--- its exit status.
+-- A command that shows what is held, over memory: its output, its error text, and its exit status.
 pub record AnswersShown (run : CallRun) (reply : Reply) : Type 0 where
   pub output : List ℕ
-  pub beside : List ℕ
+  pub with_it : List ℕ
   pub status : ℕ
-  pub shows : GivesBeside
-      (λ devices complaints. RunsShown (shown_in run) devices complaints (Ok status))
-      run.change.input output beside
-  pub replied : IsWith reply output beside status
+  pub shows : GivesWithIt
+      (λ devices line_errors. RunsShown (shown_in run) devices line_errors (Ok status))
+      run.change.input output with_it
+  pub replied : IsWith reply output with_it status
 
 -- `observe`
 pub record AnswersObserveCall (run : CallRun) (reply : Reply) : Type 0 where
@@ -268,7 +269,7 @@ pub record AnswersMergeCall (run : CallRun) (reply : Reply) : Type 0 where
   pub within : IsWithinRoom run
   pub answers : HasStreams (AnswersMerge run.change) reply
 
--- The record that the words say is held, and beside it stands what it changes where they have
+-- The record that the arguments say is held, and what it changes is on standard error if they have
 -- `--verbose`.
 pub record HoldsAsSaid (run : CallRun) (reply : Reply) : Type 0 where
   pub x : Distrust
@@ -277,7 +278,7 @@ pub record HoldsAsSaid (run : CallRun) (reply : Reply) : Type 0 where
   pub is_verbose : SaysFlag (said run Verbose) verbose
   pub held : SaysDistrusted run.change.state x verbose reply
 
--- What a record would change where the words have `--dry-run`; and else it is held.
+-- What a record would change if the arguments have `--dry-run`; otherwise it is held.
 abbrev pub AnswersRecord : (is_dry : Bool) → CallRun → Reply → Type 0
 AnswersRecord true run reply = AnswersShown run reply
 AnswersRecord false run reply = HoldsAsSaid run reply
@@ -307,7 +308,7 @@ Answers name run reply = AnswersShown run reply
 
 -- ---- how a call ends
 
--- How any command may end: a number of the words is none of its range, or memory ran out.
+-- How any command may end: a number in the arguments is out of its range, or memory ran out.
 abbrev pub EndsAnyhow : CallRun → Exit → Type 0
 EndsAnyhow run (BadNumber option) = SaysNoManner run.name run.texts (unread.BadNumber option)
 EndsAnyhow run (Refused NoMemory) = Unit {0}
@@ -316,8 +317,8 @@ EndsAnyhow run exit = ⊥
 -- A command that shows what is held ends over memory, and nothing was written. No sink failed.
 abbrev pub EndsShown : CallRun → Exit → Type 0
 EndsShown run (Refused Io) = ⊥
-EndsShown run exit = GivesBeside
-    (λ devices complaints. RunsShown (shown_in run) devices complaints (Err exit))
+EndsShown run exit = GivesWithIt
+    (λ devices line_errors. RunsShown (shown_in run) devices line_errors (Err exit))
     run.change.input [] []
 
 -- The same, or memory ran out.
@@ -336,7 +337,7 @@ pub record EndsObserveCall (run : CallRun) (exit : Exit) : Type 0 where
   pub says : SaysFetched run fetched
   pub ends : EndsObserve run.change fetched exit
 
--- The record that the words say is refused.
+-- The record that the arguments say is refused.
 pub record EndsLasting (run : CallRun) (exit : Exit) : Type 0 where
   pub x : Distrust
   pub says : SaysRecord run.name run.texts x
@@ -353,8 +354,8 @@ pub record EndsDistrustCall (run : CallRun) (exit : Exit) : Type 0 where
   pub is_dry : SaysFlag (said run DryRun) dry
   pub ends : EndsRecord dry run exit
 
--- How a command ends for what the words say, for what is held or for what is read, by the command.
--- `stop` never does.
+-- How a command ends for what the arguments say, for what is held or for what is read, by the
+-- command. `stop` never does.
 abbrev pub EndsFor : CommandName → CallRun → Exit → Type 0
 EndsFor command.Stop run exit = ⊥
 EndsFor command.Observe run exit = EndsAtDomain run.name run.texts exit
@@ -380,7 +381,7 @@ pub record RepliesWithEnd (run : CallRun) (reply : Reply) : Type 0 where
 abbrev pub RepliesToCall : CallRun → Reply → Type 0
 RepliesToCall run reply = Answers run.name run reply ⊎ RepliesWithEnd run reply
 
--- The words are a call in a request, and that is replied.
+-- The arguments are a call in a request, and that is replied.
 pub record RepliesAsCommand (words : List (List ℕ)) (running : RunningStatus) (change : ChangeRun)
     (reply : Reply) : Type 0 where
   pub name : CommandName
@@ -394,20 +395,20 @@ is_help DisplayHelp = true
 is_help DisplayVersion = true
 is_help kind = false
 
--- Help and the version are output, and end well; anything else of clap is a complaint, with
+-- Help and the version are output, and end well; anything else of clap is an error text, with
 -- status 2.
 abbrev pub RepliesByKind : (helps : Bool) → Reply → Type 0
 RepliesByKind true reply = IsWith reply reply.output.items [] 0
 RepliesByKind false reply = IsWith reply [] reply.errors.items 2
 
--- Clap gives an error of this kind at these words, and that is replied.
+-- Clap gives an error of this kind for these arguments, and that is replied.
 pub record ShowsText (words : List (List ℕ)) (reply : Reply) : Type 0 where
   pub kind : ErrorKind
   pub gives : IsAmong kind (fault_of the_command words)
   pub replied : RepliesByKind (is_help kind) reply
 
--- Clap takes the words, and they are not a call: a subcommand or an option is missing, or one
--- stands there that names a place.
+-- Clap takes the arguments, and they are not a call: a subcommand or an option is missing, or an
+-- option names a place.
 pub record IsNoRequest (words : List (List ℕ)) : Type 0 where
   pub taken : fault_of the_command words ≡ []
   pub none : (name : CommandName) (texts : List (Option (List ℕ)))
@@ -417,19 +418,19 @@ pub record IsNoRequest (words : List (List ℕ)) : Type 0 where
 abbrev pub SaysOfWords : List (List ℕ) → Reply → Type 0
 SaysOfWords words reply = (IsNoRequest words × IsEnded reply Usage) ⊎ ShowsText words reply
 
--- the same, by the error of reading the words
+-- the same, by the error of reading the arguments
 abbrev pub RepliesToError : WordsError → Reply → Type 0
 RepliesToError (no_call.Words error) reply = RepliesByKind (is_help (kind_of error)) reply
 RepliesToError no_call.Usage reply = IsEnded reply Usage
 RepliesToError no_call.NoMemory reply = ⊥
 
--- The words are no call, and nothing has changed.
+-- The arguments are not a call, and nothing has changed.
 pub record RepliesToWords (words : List (List ℕ)) (change : ChangeRun) (reply : Reply)
     : Type 0 where
   pub replied : SaysOfWords words reply
   pub held : IsAsHeld change.state
 
--- What is replied to a line of words.
+-- What is replied to a line of arguments.
 pub record RepliesTo (line : List ℕ) (running : RunningStatus) (change : ChangeRun)
     (reply : Reply) : Type 0 where
   pub words : List (List ℕ)

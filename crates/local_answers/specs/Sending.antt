@@ -31,7 +31,7 @@ due_after (byte ∷ lines) sending = []
 abbrev pub due_part : Sending → List ℕ
 due_part sending = due_after sending.reply.journal.items sending
 
--- The second has what the first has, but for the lines of the journal.
+-- The second has what the first has, except the lines of the journal.
 pub record DifferInJournalAlone (old new : Sending) : Type 0 where
   pub head : new.reply.head.items ≡ old.reply.head.items
   pub output : new.reply.output.items ≡ old.reply.output.items

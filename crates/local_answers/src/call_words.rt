@@ -1,15 +1,15 @@
-//! The words of a request, out of those of a command line.
+//! The arguments of a request, out of those of a command line.
 ghost use Rattle.std.specs.Prelude.{◌≡◌, ◌++◌, IfOk, OnOk, map, option_map, option_to_list};
 ghost use Rattle.std.specs.Prelude.{string_bytes};
-ghost use Rattle.local_answers.specs.RequestWords.{asked_words, flag_word, is_asked, word_beside};
-ghost use Rattle.local_answers.specs.RequestWords.{words_beside};
+ghost use Rattle.local_answers.specs.RequestWords.{asked_words, flag_word, is_asked, word_with};
+ghost use Rattle.local_answers.specs.RequestWords.{words_with};
 
-use fedbundle::{Call, OptionName};
+use command_line::{Call, OptionName};
 use std::alloc::{AllocError, Global};
 
-/// The words by which a request asks a running replica for what the command line asks for: the
+/// The arguments by which a request asks a running replica for what the command line asks for: the
 /// subcommand, and each option that is given but `--config`, `--state` and `--at`. An option and
-/// its text are one word, so a text may begin with a hyphen.
+/// its text are one argument, so a text may begin with a hyphen.
 ///
 /// # Errors
 /// Memory ran out.
@@ -35,7 +35,7 @@ fn push_words(
     texts: &[Option<&str>],
 ) -> Result<(), AllocError>
     ensures { OnOk result (map string_bytes words.new.items ≡ map string_bytes words.old.items
-        ++ words_beside options.now (map (option_map (λ t. t.now)) texts.now)) }
+        ++ words_with options.now (map (option_map (λ t. t.now)) texts.now)) }
 {
     let mut rest = texts;
     'options: for &option in options {
@@ -67,7 +67,7 @@ fn option_word(
     text: Option<&str>,
 ) -> Result<Option<String>, AllocError>
     ensures { IfOk result (λ word. option_map string_bytes word
-        ≡ word_beside option (option_map (λ t. t.now) text.entry)) }
+        ≡ word_with option (option_map (λ t. t.now) text.entry)) }
 {
     match text {
         Some(text) if option.is_flag() => flag_word(alloc, option, text),

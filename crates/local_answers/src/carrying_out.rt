@@ -16,13 +16,14 @@ use crate::reply::Reply;
 use crate::request_fault::RequestFault;
 use crate::shown_calls::{shown, stop};
 use closure_core::Closure;
-use fedbundle::{CommandName, Exit, WordsError, manner_of, read_request};
+use command_exits::Exit;
+use command_line::{CommandName, WordsError, manner_of, read_request};
 use request_lines::read_request_words;
 use status_view::RunningStatus;
 use std::alloc::{AllocError, Global};
 
-/// Carries out what a request asks for: the words, as [`fedbundle::read_request`] reads them, with
-/// the input in place of standard input. The streams and the exit status are those of the same
+/// Carries out what a request asks for: the arguments, as [`fedbundle::read_request`] reads them,
+/// with the input in place of standard input. The streams and the exit status are those of the same
 /// command over files. All memory is taken before what is held changes.
 ///
 /// `running` is what the replica says of itself: `status` shows it, and of `--most-bytes` the rest
@@ -30,8 +31,8 @@ use std::alloc::{AllocError, Global};
 ///
 /// # Errors
 /// Nothing has changed, and [`RequestFault::reply`] is to be replied.
-/// - [`RequestFault::WordsTooLong`]: the line of words has more than 65,536 bytes,
-/// - [`RequestFault::BadWords`]: it is no JSON array of texts,
+/// - [`RequestFault::WordsTooLong`]: the line of arguments has more than 65,536 bytes,
+/// - [`RequestFault::BadWords`]: it is not a JSON array of texts,
 /// - [`RequestFault::NoMemory`]: memory ran out.
 pub fn answer_request<C: Closure>(
     alloc: Global,
@@ -73,7 +74,7 @@ pub(crate) fn texts_of_words(alloc: Global, words: &[String]) -> Result<Vec<&str
     Ok(texts)
 }
 
-// The words are none of a command, or ask for help or for the version.
+// The arguments are not those of a command, or ask for help or for the version.
 pub(crate) fn reply_by_words(alloc: Global, error: &WordsError) -> Result<Reply, AllocError>
     ensures { IfOk result (RepliesToError error.now) }
 {
@@ -141,7 +142,7 @@ fn carry_out<C: Closure>(
     }
 }
 
-// How many bytes both files of the replica have, as far as 64 bits tell.
+// How many bytes both files of the replica have, at most what 64 bits hold.
 fn bytes_of_files(running: &RunningStatus<'_>) -> u64
     ensures { result ≡ bytes_of_files running.now }
 {

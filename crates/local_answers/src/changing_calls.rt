@@ -1,4 +1,4 @@
-//! The commands that change what is held, by what the words say.
+//! The commands that change what is held, by what the arguments say.
 ghost use Rattle.std.specs.Prelude.{◌≡◌, ◌↔◌, ◌≤◌, IfErr, IfOk, IsTrue, OnErr, length};
 ghost use Rattle.fedbundle.specs.CommandRun.{state_run};
 ghost use Rattle.command_line.specs.declared.command_name.CommandName.TheVariants as command;
@@ -12,9 +12,9 @@ use crate::changing_replies;
 use crate::reply::Reply;
 use crate::shown_calls::shown;
 use closure_core::Closure;
-use fedbundle::{
-    Exit, OptionName, given, is_flag_given, read_domain, read_record, read_verdict, wanted,
-};
+use command_exits::Exit;
+use command_line::{OptionName, given, is_flag_given, wanted};
+use fedbundle::{read_domain, read_record, read_verdict};
 use std::alloc::Global;
 
 pub(crate) fn observe<C: Closure>(

@@ -1,5 +1,5 @@
 //! The commands that change what is held. All memory for the reply and for the lines of the journal
-//! is taken before the change: where any is refused, nothing has changed.
+//! is taken before the change: if any is refused, nothing has changed.
 ghost use Rattle.std.specs.Prelude.{◌≡◌, true, IfErr, IfOk};
 ghost use Rattle.fedbundle.specs.CommandRun.{state_run};
 ghost use Rattle.fedbundle.specs.Merge.{count_text};
@@ -15,7 +15,8 @@ use crate::shown_calls::in_memory;
 use bundle_view::{Verdict, take_observed};
 use byte_lines::{FromRead, FromWrite};
 use closure_core::Closure;
-use fedbundle::{CommandError, Exit, prepare_observe, run_distrust, show_distrust, write_counted};
+use command_exits::{CommandError, Exit};
+use fedbundle::{prepare_observe, run_distrust, show_distrust, write_counted};
 use receipt_core::Distrust;
 use replica_sync::{SyncError, read_snapshot};
 use spiffe_name::TrustDomain;
@@ -110,7 +111,7 @@ pub(crate) fn distrust<C: Closure>(
     ensures ends { IfErr result
         (EndsDistrust (state_run (C.state closure.old) (C.state closure.new)) record.now) }
 {
-    // What is lent tells the form of what is held.
+    // What is lent shows the form of what is held.
     let _config = closure.config();
     let errors = said_of(alloc, closure, record, is_verbose)?;
     let journal = line_of_record(alloc, closure, record)?;

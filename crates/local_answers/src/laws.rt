@@ -1,4 +1,4 @@
-//! What follows from the definitions alone. A call that needs a law calls its function, which does
+//! What follows only from the definitions. A call that needs a law calls its function, which does
 //! nothing, and cites what it ensures.
 ghost use Rattle.std.specs.Prelude.{◌≡◌, ◌≢◌, ◌<◌, ◌≤◌, ◌++◌, ◌∷◌, List, Some, slice_get};
 ghost use Rattle.std.specs.Prelude.{true, ℕ};
@@ -19,11 +19,11 @@ ghost use Rattle.local_answers.specs.ChangeEvents.{sent_give, sent_have};
 ghost use Rattle.local_answers.specs.Journalling.{JournalsChange};
 ghost use Rattle.fedbundle.specs.CommandRun.{StateRun};
 
-/// A replica that stays is one of a world of replicas with one configuration, whatever changes
-/// between two of its messages: what changes is a list of events, and each message is one.
+/// A running replica is one of a world of replicas with one configuration, whatever changes between
+/// two of its messages: what changes is a list of events, and each message is one.
 ///
-/// - `changes`: where receipts and records come to be held, the replica holds what it holds in the
-///   world after their events, in this order.
+/// - `changes`: if receipts and records are added, the replica holds what it holds in the world
+///   after their events, in this order.
 /// - `requested`: so it is with all that a request changes; the lines of the journal say which
 ///   events.
 /// - `pulled`: and with all that a piece of an answer changes.
@@ -59,14 +59,14 @@ pub fn world_of_changes()
     replica_core::laws::effects();
 }
 
-/// Where an answer comes in pieces, and what is held grows between them too, each piece is an event
-/// of a world: the taking of the answer's first lines, and with the last piece that of all of it.
-/// With the have and the answer these are the events of an exchange, and
-/// `replica_core::laws::exchange` says what that brings.
+/// If an answer comes in pieces, and what is held grows between them too, each piece is an event of
+/// a world: the taking of the answer's first lines, and with the last piece that of all of it. With
+/// the have and the answer these are the events of an exchange, and `replica_core::laws::exchange`
+/// says what that brings.
 ///
-/// - `grows`: where receipts and records come to be held, nothing is lost.
-/// - `pieces`: after a piece the replica holds what it holds in the world by taking so many lines
-///   of the answer, and nothing else changes there.
+/// - `grows`: if receipts and records are added, nothing is lost.
+/// - `pieces`: after a piece the replica holds what it holds in the world by taking a number of
+///   lines of the answer, and nothing else changes there.
 /// - `last_piece`: so it is after the last one with the whole answer, which is not too much.
 pub fn world_of_pieces()
     ensures grows { (m : Meaning) (entries : List Entry)

@@ -1,15 +1,15 @@
 //! The requests that a running replica answers on its own machine, without a socket, a file or a
 //! clock: the bytes of a connection go in, as the pieces in which they come, and a reply comes out.
 //!
-//! `request_parts` joins the pieces, and `request_fault` has what is replied where they are no
+//! `request_parts` joins the pieces, and `request_fault` has what is replied if they are not a
 //! request. `asked` has what a request asks for, and `carrying_out` does it: `shown_calls` has the
 //! commands that show what is held, which are those of [`fedbundle::run_shown`], and
-//! `changing_calls` and `changing_replies` those that change it, the first what the words say, and
-//! the second what is replied. `looking` answers at a socket at which nothing can be changed. A
-//! change is journalled by `new_lines`. `reply` is what is sent back,
-//! and `reply_sending` says when. `call_words` is for clients. `page_answers` has the pages of the
-//! address for health and metrics, with what `page_source` has beside what is held, and `readiness`
-//! says whether a peer is heard.
+//! `changing_calls` and `changing_replies` those that change it, the first what the arguments say,
+//! and the second what is replied. `looking` answers at a socket at which nothing can be changed. A
+//! change is journalled by `new_lines`. `reply` is what is sent back, and `reply_sending` says
+//! when. `call_words` is for clients. `page_answers` has the pages of the address for health and
+//! metrics, with what `page_source` has in addition to what is held, and `readiness` says whether a
+//! peer is heard.
 #![tactic(auto)]
 
 mod asked;

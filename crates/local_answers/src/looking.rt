@@ -14,14 +14,15 @@ use crate::reply::Reply;
 use crate::request_fault::RequestFault;
 use crate::shown_calls::shown;
 use closure_core::Closure;
-use fedbundle::{CommandName, Exit, OptionName, given, is_flag_given, manner_of, read_request};
+use command_exits::Exit;
+use command_line::{CommandName, OptionName, given, is_flag_given, manner_of, read_request};
 use request_lines::read_request_words;
 use status_view::RunningStatus;
 use std::alloc::Global;
 
-/// Carries out what a request asks for, as [`answer_request`] does, where it only looks at what is
+/// Carries out what a request asks for, as [`answer_request`] does, if it only looks at what is
 /// held. `observe`, `merge`, `distrust` without `--dry-run` and `stop` are refused as `read only`,
-/// with the exit status 1. Nothing is journalled, and the replica goes on.
+/// with the exit status 1. Nothing is journalled, and the replica continues.
 ///
 /// # Errors
 /// Those of [`answer_request`].

@@ -20,7 +20,7 @@ pub(crate) struct NewLines {
     pub(crate) receipts: u64,
 }
 
-// The line of a receipt, where it is not held.
+// The line of a receipt, if it is not held.
 pub(crate) fn line_of_receipt<C: Closure>(
     alloc: Global,
     closure: &C,
@@ -29,7 +29,7 @@ pub(crate) fn line_of_receipt<C: Closure>(
     ensures { IfOk result (λ text.
         IsLineIfNew (C.state closure.now).meaning (AReceipt receipt.now) text.items) }
 {
-    // What these lend tells the form of the receipt and of what is held.
+    // What these lend shows the form of the receipt and of what is held.
     let _domain = receipt.domain();
     let _config = closure.config();
     if closure.holds(receipt) {
@@ -39,7 +39,7 @@ pub(crate) fn line_of_receipt<C: Closure>(
     Ok(line)
 }
 
-// The line of a record, where it is not held.
+// The line of a record, if it is not held.
 pub(crate) fn line_of_record<C: Closure>(
     alloc: Global,
     closure: &C,
@@ -48,7 +48,7 @@ pub(crate) fn line_of_record<C: Closure>(
     ensures { IfOk result (λ text.
         IsLineIfNew (C.state closure.now).meaning (Record record.now) text.items) }
 {
-    // What these lend tells the form of the record and of what is held.
+    // What these lend shows the form of the record and of what is held.
     let key = record.key;
     let _form = key_of(&key.0);
     let _domain = record.domain.as_str();
@@ -60,7 +60,7 @@ pub(crate) fn line_of_record<C: Closure>(
     Ok(line)
 }
 
-// What is read of a key tells its form.
+// What is read of a key shows its form.
 fn key_of(digest: &[u8; 32]) -> KeyId
     ensures { IsDigest digest.now }
 {

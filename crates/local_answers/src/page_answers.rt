@@ -1,5 +1,5 @@
 //! Pages of a running replica: what is held is only lent to them, so they change nothing. A page
-//! shows what a request of certain words is replied.
+//! shows what a request of certain arguments is replied.
 ghost use Rattle.std.specs.Prelude.{◌≡◌, ◌++◌, IfOk, OnOk, map, option_map};
 ghost use Rattle.fedbundle.specs.CommandRun.{state_run};
 ghost use Rattle.health_pages.specs.Pages.{asked_view};
@@ -26,8 +26,8 @@ use std::alloc::{AllocError, Global};
 /// The exit status of a command for which there was no memory.
 const NO_MEMORY: u8 = 4;
 
-/// The response to a request for a page. A page that shows what is held has what the command of
-/// its words prints: `status`, `report --format=json`, `list --keys --format=json`, or `graph`. If
+/// The response to a request for a page. A page that shows what is held has what the command of its
+/// arguments prints: `status`, `report --format=json`, `list --keys --format=json`, or `graph`. If
 /// that is refused, it has the line that says why.
 ///
 /// # Errors
@@ -185,7 +185,7 @@ fn graph_reply<C: Closure>(
     }
 }
 
-// What a request with these words and no input is replied, if it only looks.
+// What a request with these arguments and no input is replied, if it only looks.
 fn reply_to<C: Closure>(
     alloc: Global,
     closure: &C,

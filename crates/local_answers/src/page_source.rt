@@ -1,4 +1,4 @@
-//! What pages are made of beside what is held, and what comes of it.
+//! What pages are made of in addition to what is held, and what comes of it.
 use health_pages::{ContentType, LoopCounts, ResponseStatus};
 use status_view::RunningStatus;
 
@@ -11,7 +11,7 @@ pub struct PageLimits {
     pub peer_quiet: u64,
 }
 
-/// What pages show beside what is held.
+/// What pages show in addition to what is held.
 #[derive(Clone, Copy, Debug)]
 pub struct PageSource<'a> {
     /// What the replica says of itself.

@@ -4,11 +4,11 @@ ghost use Rattle.request_lines.specs.RequestLines.{reply_line};
 ghost use Rattle.replica_texts.specs.Snapshots.{ended};
 
 use byte_lines::FromWrite;
-use fedbundle::{Exit, exit_status, write_exit};
+use command_exits::{Exit, exit_status, write_exit};
 use request_lines::{ReplyHead, write_reply_head};
 use std::alloc::{AllocError, Global};
 
-/// What is replied to a request: `head`, `output` and `errors` are sent one after another. Where
+/// What is replied to a request: `head`, `output` and `errors` are sent one after another. If
 /// `journal` is not empty it has to be on the disk before, at the end of the journal.
 #[derive(Debug, Drop)]
 pub struct Reply {
@@ -30,7 +30,7 @@ pub struct Reply {
 impl Reply {
     ghost use Rattle.local_answers.specs.RequestRun.{IsReplied, IsEnded, IsWith};
 
-    // A reply of a command that is done, and says nothing beside its output.
+    // A reply of a command that is done, with nothing on standard error.
     pub(crate) fn done(alloc: Global, output: Vec<u8>) -> Result<Reply, AllocError>
         ensures { IfOk result (λ reply. IsReplied reply output.items []) }
     {

@@ -49,7 +49,8 @@ impl Sending {
         self.reply.ends
     }
 
-    /// Says that the lines are on the disk: from now on there are none, and nothing else changes.
+    /// Says that the lines are on the disk: from now on the reply has no lines, and nothing else
+    /// changes.
     pub fn settle(&mut self)
         ensures settled { self.new.reply.journal.items ≡ [] }
         ensures unsent { unsent self.new ≡ unsent self.old }

@@ -9,13 +9,13 @@ use std::alloc::AllocError;
 /// Why a connection gets no reply of a command. Nothing was changed.
 #[derive(Clone, Copy, Debug, PartialEq, Eq)]
 pub enum RequestFault {
-    /// The line of words has more than 65,536 bytes.
+    /// The line of arguments has more than 65,536 bytes.
     WordsTooLong,
     /// The input has more than 268,435,456 bytes.
     InputTooLong,
-    /// The stream ends within the line of words.
+    /// The stream ends within the line of arguments.
     NoWords,
-    /// The line of words is no JSON array of texts.
+    /// The line of arguments is not a JSON array of texts.
     BadWords,
     /// 64 local connections are open, or there is no room for more bytes of requests and replies.
     TooManyRequests,

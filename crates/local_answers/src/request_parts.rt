@@ -1,7 +1,7 @@
-//! The words and the input of a request, out of the pieces in which its bytes come.
+//! The arguments and the input of a request, out of the pieces in which its bytes come.
 ghost use Rattle.std.specs.Prelude.{◌≡◌, ◌≤◌, ◌<◌, ◌++◌, IfSome, MatchResult, OnErr, OnOk, length};
 ghost use Rattle.std.specs.Option.{ForNone, ForSome};
-ghost use Rattle.byte_lines.specs.Inside.Ahead.{AtFeed, IsFeed};
+ghost use Rattle.byte_lines.specs.Ahead.{AtFeed, IsFeed};
 ghost use Rattle.byte_lines.specs.Lines.{HasNoFeed};
 ghost use Rattle.local_answers.specs.RequestLimits.{IsBeyondLimit, IsRequest, IsWithin};
 ghost use Rattle.local_answers.specs.RequestLimits.{IsWithinWith};
@@ -15,13 +15,13 @@ use std::alloc::{AllocError, Global};
 /// The most bytes of input that a request has.
 pub const MOST_INPUT: usize = 268_435_456;
 
-/// What came of a request so far: the line of its words, of at most 65,536 bytes without its line
-/// feed, and the input after it, of at most 268,435,456 bytes, which ends where the stream does.
-/// Where one piece ends and the next begins means nothing.
+/// What came of a request so far: the line of its arguments, of at most 65,536 bytes without its
+/// line feed, and the input after it to the end of the stream, of at most 268,435,456 bytes. The
+/// ends of the pieces mean nothing.
 #[derive(Drop)]
 pub struct RequestParts {
     bytes: Vec<u8>,
-    // Where the line of words ends.
+    // The place at which the line of arguments ends.
     end: Option<usize>,
     ghost plain: { ForNone end (HasNoFeed bytes.items) },
     ghost feed: { ForSome end (IsFeed bytes.items) },
@@ -32,7 +32,7 @@ pub struct RequestParts {
 /// A request that came whole.
 #[derive(Clone, Copy, Debug)]
 pub struct WholeRequest<'a> {
-    /// The line of words, without its line feed.
+    /// The line of arguments, without its line feed.
     pub words: &'a [u8],
     /// The bytes of standard input.
     pub input: &'a [u8],
@@ -58,7 +58,7 @@ impl RequestParts {
     ///
     /// # Errors
     /// Nothing was taken.
-    /// - [`RequestFault::WordsTooLong`]: the line of words has more than 65,536 bytes,
+    /// - [`RequestFault::WordsTooLong`]: the line of arguments has more than 65,536 bytes,
     /// - [`RequestFault::InputTooLong`]: there are more than 268,435,456 bytes after it,
     /// - [`RequestFault::NoMemory`]: memory ran out.
     pub fn take(&mut self, piece: &[u8]) -> Result<(), RequestFault>
@@ -72,7 +72,7 @@ impl RequestParts {
         Ok(())
     }
 
-    // Where the line of words ends, with a piece more.
+    // The place at which the line of arguments ends, with a piece more.
     fn end_with(&self, piece: &[u8]) -> Option<usize>
         ensures { AtFeed (bytes_come self.now ++ piece.now) result }
     {
@@ -85,7 +85,7 @@ impl RequestParts {
         }
     }
 
-    /// The request, where the stream ends here.
+    /// The request, if the stream ends here.
     ///
     /// # Errors
     /// [`RequestFault::NoWords`]: no line feed came.
@@ -129,14 +129,14 @@ fn keep(
     Ok(())
 }
 
-// Where the first line feed stands.
+// The place of the first line feed.
 fn line_feed(bytes: &[u8]) -> Option<usize>
     ensures { AtFeed bytes.now result }
 {
     memchr(b'\n', bytes)
 }
 
-// Whether so many bytes, with the line of words ending there, are within the limits.
+// Whether this many bytes, with the line of arguments ending there, are within the limits.
 fn check_limits(count: usize, end: Option<usize>) -> Result<(), RequestFault>
     requires { IfSome end (λ e. e < count) }
     ensures { MatchResult result (λ _. IsWithin count end) (IsBeyondLimit count end) }

@@ -1,5 +1,5 @@
 //! The commands that show what is held, over memory: their source has the input, and their sinks
-//! are texts, whose growth is all that can fail. Beside them `stop`, which does nothing but end.
+//! are texts, whose growth is all that can fail. With them is `stop`, which does nothing but end.
 ghost use Rattle.std.specs.Prelude.{◌≡◌, [], IfErr, IfOk};
 ghost use Rattle.fedbundle.specs.CommandRun.{state_run};
 ghost use Rattle.command_line.specs.declared.command_name.CommandName.TheVariants as command;
@@ -11,7 +11,8 @@ use crate::asked::Asked;
 use crate::reply::Reply;
 use byte_lines::{FromRead, FromWrite};
 use closure_core::Closure;
-use fedbundle::{CommandError, Exit, Shown, run_shown};
+use command_exits::{CommandError, Exit};
+use fedbundle::{Shown, run_shown};
 use std::alloc::Global;
 
 pub(crate) fn shown<C: Closure>(
@@ -32,19 +33,19 @@ pub(crate) fn shown<C: Closure>(
     };
     let mut source = FromRead::new(asked.input);
     let mut output = FromWrite::new(Vec::new(alloc));
-    let mut complaints = FromWrite::new(Vec::new(alloc));
+    let mut line_errors = FromWrite::new(Vec::new(alloc));
     match run_shown(
         alloc,
         closure,
         shown,
         &mut source,
         &mut output,
-        &mut complaints,
+        &mut line_errors,
     ) {
         Ok(status) => {
             let text = output.into_inner();
-            let beside = complaints.into_inner();
-            Ok(Reply::of_streams(alloc, status, text, beside)?)
+            let with_it = line_errors.into_inner();
+            Ok(Reply::of_streams(alloc, status, text, with_it)?)
         }
         Err(exit) => Err(over_memory(exit)),
     }
@@ -59,7 +60,7 @@ fn over_memory(exit: Exit) -> Exit
     }
 }
 
-// A device over memory fails only where memory runs out.
+// A device over memory fails only if memory runs out.
 pub(crate) fn in_memory(error: CommandError) -> Exit
     ensures { result ≡ memory_exit error }
 {

@@ -105,7 +105,7 @@ receipt_goes sets old new r TakenAlready held valid is took =
       refl,
     )
 
--- a record that was refused and reported stays behind; the search finds this lemma
+-- a record that was refused and reported is left out; the search finds this lemma
 pub record_stays : (old new : Meaning) (x : Distrust) (before after : Option (List ℕ)) (r : Result ℕ DeviceError)
     → (HasDomain old.config x.domain → ⊥) → new ≡ old → IfOk r (λ n. (n ≡ 1) × Appends before after (left_record x))
     → IfOk r (SortsItem (λ y. HasDomain old.config y.domain) (ReportsRecord old.config) x old.records new.records (sink_run before after))
@@ -121,7 +121,7 @@ record_stays old new x before after r unknown same wrote =
       w.0,
     )) wrote
 
--- the same of a receipt of an unknown domain
+-- the same for a receipt of an unknown domain
 pub unknown_stays : (old new : Meaning) (r : Receipt) (before after : Option (List ℕ)) (result : Result ℕ DeviceError)
     → IsOfUnknownDomain old.config r → new ≡ old → IfOk result (λ n. (n ≡ 1) × Appends before after (left_receipt r (codes ": unknown domain\n")))
     → IfOk result (SortsItem (IsFitting old.config) (ReportsReceipt old.config) r old.held new.held (sink_run before after))
@@ -137,7 +137,7 @@ unknown_stays old new r before after result unknown same wrote =
       w.0,
     )) wrote
 
--- the same of a receipt of another endpoint
+-- the same for a receipt of another endpoint
 pub wrong_stays : (old new : Meaning) (r : Receipt) (before after : Option (List ℕ)) (result : Result ℕ DeviceError)
     → IsConfiguration old.config → IsOfWrongEndpoint old.config r → new ≡ old
     → IfOk result (λ n. (n ≡ 1) × Appends before after (left_receipt r (codes ": wrong endpoint\n")))
@@ -170,21 +170,21 @@ low_stays old new r before after result low same wrote =
       w.0,
     )) wrote
 
--- a fault while the line of such a receipt is written leaves a beginning of it, or nothing
+-- an error while the line of such a receipt is written leaves a beginning of it, or nothing
 pub unknown_stops : (c : Configuration) (r : Receipt) (before after : Option (List ℕ)) → IsOfUnknownDomain c r
     → (after ≡ before) ⊎ AppendsBeginning before after (left_receipt r (codes ": unknown domain\n"))
     → StopsAtItem (ReportsReceipt c) r (sink_run before after)
 unknown_stops c r before after unknown begun =
     elim begun [ inl same ↦ inl same | inr some ↦ inr (left_receipt r (codes ": unknown domain\n"), inl (unknown, refl), some) ]
 
--- the same where the endpoint is another
+-- the same if the endpoint is another
 pub wrong_stops : (c : Configuration) (r : Receipt) (before after : Option (List ℕ)) → IsOfWrongEndpoint c r
     → (after ≡ before) ⊎ AppendsBeginning before after (left_receipt r (codes ": wrong endpoint\n"))
     → StopsAtItem (ReportsReceipt c) r (sink_run before after)
 wrong_stops c r before after wrong begun =
     elim begun [ inl same ↦ inl same | inr some ↦ inr (left_receipt r (codes ": wrong endpoint\n"), inr (inl (wrong, refl)), some) ]
 
--- the same where the document is below a floor
+-- the same if the document is below a floor
 pub low_stops : (c : Configuration) (r : Receipt) (before after : Option (List ℕ)) → IsBelowFloor c r
     → (after ≡ before) ⊎ AppendsBeginning before after (left_receipt r (codes ": below floor\n"))
     → StopsAtItem (ReportsReceipt c) r (sink_run before after)
@@ -202,13 +202,13 @@ left_goes goes reports (y ∷ xs) x lines fits left = elim left [
   | inr h ↦ inr (h.0, h.1, h.2, h.3, left_goes goes reports xs x h.1 fits h.4)
 ]
 
--- one more item that stays behind has its line at the end
+-- one more item that is left out has its line at the end
 left_stays : {A : Type 0} (goes : A → Type 0) (reports : A → List ℕ → Type 0) (xs : List A) (x : A) (lines : List (List ℕ)) (line : List ℕ) → reports x line
     → AreLeftOut goes reports xs lines → AreLeftOut goes reports (xs ++ x ∷ []) (lines ++ line ∷ [])
-left_stays goes reports [] x lines line told left = inr (line, [], ap (λ ls. ls ++ line ∷ []) left, told, refl)
-left_stays goes reports (y ∷ xs) x lines line told left = elim left [
-  | inl h ↦ inl (h.0, left_stays goes reports xs x lines line told h.1)
-  | inr h ↦ inr (h.0, h.1 ++ line ∷ [], ap (λ ls. ls ++ line ∷ []) h.2, h.3, left_stays goes reports xs x h.1 line told h.4)
+left_stays goes reports [] x lines line stated left = inr (line, [], ap (λ ls. ls ++ line ∷ []) left, stated, refl)
+left_stays goes reports (y ∷ xs) x lines line stated left = elim left [
+  | inl h ↦ inl (h.0, left_stays goes reports xs x lines line stated h.1)
+  | inr h ↦ inr (h.0, h.1 ++ line ∷ [], ap (λ ls. ls ++ line ∷ []) h.2, h.3, left_stays goes reports xs x h.1 line stated h.4)
 ]
 
 -- there are no more lines than items
@@ -323,7 +323,7 @@ sorted_place goes reports all before rest kept x sink n e so =
     let more = ap length e in
     omega (arith, low, size, more)
 
--- a fault at the next item leaves a beginning of its line after the others, or nothing more
+-- an error at the next item leaves a beginning of its line after the others, or nothing more
 pub sorted_stops : {A : Type 0} (goes : A → Type 0) (reports : A → List ℕ → Type 0) (all before rest kept : List A) (x : A)
     (first then later : Option (List ℕ)) (n : ℕ) → before ≡ x ∷ rest
     → SortedSoFar goes reports all before kept (sink_run first then) n → StopsAtItem reports x (sink_run then later)
@@ -356,7 +356,7 @@ sorted_stops {A} goes reports all before rest kept x first then later n e so sto
       }
     ]
 
--- an item has one line at most, and the lines so far with it are no more than the items
+-- an item has one line at most: with it there are not more lines so far than items
 pub sorted_fits : {A : Type 0} (goes : A → Type 0) (reports : A → List ℕ → Type 0) (all before rest kept now : List A) (x : A) (sink other : SinkRun) (n k : ℕ)
     → before ≡ x ∷ rest → SortedSoFar goes reports all before kept sink n → SortsItem goes reports x kept now other k → n + k ≤ length all
 sorted_fits goes reports all before rest kept now x sink other n k e so item =
@@ -369,7 +369,7 @@ sorted_fits goes reports all before rest kept now x sink other n k e so item =
 
 -- ---- the whole
 
--- the lists and lines of both parts, where all was gone through
+-- the lists and lines of both parts, if all was gone through
 lines_of_both : (k : Configuration) (m : Meaning) (records kept : List Distrust) (receipts others : List Receipt) (a b d : Option (List ℕ)) (n p : ℕ)
     → (one : HasSorted (λ y. HasDomain k y.domain) (ReportsRecord k) records kept (sink_run a b) n)
     → (two : HasSorted (IsFitting k) (ReportsReceipt k) receipts others (sink_run b d) p)
@@ -382,7 +382,7 @@ lines_of_both k m records kept receipts others a b d n p one two = record {
   each_receipt = two.left;
 }
 
--- where both parts were gone through, that was carried over
+-- if both parts were gone through, this was carried over
 pub carried_over : (choice : Choice) (k kr kc : Configuration) (m new : Meaning) (kept : List Distrust) (a b d : Option (List ℕ)) (n p : ℕ)
     → kr ≡ k → kc ≡ k → IsMeaning new → new.config ≡ kc → new.records ≡ kept
     → HasSorted (λ y. HasDomain kr y.domain) (ReportsRecord kr) m.records kept (sink_run a b) n
@@ -405,7 +405,7 @@ carried_over choice k kr kc m new kept a b d n p er ec valid config records firs
       counted = let i = one.counted in let j = two.counted in let size = length-append one.lines two.lines in omega (arith, i, j, size);
     }
 
--- a fault before the first record leaves nothing
+-- an error before the first record leaves nothing
 pub stops_first : (choice : Choice) (k : Configuration) (m : Meaning) (a : Option (List ℕ)) → StopsCarrying (carry_run choice k m a a)
 stops_first choice k m a = record {
   records = [];
@@ -420,7 +420,7 @@ stops_first choice k m a = record {
   begun = (0, Appends-nil a);
 }
 
--- a fault among the records leaves a beginning of their lines
+-- an error among the records leaves a beginning of their lines
 pub stops_records : (choice : Choice) (k kr : Configuration) (m : Meaning) (a b : Option (List ℕ)) → kr ≡ k
     → StopsSorting (λ y. HasDomain kr y.domain) (ReportsRecord kr) m.records (sink_run a b) → StopsCarrying (carry_run choice k m a b)
 stops_records choice k kr m a b er stops =
@@ -438,7 +438,7 @@ stops_records choice k kr m a b er stops =
       begun = one.begun;
     }
 
--- a fault among the receipts leaves the lines of the records and a beginning of theirs
+-- an error among the receipts leaves the lines of the records and a beginning of theirs
 pub stops_receipts : (choice : Choice) (k kr kc : Configuration) (m : Meaning) (kept : List Distrust) (a b d : Option (List ℕ)) (n : ℕ) → kr ≡ k → kc ≡ k
     → HasSorted (λ y. HasDomain kr y.domain) (ReportsRecord kr) m.records kept (sink_run a b) n
     → StopsSorting (IsFitting kc) (ReportsReceipt kc) (chosen_receipts choice m) (sink_run b d) → StopsCarrying (carry_run choice k m a d)

@@ -76,7 +76,7 @@ pub record AreLinesOf (c : Configuration) (records : List Distrust) (receipts : 
 -- ---- a call of `carry`
 
 -- what is to be carried over, the configuration to which, and what the sink of the lines holds
--- before and after, where it tells
+-- before and after, if it shows that
 pub record CarryRun : Type 0 where
   pub choice : Choice
   pub config : Configuration

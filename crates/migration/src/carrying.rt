@@ -26,7 +26,7 @@ use std::alloc::Global;
 pub enum Choice {
     /// Receipts and records of distrust.
     All,
-    /// Records of distrust alone.
+    /// Only records of distrust.
     RecordsOnly,
 }
 
@@ -85,7 +85,7 @@ pub fn carry<C: Closure, E: Sink>(
           after = E.contents lines.new;
         }) }
 
-    // A fault is reported exactly where the sink failed in this call.
+    // An error of the sink is reported exactly if the sink failed in this call.
     ensures fault { E.has_failed lines.new ≡ (is_source_fault result || E.has_failed lines.old) }
 {
     let _domains = config.domains();

@@ -1,4 +1,4 @@
-//! What follows from the definitions alone. A call does nothing.
+//! What follows only from the definitions. A call does nothing.
 ghost use Rattle.std.specs.Prelude.{◌≡◌, ◌↔◌, Contains};
 ghost use Rattle.fed_config.specs.Configuration.{Configuration};
 ghost use Rattle.receipt_core.specs.Acceptance.{Meaning};

@@ -8,11 +8,11 @@ use std::alloc::AllocError;
 pub enum Ending {
     /// All was said.
     Well,
-    /// It was at fault.
+    /// It ended with an error.
     Fault(SyncError),
     /// The other side sent more than the limit says.
     TooManyBytes,
-    /// It gave way to a later one.
+    /// It made room for a later one.
     GaveWay,
     /// The other side ended it at the question about sums, which it may not know: the session
     /// continues without them, on another connection.
@@ -20,7 +20,7 @@ pub enum Ending {
 }
 
 impl Ending {
-    /// Why it failed, where it did.
+    /// Why it failed, if it did.
     pub fn fault(self) -> Option<PeerFault> {
         match self {
             Ending::Well | Ending::WithoutSums => None,

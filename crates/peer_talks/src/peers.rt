@@ -92,13 +92,13 @@ impl Peers {
         })
     }
 
-    /// What is said of each peer, in the order of the words.
+    /// What is said of each peer, in the order of the arguments.
     pub fn statuses(&self) -> &[PeerStatus] {
         self.statuses.as_slice()
     }
 
-    /// How long until the next session may begin: `None` where each peer is asked, or there are
-    /// none.
+    /// How long until the next session may begin: `None` if each peer is asked, or there is no
+    /// peer.
     pub fn time_left(&self, now: Instant) -> Option<Duration> {
         let idle = self.places.iter().filter(|place| !place.is_asked);
         idle.map(|place| place.due.duration_since(now)).min()

@@ -61,7 +61,7 @@ impl PullTalk {
         !self.pulling.is_over() && self.pulling.output().is_empty()
     }
 
-    /// Keeps bytes that came, as many as may come.
+    /// Keeps bytes that came, at most the number that may come.
     pub fn take(&mut self, piece: &[u8]) -> Result<(), AllocError> {
         self.answer = PeerAnswer::Came;
         let left = usize::try_from(self.bytes_left).unwrap_or(usize::MAX);

@@ -28,13 +28,13 @@ use Rattle.closure_parts.proofs.PairFacts.{pairing-counts}
 use Rattle.closure_parts.proofs.HeldChangeFacts.{same-more, pairs-push, with_arrival, hoard-before, with_mistrust, distrust-sets, always-all}
 use Rattle.closure_core.proofs.NodeFacts.{length-flags}
 use Rattle.closure_core.proofs.MemberFacts.{member_more}
-use Rattle.plain_closure.proofs.PlainFacts.{item_at, plain-tells}
+use Rattle.plain_closure.proofs.PlainFacts.{item_at, plain-reports}
 
 -- A flag that is raised is one of those that there are.
 raised-within : (flags : List Bool) (k : ℕ) → is_raised flags k ≡ true → k < length flags
 raised-within flags k e = elim (cases_lt k (length flags)) [ inl l ↦ l | inr l ↦ absurd (both_ways (is_raised flags k) (get_or_past flags k false l) e) ]
 
--- With more receipts, and with fewer records of distrust, what was released stays so.
+-- With more receipts, and with fewer records of distrust, what was released is still released.
 released-more : (m n : Meaning) → m.config ≡ n.config → ((r : Receipt) → Contains m.held r → Contains n.held r)
     → ((x : Distrust) → Contains n.records x → Contains m.records x) → (r : Receipt) → IsReleased m r → IsReleased n r
 released-more m n same more fewer r is = record {
@@ -58,7 +58,7 @@ module _ (h new : HeldReceipts) (p q : DocumentTableView) (offers : List Triple)
     (i : HasPlainFlags h p offers released) (j : HasPlainFlags new q offers others)
     (heads : (node number : ℕ) → slice_get p.heads node ≡ Some number → slice_get q.heads node ≡ Some number)
     (sizes : length p.counts ≤ length q.counts) where
-  -- An accepted node stays so.
+  -- An accepted node is still accepted.
   had-carry : (node : ℕ) → IsAcceptedNode (length h.config.seeds) released node → IsAcceptedNode (length new.config.seeds) others node
   had-carry node had = elim had [
     | inl l ↦ inl (subst (λ (c : Configuration). node < length c.seeds) config l)
@@ -72,7 +72,7 @@ module _ (h new : HeldReceipts) (p q : DocumentTableView) (offers : List Triple)
         )
   ]
 
-  -- A raised flag stays so.
+  -- A raised flag is still raised.
   kept-carry : (k : ℕ) → is_raised (flags_of p.counts) k ≡ true
       → is_raised (flags_of q.counts) k ≡ true
   kept-carry k e =
@@ -109,7 +109,7 @@ module _ (h new : HeldReceipts) (p q : DocumentTableView) (offers : List Triple)
       gain-from_flags no_documents (meaning_of h) (meaning_of new) (pairs_of h.config.seeds h.arrived)
       (pairs_of new.config.seeds new.arrived) p.numbers q.numbers (flags_of p.counts)
       (flags_of q.counts)
-      (plain-tells h p offers released i) (plain-tells new q offers others j) kept-carry
+      (plain-reports h p offers released i) (plain-reports new q offers others j) kept-carry
       (λ k x e f at. pairs-carry k x at) n count flag-sizes
 
 -- ---- flags raised again
@@ -167,7 +167,7 @@ set-more h new p q offers released r s form unheld is valid pairing =
       size = omega (arith, length_push released false, length_push h.arrived r, s.size);
     })
 
--- With one more receipt what was released stays so.
+-- With one more receipt what was released is still released.
 pub release-more : (h new : HeldReceipts) (r : Receipt) → IsMeaning (meaning_of h) → IsReceipt r
     → ((s : Receipt) → Contains h.held s ↔ Contains h.arrived s) → new ≡ with_arrival h r → (s : Receipt)
     → IsReleased (meaning_of h) s → IsReleased (meaning_of new) s
@@ -251,7 +251,7 @@ settled-roomier h new p q offers released i is r =
 
 -- ---- what is gained and lost
 
--- Each node's first number has a count, also if these are replaced by as many other counts.
+-- Each node's first number has a count, also if these are replaced by the same number of others.
 pub heads-lowered : (h : HeldReceipts) (p low : DocumentTableView) (offers : List Triple) (released : List Bool)
     → IsSet h p offers released → low.heads ≡ p.heads → length low.counts ≡ length p.counts
     → All (λ f. f < length low.counts) low.heads

@@ -12,7 +12,7 @@ use Rattle.receipt_core.specs.Receipt.{Receipt, Pair, pair_of, offers_of, need_o
 use Rattle.receipt_core.specs.Acceptance.{Meaning, IsMeaning, IsMember, IsFitting, IsReleased, Vouches, pair_of_seed}
 use Rattle.closure_parts.proofs.PlaceFacts.{slice_get-append_cases, slice_get-map_cases, slice_get-Contains, Contains-slice_get}
 use Rattle.closure_core.specs.Inside.Nodes.{pairs_of, is_raised, flags_of}
-use Rattle.closure_core.specs.Inside.Flags.{TellsMembers}
+use Rattle.closure_core.specs.Inside.Flags.{ReportsMembers}
 use Rattle.closure_parts.specs.Held.{HeldReceipts, meaning_of}
 use Rattle.closure_parts.specs.Pairs.{DocumentTableView, HasRaised}
 use Rattle.plain_closure.specs.Plain.{AreSeedOffers, IsOfferedBelow, IsOffered, IsVouched, AreSound, AreQuietBelow}
@@ -157,7 +157,7 @@ sound-more m arrived released place r below at is sound k s there raised = elim 
   | inr other ↦ sound k s there (sym (get_or-set_other released place k true false other) ∙ raised)
 ]
 
--- A round stays quiet past a receipt whose flag is raised or that nothing vouches for.
+-- A round is still quiet past a receipt whose flag is raised or that nothing vouches for.
 pub quiet-more : (records : List Distrust) (seed_offers : List Triple) (arrived : List Receipt) (released : List Bool)
     (k : ℕ) (r : Receipt) → slice_get arrived k ≡ Some r
     → (is_raised released k ≡ false → IsVouched records seed_offers arrived released r → ⊥)
@@ -256,9 +256,9 @@ module _ (h : HeldReceipts) (p : DocumentTableView) (seed_offers : List Triple) 
   ]
 
   -- The flags of the documents say what is accepted.
-  pub plain-tells : TellsMembers (meaning_of h) (pairs_of h.config.seeds h.arrived) p.numbers
+  pub plain-reports : ReportsMembers (meaning_of h) (pairs_of h.config.seeds h.arrived) p.numbers
       (flags_of p.counts)
-  plain-tells = record {
+  plain-reports = record {
     size = length-flags p.counts ∙ i.set.pairing.counted;
     sound = λ n q e at. let f = (i.flags n).0 e in had-member f.node q f.had (sym (i.set.pairing.first f.node n f.first).1 ∙ at);
     listed = λ n e. let f = (i.flags n).0 e in (i.set.pairing.first f.node n f.first).0;
@@ -274,6 +274,6 @@ module _ (h : HeldReceipts) (p : DocumentTableView) (seed_offers : List Triple) 
   -- A pair's flag is raised exactly if its document is accepted.
   pub plain-member : (q : Pair) → HasRaised (pairs_of h.config.seeds h.arrived) p q ↔ IsMember (meaning_of h) q
   plain-member q = (
-    λ r. plain-tells.sound r.number q r.raised r.at,
-    λ a. let f = plain-tells.all q a in record { number = f.0; has = plain-tells.listed f.0 f.1; at = f.2; raised = f.1 },
+    λ r. plain-reports.sound r.number q r.raised r.at,
+    λ a. let f = plain-reports.all q a in record { number = f.0; has = plain-reports.listed f.0 f.1; at = f.2; raised = f.1 },
   )

@@ -1,6 +1,6 @@
 //! Rounds over all receipts: what an accepted document vouches for is accepted too. A round raises
 //! the flag of each receipt, in order of arrival, for which a configured document or that of a
-//! receipt with a raised flag vouches. Rounds go on until one raises none.
+//! receipt with a raised flag vouches. Rounds continue until one raises none.
 //!
 //! A round is sound: an accepted document vouches for each receipt with a raised flag. The last one
 //! is quiet: no such document vouches for a receipt whose flag is not raised. With

@@ -162,7 +162,7 @@ fn place_receipt(
 /// vouched for.
 ///
 /// # Errors
-/// The domain is not one of the configuration, or there are as many records as there may be.
+/// The domain is not one of the configuration, or there may be no more records.
 pub(crate) fn retract(
     held: &mut Held,
     pairs: &mut Pairs,
@@ -191,7 +191,7 @@ pub(crate) fn retract(
     }
 }
 
-/// Distrusts keys in domains of the configuration, as many as there may be: the flags are lowered
+/// Distrusts keys in domains of the configuration, no more than may be held: the flags are lowered
 /// once, and rounds raise again those that are still vouched for.
 pub(crate) fn retract_all(
     held: &mut Held,

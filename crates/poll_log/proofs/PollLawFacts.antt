@@ -21,8 +21,8 @@ one_outcome false true e = cc
 one_outcome false false e = refl
 
 -- a line says one thing at most
-one_told : (domains : List (List ℕ)) (text : List ℕ) (s t : SaidPoll) → AreNames domains → SaysLine domains text s → SaysLine domains text t → s ≡ t
-one_told domains text s t names p q =
+one_stated : (domains : List (List ℕ)) (text : List ℕ) (s t : SaidPoll) → AreNames domains → SaysLine domains text s → SaysLine domains text t → s ≡ t
+one_stated domains text s t names p q =
     let words = one_word s.domain t.domain _ _ (plain_name s.domain (names s.domain p.known))
     (plain_name t.domain (names t.domain q.known)) (sym p.is ∙ q.is) in
     let parts = one_word (outcome_text s.ok) (outcome_text t.ok) (signed_decimal s.seconds) (signed_decimal t.seconds)
@@ -33,7 +33,7 @@ one_told domains text s t names p q =
 
 -- a line says one poll at most
 one_poll : (domains : List (List ℕ)) (text : List ℕ) (p q : Poll) → AreNames domains → SaysPoll domains text p → SaysPoll domains text q → p ≡ q
-one_poll domains text p q names a b = a.is ∙ ap poll_of (one_told domains text a.said b.said names a.says b.says) ∙ sym b.is
+one_poll domains text p q names a b = a.is ∙ ap poll_of (one_stated domains text a.said b.said names a.says b.says) ∙ sym b.is
 
 -- lines say one list of polls at most
 one_list : (domains : List (List ℕ)) (lines : List (List ℕ)) (ps qs : List Poll) → AreNames domains
@@ -86,6 +86,6 @@ no_log c bytes (BadLine n) log form refused memory io is = elim refused [
 no_log c bytes (BadMoment n) log form refused memory io is =
     let said = found (polled c) bytes log n (SaysNoMoment (polled c)) refused is in
     let same : said.1.said ≡ refused.bad.said =
-    one_told (polled c) refused.text said.1.said refused.bad.said (names_in c form) said.1.says refused.bad.says
+    one_stated (polled c) refused.text said.1.said refused.bad.said (names_in c form) said.1.says refused.bad.says
     in
     refused.bad.past (subst HasMoment same said.1.moment)

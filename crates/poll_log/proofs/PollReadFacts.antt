@@ -97,7 +97,7 @@ bad domains (Some xs) (Some ys) (Some zs) log n text Fault read line fault =
       counted = omega (arith, read.lines.counted);
     }
 
--- what follows from a property of bytes holds also if a source cannot tell them
+-- what follows from a property of bytes holds also if a source does not report them
 if_some : (a : Option (List ℕ)) (P Q : List ℕ → Type 0) → ((xs : List ℕ) → P xs → Q xs) → IfSome a P → IfSome a Q
 if_some None P Q f h = tt
 if_some (Some xs) P Q f h = f xs h

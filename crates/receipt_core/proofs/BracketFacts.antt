@@ -68,7 +68,7 @@ calm_hex b h =
     let small : b < 32 = grind (arith, nat_tests) in
     (calm_digit (b / 16) (omega arith), calm_digit (b % 16) (omega arith))
 
--- where the letter of an escape is 0, the byte is none of the two marks, since each of these is its
+-- if the letter of an escape is 0, the byte is neither of the two marks, since each of these is its
 -- own letter
 chosen : (marked : Bool) (b other : ℕ) → 0 < b → nat_lt 0 (cond marked b other) ≡ false → marked ≡ false
 chosen true b other h k = grind (arith, nat_tests)
@@ -110,17 +110,17 @@ inside_escape n [] rest = refl
 inside_escape n (b ∷ s) rest =
     ap (inside n) (append_assoc (escape_byte b) (escape s) (34 ∷ rest)) ∙ inside_byte n b (escape s ++ 34 ∷ rest) ∙ inside_escape n s rest
 
--- a quoted text leaves the reader where it was, with as many brackets open
+-- a quoted text does not move the reader, and leaves the same number of brackets open
 outside_quoted : (n : ℕ) (s rest : List ℕ) → outside n (quoted s ++ rest) ≡ outside n rest
 outside_quoted n s rest = ap (inside n) (append_assoc (escape s) (34 ∷ []) rest) ∙ inside_escape n s rest
 
 -- ---- numbers
 
--- the text leaves the reader outside of strings, with as many brackets open
+-- the text leaves the reader outside of strings, and the same number of brackets open
 Passes : List ℕ → Type 0
 Passes text = (n : ℕ) (rest : List ℕ) → outside n (text ++ rest) ≡ outside n rest
 
--- a digit leaves the reader where it was
+-- a digit does not move the reader
 digit_passes : (d n : ℕ) (rest : List ℕ) → d < 10 → outside n ((48 + d) ∷ rest) ≡ outside n rest
 digit_passes d n rest h =
     let quote : ((48 + d) == 34) ≡ false = grind (arith, nat_tests) in

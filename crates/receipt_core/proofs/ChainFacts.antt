@@ -24,11 +24,11 @@ contains_from_any {A} xs a h = (h.0, h.2, subst (λ (y : A). get_or xs h.0 y ≡
 pub any_moved : (xs ys : List Triple) (a b : Triple) (r : Bool) → xs ≡ ys → a ≡ b → (IsTrue r ↔ Any (λ t. t ≡ a) xs) → IsTrue r ↔ Any (λ t. t ≡ b) ys
 any_moved xs ys a b r e f h = subst (λ (zs : List Triple). IsTrue r ↔ Any (λ t. t ≡ b) zs) e (subst (λ (z : Triple). IsTrue r ↔ Any (λ t. t ≡ z) xs) f h)
 
--- where the key is not distrusted, the search for the need among the offers decides whether a
+-- if the key is not distrusted, the search for the need among the offers decides whether a
 -- document vouches
-pub next_told : (records : List Distrust) (p : Pair) (r : Receipt) (b : Bool) → (Contains records (distrust_of r.endpoint.domain r) → ⊥)
+pub next_stated : (records : List Distrust) (p : Pair) (r : Receipt) (b : Bool) → (Contains records (distrust_of r.endpoint.domain r) → ⊥)
     → (IsTrue b ↔ Any (λ t. t ≡ need_of r) (offers_of p)) → IsTrue b ↔ Vouches records p r
-next_told records p r b trusted h = (
+next_stated records p r b trusted h = (
   λ t. (Vouches-by_offers records p r).1 (
     contains_from_any (offers_of p) (need_of r) (h.0 t),
     trusted,
@@ -36,20 +36,19 @@ next_told records p r b trusted h = (
   λ v. h.1 (any_from_contains (offers_of p) (need_of r) ((Vouches-by_offers records p r).0 v).0),
 )
 
--- where the key is distrusted, no document vouches
-pub distrusted_told : (records : List Distrust) (p : Pair) (r : Receipt) → Contains records (distrust_of r.endpoint.domain r) → Vouches records p r → ⊥
-distrusted_told records p r h v = ((Vouches-by_offers records p r).0 v).1 h
+-- if the key is distrusted, no document vouches
+pub distrusted_stated : (records : List Distrust) (p : Pair) (r : Receipt) → Contains records (distrust_of r.endpoint.domain r) → Vouches records p r → ⊥
+distrusted_stated records p r h v = ((Vouches-by_offers records p r).0 v).1 h
 
 -- the configured document has what the receipt needs
 abbrev pub IsVoucher : Receipt → Seed → Type 0
 IsVoucher r s = (s.domain ≡ r.endpoint.domain) × HasKeyId s.document.authorities r.key × (doc_id_of s.domain s.document ≡ r.voucher.0)
 
--- where the key is not distrusted, the search among configured documents decides whether one
--- vouches
-pub seeded_told : (c : Configuration) (seeds : List Seed) (records : List Distrust) (r : Receipt) (b : Bool)
+-- if the key is not distrusted, the search among configured documents decides whether one vouches
+pub seeded_stated : (c : Configuration) (seeds : List Seed) (records : List Distrust) (r : Receipt) (b : Bool)
     → seeds ≡ c.seeds → (Contains records (distrust_of r.endpoint.domain r) → ⊥)
     → (IsTrue b ↔ Any (IsVoucher r) seeds) → IsTrue b ↔ HasVoucher c records r
-seeded_told c seeds records r b e trusted h = (
+seeded_stated c seeds records r b e trusted h = (
   λ t.
       let found = subst (λ (zs : List Seed). Any (IsVoucher r) zs) e (h.0 t) in
       record {
@@ -66,30 +65,30 @@ seeded_told c seeds records r b e trusted h = (
       (f.configured.0, f.seed, f.configured.1, f.configured.2, (f.vouches.endpoint, f.vouches.key, f.vouches.voucher))),
 )
 
--- where the key is distrusted, no configured document vouches
+-- if the key is distrusted, no configured document vouches
 pub distrusted_seeded : (c : Configuration) (records : List Distrust) (r : Receipt)
     → Contains records (distrust_of r.endpoint.domain r) → HasVoucher c records r → ⊥
-distrusted_seeded c records r h f = distrusted_told records (pair_of_seed f.seed) r h f.vouches
+distrusted_seeded c records r h f = distrusted_stated records (pair_of_seed f.seed) r h f.vouches
 
 -- a chain is its first receipt and what that leads on to
-pub chain_told : (c : Configuration) (records : List Distrust) (r : Receipt) (rest : List Receipt) (b : Bool)
+pub chain_stated : (c : Configuration) (records : List Distrust) (r : Receipt) (rest : List Receipt) (b : Bool)
     → IsFirst c records r → (IsTrue b ↔ LeadsOn c records (pair_of r) rest) → IsTrue b ↔ IsChain c records (r ∷ rest)
-chain_told c records r rest b f h = (
+chain_stated c records r rest b f h = (
   λ t. record { some = omega arith; seed = f.1.seed; configured = f.1.configured; leads = (f.0, f.1.vouches, h.0 t) },
   λ k. h.1 k.leads.2,
 )
 
--- where the first receipt starts no chain, there is none
+-- if the first receipt starts no chain, there is no chain
 pub no_first : (c : Configuration) (records : List Distrust) (r : Receipt) (rest : List Receipt) → (IsFirst c records r → ⊥) → IsChain c records (r ∷ rest) → ⊥
 no_first c records r rest none k = none (k.leads.0, record { seed = k.seed; configured = k.configured; vouches = k.leads.1 })
 
--- where nothing is so, `false` is the right result
-pub told_no : (P : Type 0) (b : Bool) → b ≡ false → (P → ⊥) → IsTrue b ↔ P
-told_no P b e none = (λ t. absurd (cc), λ p. absurd (none p))
+-- if nothing is so, `false` is the right result
+pub stated_no : (P : Type 0) (b : Bool) → b ≡ false → (P → ⊥) → IsTrue b ↔ P
+stated_no P b e none = (λ t. absurd (cc), λ p. absurd (none p))
 
--- where a test has the result `false`, nothing is so
-pub not_told : (P : Type 0) (b : Bool) → (IsTrue b ↔ P) → b ≡ false → P → ⊥
-not_told P b h e p = let yes = h.1 p in cc
+-- if a test has the result `false`, nothing is so
+pub not_stated : (P : Type 0) (b : Bool) → (IsTrue b ↔ P) → b ≡ false → P → ⊥
+not_stated P b h e p = let yes = h.1 p in cc
 
 -- ---- the end of a chain is accepted
 

@@ -17,16 +17,16 @@ use Rattle.receipt_core.proofs.RisingFacts.{Has-from_contains, each_has}
 pub no_floor : (c : Configuration) (domain : List ℕ) (document : Bundle) → IsFloorOf c domain None → ReachesFloor c domain document
 no_floor c domain document none f has same = absurd (none f has same)
 
--- where a domain has a floor, to reach its number decides
-pub floor_told : (c : Configuration) (domain : List ℕ) (document : Bundle) (n : ℕ) (b : Bool)
+-- if a domain has a floor, to reach its number decides
+pub floor_stated : (c : Configuration) (domain : List ℕ) (document : Bundle) (n : ℕ) (b : Bool)
     → IsFloorOf c domain (Some n) → (IsTrue b ↔ Reaches n document)
     → MatchBool b (ReachesFloor c domain document) (MissesFloor c domain document)
-floor_told c domain document n true floor told = λ f has e. subst (λ k. Reaches k document) (sym (floor.1 f has e)) (told.0 refl)
-floor_told c domain document n false floor told = record {
+floor_stated c domain document n true floor stated = λ f has e. subst (λ k. Reaches k document) (sym (floor.1 f has e)) (stated.0 refl)
+floor_stated c domain document n false floor stated = record {
   floor = floor.0.0;
   has = floor.0.1;
   of_domain = floor.0.2;
-  below = λ reaches. let yes = told.1 (subst (λ k. Reaches k document) (floor.1 floor.0.0 floor.0.1 floor.0.2) reaches) in cc;
+  below = λ reaches. let yes = stated.1 (subst (λ k. Reaches k document) (floor.1 floor.0.0 floor.0.1 floor.0.2) reaches) in cc;
 }
 
 -- what was found of an equal domain and an equal document holds

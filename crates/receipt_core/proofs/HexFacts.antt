@@ -59,18 +59,17 @@ same_order d e p q =
     (λ h. cmp_equal (digit_of d) (digit_of e) (ap digit_of h) ∙ sym (cmp_equal d e h))
     (λ h. cmp_greater (digit_of d) (digit_of e) (digits_rise e d h) ∙ sym (cmp_greater d e h)))
 
--- two orders in turn find less, where the first does, or the second after a tie
+-- two orders in turn find less if the first does, or the second after a tie
 then_less : (a b : Ordering) → (a ≡ Less) ⊎ ((a ≡ Equal) × (b ≡ Less)) → ordering_then a b ≡ Less
 then_less a b (inl h) = rw h refl
 then_less a b (inr h) = let front = h.0 in let back = h.1 in rw (front, back) refl
 
--- two orders in turn find greater, where the first does, or the second after a tie
+-- two orders in turn find greater if the first does, or the second after a tie
 then_greater : (a b : Ordering) → (a ≡ Greater) ⊎ ((a ≡ Equal) × (b ≡ Greater)) → ordering_then a b ≡ Greater
 then_greater a b (inl h) = rw h refl
 then_greater a b (inr h) = let front = h.0 in let back = h.1 in rw (front, back) refl
 
--- the digits of a lesser byte are less; the next two say the same of a greater one and of an equal
--- one
+-- the digits of a lesser byte are less; the next two are for a greater byte and for an equal one
 byte_less : (b c : ℕ) → b < c → ordering_then (nat_cmp (b / 16) (c / 16)) (nat_cmp (b % 16) (c % 16)) ≡ nat_cmp b c
 byte_less b c h =
     then_less (nat_cmp (b / 16) (c / 16)) (nat_cmp (b % 16) (c % 16))
@@ -188,5 +187,5 @@ pub decoded_digest : (text out d : List ℕ) (r : Result (Unit {0}) FromHexError
     → MatchResult (decode_sized text 32) (λ bytes. (r ≡ Ok tt) × (out ≡ bytes)) (λ e. r ≡ Err e)
     → encode_lower d ≡ text → IsDigest d → (r ≡ Ok tt) × (out ≡ d)
 decoded_digest text out d r h e is =
-    let told : decode_sized text 32 ≡ Ok d = ap (λ t. decode_sized t 32) (sym e) ∙ decode_sized-encode_lower d is in
-    subst (λ x. MatchResult x (λ bytes. (r ≡ Ok tt) × (out ≡ bytes)) (λ e. r ≡ Err e)) told h
+    let stated : decode_sized text 32 ≡ Ok d = ap (λ t. decode_sized t 32) (sym e) ∙ decode_sized-encode_lower d is in
+    subst (λ x. MatchResult x (λ bytes. (r ≡ Ok tt) × (out ≡ bytes)) (λ e. r ≡ Err e)) stated h

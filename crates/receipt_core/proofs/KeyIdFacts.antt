@@ -13,13 +13,13 @@ use Rattle.receipt_core.specs.Receipt.{key_ids, with_key_id, Pair, offer_of}
 use Rattle.receipt_core.specs.declared.triple.Triple.{Triple}
 use Rattle.receipt_core.specs.Rising.{with_item, placed}
 
--- the two spellings of where an item goes, the library's and that of `with_item`, are the same
+-- the two spellings of an item's place, the library's and that of `with_item`, are the same
 placed_same : {K : Type 0} (o : Ordering) (k x : K) (xs longer : List K) → match_ordering o (k ∷ x ∷ xs) (x ∷ xs) (x ∷ longer) ≡ placed o k x xs longer
 placed_same Less k x xs longer = refl
 placed_same Equal k x xs longer = refl
 placed_same Greater k x xs longer = refl
 
--- a key goes into a `BTreeSet` as into a rising list
+-- a key goes into a `BTreeSet` as into a sorted list
 pub insert_key-with_item : {K : Type 0} (cmp : K → K → Ordering) (ks : List K) (k : K) → insert_key cmp ks k ≡ with_item cmp k ks
 insert_key-with_item cmp [] k = refl
 insert_key-with_item cmp (x ∷ xs) k = placed_same (cmp k x) k x xs _ ∙ ap (placed (cmp k x) k x xs) (insert_key-with_item cmp xs k)

@@ -29,7 +29,7 @@ use Rattle.receipt_core.proofs.OrderFacts.{Above, Apart, behind, first_apart, fi
 use Rattle.receipt_core.proofs.BracketFacts.{apart_objects}
 use Rattle.receipt_core.proofs.HexFacts.{encode_lower-order, Above-encode_lower, unescaped-encode_lower}
 
--- ---- the texts that stand between quotation marks
+-- ---- the texts between quotation marks
 
 -- a byte that a segment may have is above the quotation mark
 segment_above : (b : ℕ) → is_segment_byte b ≡ true → 34 < b
@@ -81,7 +81,7 @@ Above-id id h =
 
 -- ---- the lines
 
--- the compact text of a receipt's members is its pieces, where no text needs an escape
+-- the compact text of a receipt's members is its pieces if no text needs an escape
 tree_text : (d : Data) (n e k v : List ℕ) → escape n ≡ n → escape e ≡ e → escape k ≡ k → escape v ≡ v
     → compact_text
     (object (member (codes "doc") d
@@ -135,7 +135,7 @@ line_text r h =
     (escape_itself (encode_lower r.key.0) (unescaped-encode_lower r.key.0 h.key.octets))
     (escape_itself (encode_lower r.voucher.0) (unescaped-encode_lower r.voucher.0 h.voucher.octets))
 
--- the compact text of a record's members is its pieces, where no text needs an escape
+-- the compact text of a record's members is its pieces if no text needs an escape
 distrust_tree_text : (k n : List ℕ) → escape k ≡ k → escape n ≡ n
     → compact_text (object (member (codes "distrust") (string k) (member (codes "domain") (string n) no_members))) ≡ distrust_pieces k n
 unfolding distrust_pieces escape_byte
@@ -260,9 +260,9 @@ record_first x r p q =
     (λ i. slice_cmp nat_cmp (distrust_line_text x p i) (line_text r q i))
     ∙ record_pieces_first (encode_lower x.key.0) x.domain (canonical_text r.document) r.domain r.endpoint.text (encode_lower r.key.0) (encode_lower r.voucher.0)
 
--- ---- what the orders don't tell apart is the same
+-- ---- what the orders do not distinguish is the same
 
--- triples that the order does not tell apart are equal
+-- triples that the order does not distinguish are equal
 pub one_triple : (a b : Triple) → triple_cmp a b ≡ Equal → a ≡ b
 one_triple a b h =
     let front = both_equal (slice_cmp nat_cmp a.domain b.domain) _ h in
@@ -272,7 +272,7 @@ one_triple a b h =
     let keys : a.key.0 ≡ b.key.0 = exact_bytes a.key.0 b.key.0 back.1 in
     λ i. record { domain = domains i; document = record { 0 = documents i }; key = record { 0 = keys i } }
 
--- records that the order does not tell apart are equal
+-- records that the order does not distinguish are equal
 pub one_distrust : (x y : Distrust) → distrust_cmp x y ≡ Equal → x ≡ y
 one_distrust x y h =
     let parts = both_equal (key_cmp x.key y.key) _ h in
@@ -280,7 +280,7 @@ one_distrust x y h =
     let domains : x.domain ≡ y.domain = exact_bytes x.domain y.domain parts.1 in
     λ i. record { domain = domains i; key = record { 0 = keys i } }
 
--- receipts whose parts the order does not tell apart are equal
+-- receipts whose parts the order does not distinguish are equal
 one_of_parts : (r s : Receipt) → IsReceipt r → IsReceipt s → parts_cmp r s ≡ Equal → r ≡ s
 one_of_parts r s p q h =
     let front = both_equal (slice_cmp nat_cmp (canonical_text r.document) (canonical_text s.document)) _ h in
@@ -294,7 +294,7 @@ one_of_parts r s p q h =
     let vouchers : r.voucher.0 ≡ s.voucher.0 = exact_bytes r.voucher.0 s.voucher.0 digests.1 in
     λ i. record { domain = domains i; endpoint = endpoints i; document = documents i; voucher = record { 0 = vouchers i }; key = record { 0 = keys i } }
 
--- receipts that the order does not tell apart are equal
+-- receipts that the order does not distinguish are equal
 pub one_receipt : (r s : Receipt) → IsReceipt r → IsReceipt s → receipt_cmp r s ≡ Equal → r ≡ s
 one_receipt r s p q h = one_of_parts r s p q (sym (receipt_order r s p q) ∙ h)
 

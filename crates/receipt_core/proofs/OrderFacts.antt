@@ -15,13 +15,13 @@ then_assoc Less b c = refl
 then_assoc Equal b c = refl
 then_assoc Greater b c = refl
 
--- two orders in turn tie only where both do
+-- two orders in turn tie only if both do
 pub both_equal : (a b : Ordering) → ordering_then a b ≡ Equal → (a ≡ Equal) × (b ≡ Equal)
 both_equal Less b h = absurd (cc)
 both_equal Equal b h = (refl, h)
 both_equal Greater b h = absurd (cc)
 
--- what stands in front of both makes no difference
+-- what is in front of both makes no difference
 pub behind : (front x y : List ℕ) → slice_cmp nat_cmp (front ++ x) (front ++ y) ≡ slice_cmp nat_cmp x y
 behind [] x y = refl
 behind (b ∷ front) x y = ap (λ o. ordering_then o (slice_cmp nat_cmp (front ++ x) (front ++ y))) (tied_itself nat_cmp_total b) ∙ behind front x y
@@ -34,13 +34,13 @@ equal_bytes b c h = grind (arith, nat_tests)
 abbrev pub Apart : List ℕ → List ℕ → Type 0
 Apart x y = (u v : List ℕ) → x ++ u ≡ y ++ v → x ≡ y
 
--- texts of which neither is a proper beginning of the other stay so without an equal first byte
+-- texts of which neither is a proper beginning of the other are so without an equal first byte too
 apart_tails : (b c : ℕ) (x y : List ℕ) → b ≡ c → Apart (b ∷ x) (c ∷ y) → Apart x y
 apart_tails b c x y e h = λ u v same.
     let whole : b ∷ x ≡ c ∷ y = h u v (λ i. e i ∷ same i) in
     cc
 
--- the induction step of the orders of whole texts: what follows the first bytes counts only where
+-- the induction step of the orders of whole texts: what follows the first bytes counts only if
 -- these tie
 by_order : (o whole inner outer : Ordering) → (o ≡ Equal → whole ≡ ordering_then inner outer)
     → ordering_then o whole ≡ ordering_then (ordering_then o inner) outer
@@ -56,7 +56,7 @@ first_apart (b ∷ x) [] u v h = let bad : b ∷ x ≡ [] = h [] (b ∷ x) (appe
 first_apart (b ∷ x) (c ∷ y) u v h =
     by_order (nat_cmp b c) _ _ _ (λ e. first_apart x y u v (apart_tails b c x y (equal_bytes b c e) h))
 
--- a lesser number is found less; the next two say the same of a greater and of an equal one
+-- a lesser number is found less; the next two are for a greater and for an equal one
 pub cmp_less : (b c : ℕ) → b < c → nat_cmp b c ≡ Less
 cmp_less b c h = grind (arith, nat_tests)
 
@@ -68,7 +68,7 @@ cmp_greater b c h = grind (arith, nat_tests)
 pub cmp_equal : (b c : ℕ) → b ≡ c → nat_cmp b c ≡ Equal
 cmp_equal b c e = grind (arith, nat_tests)
 
--- what holds where one number is less, equal or greater holds of any two
+-- what holds if one number is less, equal or greater holds of any two
 pub by_order_of : (P : ℕ → ℕ → Type 0) (b c : ℕ) → (b < c → P b c) → (b ≡ c → P b c) → (c < b → P b c) → P b c
 by_order_of P b c less equal greater = elim (cases_lt b c) [ inl h ↦ less h | inr h ↦ elim (cases_lt c b) [ inl k ↦ greater k | inr k ↦ equal (omega arith) ] ]
 
@@ -91,8 +91,9 @@ then_equal Less = refl
 then_equal Equal = refl
 then_equal Greater = refl
 
--- an order that finds two things equal exactly where they are is a test of sameness
-pub tells_same : {A : Type 0} (x y : A) (o : Ordering) (b : Bool) → b ≡ (ordering_index o == 1) → (o ≡ Equal → x ≡ y) → (x ≡ y → o ≡ Equal) → IsTrue b ↔ (x ≡ y)
-tells_same x y Less b e p q = (λ t. absurd (cc), λ same. let no = q same in absurd (cc))
-tells_same x y Equal b e p q = (λ t. p refl, λ same. e)
-tells_same x y Greater b e p q = (λ t. absurd (cc), λ same. let no = q same in absurd (cc))
+-- an order that finds two things equal exactly if they are is a test of sameness
+pub states_same : {A : Type 0} (x y : A) (o : Ordering) (b : Bool) → b ≡ (ordering_index o == 1) → (o ≡ Equal → x ≡ y) → (x ≡ y → o ≡ Equal)
+    → IsTrue b ↔ (x ≡ y)
+states_same x y Less b e p q = (λ t. absurd (cc), λ same. let no = q same in absurd (cc))
+states_same x y Equal b e p q = (λ t. p refl, λ same. e)
+states_same x y Greater b e p q = (λ t. absurd (cc), λ same. let no = q same in absurd (cc))

@@ -57,7 +57,7 @@ utf8_digits digest h = IsUtf8-encode_lower digest h.octets
 ascii : (t : List ℕ) → are_ascii t ≡ true → IsUtf8 t
 ascii = IsUtf8-are_ascii
 
--- the value of a receipt is plain where its parts are
+-- the value of a receipt is plain if its parts are
 plain_tree : (d : Data) (n e k v : List ℕ) → IsPlain d → IsUtf8 n → IsUtf8 e → IsUtf8 k → IsUtf8 v
     → IsPlain (object (member (codes "doc") d
     (member (codes "domain") (string n)
@@ -153,23 +153,23 @@ says_of_line bytes tree r json is =
     unwrapped : (a b : Data) → Some a ≡ Some b → a ≡ b
     unwrapped a b e = cc
 
--- bytes whose value says no receipt are no line
+-- bytes whose value says no receipt are not a line
 pub no_line_said : (bytes : List ℕ) (tree : Data) → IsJson bytes tree → ((r : Receipt) → SaysReceipt tree r → ⊥) → IsNoLine bytes
 no_line_said bytes tree json none = λ r is. none r (says_of_line bytes tree r json is)
 
--- bytes whose value says a receipt with another line are no line
+-- bytes whose value says a receipt with another line are not a line
 pub another_line : (bytes : List ℕ) (tree : Data) (s : Receipt) → IsJson bytes tree → SaysReceipt tree s → (line s ≡ bytes → ⊥) → IsNoLine bytes
 another_line bytes tree s json says other = λ r is.
     let same : s ≡ r = one_said tree s r says (says_of_line bytes tree r json is) in
     other (ap line same ∙ sym is.text)
 
--- bytes that are no JSON text are no line
+-- bytes that are not JSON text are not a line
 pub no_line_parsed : (bytes : List ℕ) (e : LineError) → Unless e (IsNoJson bytes) → Unless e (IsNoLine bytes)
 no_line_parsed bytes NotCanonical h = λ r is. h (receipt_tree r) (subst (λ t. IsJson t (receipt_tree r)) (sym is.text) (IsJson-line r is.is))
 no_line_parsed bytes TooLong h = h
 no_line_parsed bytes NoMemory h = tt
 
--- bytes longer than the longest line are no line
+-- bytes longer than the longest line are not a line
 pub no_long_line : (bytes : List ℕ) → 1051063 < length bytes → IsNoLine bytes
 no_long_line bytes long = λ r is. let short = length-line r is.is in let same = ap length is.text in absurd (omega arith)
 
@@ -210,7 +210,7 @@ length-distrust_line x h =
     within : (k n w : ℕ) → w ≡ 27 + k + n → k ≡ 64 → n ≤ 255 → w ≤ 346
     within k n w whole pk pn = omega arith
 
--- the value of a record is plain where its parts are UTF-8
+-- the value of a record is plain if its parts are UTF-8
 plain_record : (k n : List ℕ) → IsUtf8 k → IsUtf8 n → IsPlain (object (member (codes "distrust") (string k) (member (codes "domain") (string n) no_members)))
 plain_record k n pk pn = (ascii (codes "distrust") refl, pk, (refl, tt), (ascii (codes "domain") refl, pn, tt, tt))
 
@@ -246,28 +246,28 @@ says_of_record bytes tree x json is =
     unwrapped : (a b : Data) → Some a ≡ Some b → a ≡ b
     unwrapped a b e = cc
 
--- bytes whose value says no record are no record's line
+-- bytes whose value says no record are not a record's line
 pub no_record_said : (bytes : List ℕ) (tree : Data) → IsJson bytes tree → ((x : Distrust) → SaysDistrust tree x → ⊥) → IsNoRecord bytes
 no_record_said bytes tree json none = λ x is. none x (says_of_record bytes tree x json is)
 
--- bytes whose value says a record with another line are no record's line
+-- bytes whose value says a record with another line are not a record's line
 pub another_record : (bytes : List ℕ) (tree : Data) (y : Distrust) → IsJson bytes tree → SaysDistrust tree y → (distrust_line y ≡ bytes → ⊥) → IsNoRecord bytes
 another_record bytes tree y json says other = λ x is.
     let same : y ≡ x = one_record_said tree y x says (says_of_record bytes tree x json is) in
     other (ap distrust_line same ∙ sym is.text)
 
--- where bytes within the bound are no record's line, or memory ran out, they are refused
+-- if bytes within the bound are not a record's line, or memory ran out, they are refused
 pub refused_record : (bytes : List ℕ) (e : LineError) → length bytes ≤ 346 → Unless e (IsNoRecord bytes) → RefusesRecord bytes e
 refused_record bytes NotCanonical short h = (omega arith, h)
 refused_record bytes TooLong short h = absurd h
 refused_record bytes NoMemory short h = short
 
--- bytes that are no JSON text are no record's line
+-- bytes that are not JSON text are not a record's line
 pub no_record_parsed : (bytes : List ℕ) (e : LineError) → Unless e (IsNoJson bytes) → Unless e (IsNoRecord bytes)
 no_record_parsed bytes NotCanonical h = λ x is. h (distrust_tree x) (subst (λ t. IsJson t (distrust_tree x)) (sym is.text) (IsJson-distrust_line x is.is))
 no_record_parsed bytes TooLong h = h
 no_record_parsed bytes NoMemory h = tt
 
--- bytes longer than the longest record's line are none
+-- bytes longer than the longest record's line are not a record's line
 pub no_long_record : (bytes : List ℕ) → 346 < length bytes → IsNoRecord bytes
 no_long_record bytes long = λ x is. let short = length-distrust_line x is.is in let same = ap length is.text in absurd (omega arith)

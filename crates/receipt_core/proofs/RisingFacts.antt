@@ -1,4 +1,4 @@
--- Rising lists as sets: membership, insertion, and that equal sets are equal lists.
+-- Strictly sorted lists as sets: membership, insertion, and that equal sets are equal lists.
 use Rattle.std.proofs.Common.{◌≡◌, ℕ, zero, suc, ◌+◌, ◌<◌, List, [], ◌∷◌, length, ◌⊎◌, inl, inr, refl, sym, ap, ◌∙◌, subst, arith, get_or}
 use Rattle.std.specs.Prelude.{Contains}
 use Rattle.std.specs.declared.cmp.Ordering.{Ordering}
@@ -57,19 +57,19 @@ unturned {A} {cmp} o a b h = o.antisymm b a ∙ ap ordering_reverse h
 no_less_itself : {A : Type 0} {cmp : A → A → Ordering} → IsTotalOrder cmp → (a : A) → cmp a a ≡ Less → ⊥
 no_less_itself {A} {cmp} o a h = let tied : cmp a a ≡ Equal = tied_itself o a in cc
 
--- below the head of a rising list, so below all of it
+-- below the head of a strictly sorted list, so below all of it
 below_all : {A : Type 0} (cmp : A → A → Ordering) → IsTotalOrder cmp → (a head : A) (rest : List A) → cmp a head ≡ Less
     → AllByRecursion (λ y. cmp head y ≡ Less) rest → AllByRecursion (λ y. cmp a y ≡ Less) rest
 below_all cmp o a head [] h all = tt
 below_all cmp o a head (x ∷ rest) h all = (o.trans a head x h all.0, below_all cmp o a head rest h all.1)
 
--- a rising list rises with an item in front that is below all of it
+-- a strictly sorted list is so with an item in front that is below all of it
 rises : {A : Type 0} (cmp : A → A → Ordering) (head : A) (rest : List A) → AllByRecursion (λ y. cmp head y ≡ Less) rest
     → IsStrictlySortedBy cmp rest → IsStrictlySortedBy cmp (head ∷ rest)
 unfolding IsStrictlySortedBy
 rises cmp head rest all rising = (all, rising)
 
--- the empty list rises
+-- the empty list is strictly sorted
 rises_empty : {A : Type 0} (cmp : A → A → Ordering) → IsStrictlySortedBy cmp []
 unfolding IsStrictlySortedBy
 rises_empty cmp = tt
@@ -91,7 +91,7 @@ with_item-all Q cmp item (head ∷ rest) p h =
     placed_all Q (cmp item head) item head rest (with_item cmp item rest) p h.0 h.1
     (with_item-all Q cmp item rest p h.1)
 
--- the list rises wherever the item goes; for `with_item-rising`
+-- the list is strictly sorted wherever the item goes; for `with_item-rising`
 placed_rises : {A : Type 0} (cmp : A → A → Ordering) → IsTotalOrder cmp → (o : Ordering) (item head : A) (rest longer : List A) → o ≡ cmp item head
     → AllByRecursion (λ y. cmp head y ≡ Less) rest → IsStrictlySortedBy cmp rest
     → (cmp head item ≡ Less → AllByRecursion (λ y. cmp head y ≡ Less) longer) → IsStrictlySortedBy cmp longer
@@ -102,7 +102,7 @@ placed_rises cmp t Equal item head rest longer e above rising above_longer longe
 placed_rises cmp t Greater item head rest longer e above rising above_longer longer_rises =
     rises cmp head longer (above_longer (unturned t item head (sym e))) longer_rises
 
--- a rising list still rises with the item
+-- a strictly sorted list is still so with the item
 pub with_item-rising : {A : Type 0} (cmp : A → A → Ordering) → IsTotalOrder cmp → (item : A) (set : List A)
     → IsStrictlySortedBy cmp set → IsStrictlySortedBy cmp (with_item cmp item set)
 with_item-rising cmp t item [] h = rises cmp item [] tt (rises_empty cmp)
@@ -144,7 +144,7 @@ placed_new Less item head rest longer same k = inl refl
 placed_new Equal item head rest longer same k = inl (same refl)
 placed_new Greater item head rest longer same k = inr k
 
--- the order tells apart what differs
+-- the order distinguishes what differs
 abbrev pub IsExactOn : {A : Type 0} → (A → Type 0) → (A → A → Ordering) → Type 0
 IsExactOn {A} P cmp = (a b : A) → P a → P b → cmp a b ≡ Equal → a ≡ b
 
@@ -196,7 +196,7 @@ with_item-length P cmp exact item (head ∷ rest) p h absent =
 
 -- ---- equal sets
 
--- the heads of two rising lists with the same members are equal
+-- the heads of two strictly sorted lists with the same members are equal
 same_heads : {A : Type 0} (cmp : A → A → Ordering) → IsTotalOrder cmp → (x y : A) (xs ys : List A)
     → AllByRecursion (λ z. cmp x z ≡ Less) xs → AllByRecursion (λ z. cmp y z ≡ Less) ys
     → Has (y ∷ ys) x → Has (x ∷ xs) y → x ≡ y
@@ -216,7 +216,7 @@ rest_has : {A : Type 0} (cmp : A → A → Ordering) → IsTotalOrder cmp → (x
 rest_has {A} cmp t x y a ys same less h =
     elim h [ inl e ↦ absurd (no_less_itself t a (subst (λ (z : A). cmp z a ≡ Less) (same ∙ e) less)) | inr later ↦ later ]
 
--- rising lists with the same members are equal
+-- strictly sorted lists with the same members are equal
 pub same_members : {A : Type 0} (cmp : A → A → Ordering) → IsTotalOrder cmp → (xs ys : List A) → IsStrictlySortedBy cmp xs → IsStrictlySortedBy cmp ys
     → ((a : A) → Has xs a → Has ys a) → ((a : A) → Has ys a → Has xs a) → xs ≡ ys
 same_members cmp t [] [] p q there back = refl
@@ -294,7 +294,8 @@ with_items-new {A} P cmp exact (x ∷ items) set p h a k =
 
 -- ---- together
 
--- rising lists are sets under a total order that tells apart what differs, as `laws::sets` says
+-- strictly sorted lists are sets under a total order that distinguishes what differs, as
+-- `laws::sets` says
 pub AreSets-from_total : {A : Type 0} (P : A → Type 0) (cmp : A → A → Ordering) → IsTotalOrder cmp → IsExactOn P cmp → AreSets P cmp
 AreSets-from_total P cmp t exact = record {
   total = t;

@@ -20,14 +20,14 @@ use Rattle.receipt_core.proofs.RisingFacts.{Has, Has-from_contains, each_has}
 
 -- ---- a binary search
 
--- in an order, what is no more than the next is not above it
+-- in an order, what is at most the next is not above it
 no_more : (a b : Ordering) → b ≡ ordering_reverse a → is_le a ≡ true → is_lt b ≡ false
 no_more Less b e h = ap is_lt e
 no_more Equal b e h = ap is_lt e
 no_more Greater b e h = absurd (cc)
 
 module _ {A : Type 0} {R : A → A → Ordering} (o : IsTotalOrder R) where
-  -- what `is_sorted` says where it says yes
+  -- what `is_sorted` says if it says yes
   pub sorted_by_neighbours : (xs : List A) (r : Bool) → IsTrue r → IsAllAdjacentAnswer (λ x y b. is_le (R x y) ≡ b) xs r → IsSorted R xs
   sorted_by_neighbours xs false t all k d low below = absurd (cc)
   sorted_by_neighbours xs true t all k d low below =
@@ -56,7 +56,7 @@ module _ {A : Type 0} {R : A → A → Ordering} (o : IsTotalOrder R) where
 less_itself : (d : List ℕ) → domain_cmp d d ≡ Less → ⊥
 less_itself d h = let tied : domain_cmp d d ≡ Equal = tied_itself nat_list_cmp_total d in cc
 
--- rising relationships have only one with a domain
+-- sorted relationships have only one with a domain
 one_of : (xs : List Relationship) (x y : Relationship) → IsStrictlySortedBy relationship_cmp xs → Has xs x → Has xs y
     → x.domain ≡ y.domain → x ≡ y
 one_of [] x y rising p q e = absurd p
@@ -84,17 +84,17 @@ one_relationship c x y form p q e =
     one_of c.relationships x y form.rising_relationships (Has-from_contains c.relationships x p) (Has-from_contains c.relationships y q) e
 
 -- A receipt with the endpoint of the relationship with its domain fits exactly if it reaches the floor.
-pub fits_told : (c : Configuration) (x : Relationship) (r : Receipt) (b : Bool) → Contains c.relationships x → x.domain ≡ r.domain
+pub fits_stated : (c : Configuration) (x : Relationship) (r : Receipt) (b : Bool) → Contains c.relationships x → x.domain ≡ r.domain
     → x.endpoint ≡ r.endpoint → MatchBool b (ReachesFloor c r.domain r.document) (MissesFloor c r.domain r.document) → IsTrue b ↔ IsFitting c r
-fits_told c x r true has domain endpoint floor = (
+fits_stated c x r true has domain endpoint floor = (
   λ t. record { relationship = x; has = has; domain = domain; endpoint = endpoint; reaches = floor },
   λ f. refl,
 )
-fits_told c x r false has domain endpoint floor = (λ t. absurd (cc), λ f. absurd (floor.below (f.reaches floor.floor floor.has floor.of_domain)))
+fits_stated c x r false has domain endpoint floor = (λ t. absurd (cc), λ f. absurd (floor.below (f.reaches floor.floor floor.has floor.of_domain)))
 
 -- A receipt with another endpoint than the relationship with its domain does not fit.
-pub misfit_told : (c : Configuration) (x : Relationship) (r : Receipt) → IsConfiguration c → Contains c.relationships x → x.domain ≡ r.domain
+pub misfit_stated : (c : Configuration) (x : Relationship) (r : Receipt) → IsConfiguration c → Contains c.relationships x → x.domain ≡ r.domain
     → (x.endpoint ≡ r.endpoint → ⊥) → IsFitting c r → ⊥
-misfit_told c x r form has domain other f =
+misfit_stated c x r form has domain other f =
     let one : f.relationship ≡ x = one_relationship c f.relationship x form f.has has (f.domain ∙ sym domain) in
     other (sym (ap (λ (y : Relationship). y.endpoint) one) ∙ f.endpoint)

@@ -176,7 +176,7 @@ below_its_floor h =
 pub without_a_number : IsFitting raised (of_rank None) → ⊥
 without_a_number h = let reached = h.reaches (record { domain = codes "c"; sequence = 7 }) (0, lit< tt, refl) refl in let is = reached.1 in cc
 
--- a floor of one domain is none of another
+-- a floor of one domain is not a floor of another
 pub floor_of_another : IsFitting raised (noted (codes "b") (codes "a"))
 floor_of_another = record {
   relationship = relationship from_a;
@@ -201,7 +201,7 @@ id_of_signing = refl
 abbrev vouching_for : List ℕ → Pair
 vouching_for domain = record { domain = domain; document = vouching }
 
--- the document vouches for a receipt where the key is not distrusted
+-- the document vouches for a receipt if the key is not distrusted
 vouches_under : (records : List Distrust) (domain of : List ℕ) → (Contains records (distrust_of of (noted domain of)) → ⊥)
     → Vouches records (vouching_for of) (noted domain of)
 vouches_under records domain of trusted = record { endpoint = refl; voucher = refl; key = (1, abc, lit< tt, refl, refl); trusted = trusted }
@@ -210,7 +210,7 @@ vouches_under records domain of trusted = record { endpoint = refl; voucher = re
 none_has : (x : Distrust) → Contains [] x → ⊥
 none_has x h = Has-from_contains [] x h
 
--- the configured document vouches where there are no records
+-- the configured document vouches if there are no records
 pub vouches : Vouches [] (vouching_for (codes "a")) from_a
 vouches = vouches_under [] (codes "b") (codes "a") (none_has _)
 
@@ -226,7 +226,7 @@ distrusted_elsewhere = vouches_under (distrust_of (codes "b") from_a ∷ []) (co
 pub distrusted : Vouches (distrust_of (codes "a") from_a ∷ []) (vouching_for (codes "a")) from_a → ⊥
 distrusted h = h.trusted (0, lit< tt, refl)
 
--- the document stands under another domain
+-- the document is under another domain
 pub of_the_served : Vouches [] (vouching_for (codes "b")) from_a → ⊥
 of_the_served h = below 97 98 (lit< tt) (sym h.endpoint)
 
@@ -265,7 +265,7 @@ two_receipts = record {
   );
 }
 
--- no receipts are no chain
+-- no receipts do not make a chain
 pub no_receipt : IsChain config [] [] → ⊥
 no_receipt h = absurd (omega (arith, h.some))
 
@@ -276,25 +276,25 @@ without_the_first h = elim (Has-from_contains config.seeds h.seed h.configured) 
   | inr none ↦ absurd none
 ]
 
--- nothing vouches where no document is configured
+-- nothing vouches if no document is configured
 pub without_a_seed : IsChain (record { relationships = config.relationships; seeds = []; floors = [] }) [] (from_a ∷ []) → ⊥
 without_a_seed h = Has-from_contains [] h.seed h.configured
 
--- no receipt fits where there is no relationship
+-- no receipt fits if there is no relationship
 pub without_a_relationship : IsChain (record { relationships = []; seeds = seed ∷ []; floors = [] }) [] (from_a ∷ []) → ⊥
 without_a_relationship h = Has-from_contains [] h.leads.0.relationship h.leads.0.has
 
--- a record stops the chain where its key is used
+-- a record stops a chain that uses its key
 pub distrusted_on_the_way : IsChain config (distrust_of (codes "b") from_b ∷ []) (from_a ∷ from_b ∷ []) → ⊥
 distrusted_on_the_way h = h.leads.2.1.trusted (0, lit< tt, refl)
 
--- ---- rising lists
+-- ---- strictly sorted lists
 
 -- an item goes to its place
 pub between : with_item nat_cmp 5 (3 ∷ 7 ∷ []) ≡ 3 ∷ 5 ∷ 7 ∷ []
 between = refl
 
--- one that is there already stays
+-- one that is there already remains
 pub there_already : with_item nat_cmp 7 (3 ∷ 7 ∷ []) ≡ 3 ∷ 7 ∷ []
 there_already = refl
 

@@ -17,7 +17,7 @@ use Rattle.receipt_core.proofs.RisingFacts.{Has, Contains-from_has, Has-from_con
 
 -- ---- key ids
 
--- key ids that the order does not tell apart are equal
+-- key ids that the order does not distinguish are equal
 one_key : IsExactOn Always key_cmp
 one_key a b p q e = let bytes : a.0 ≡ b.0 = exact_bytes a.0 b.0 e in λ i. record { 0 = bytes i }
 
@@ -56,7 +56,7 @@ with_key_id-has : (o : Option KeyId) (keys : List KeyId) (k : KeyId) → Has (wi
 with_key_id-has None keys k h = inr h
 with_key_id-has (Some key) keys k h = elim (with_item-has key_cmp key keys k h) [ inl e ↦ inl (ap Some e) | inr later ↦ inr later ]
 
--- what was there stays
+-- what was there remains
 with_key_id-keeps : (o : Option KeyId) (keys : List KeyId) (k : KeyId) → Has keys k → Has (with_key_id o keys) k
 with_key_id-keeps None keys k h = h
 with_key_id-keeps (Some key) keys k h = with_item-keeps key_cmp key keys k h
@@ -74,7 +74,7 @@ fold_has (a ∷ others) keys k h =
       | inr k' ↦ elim (with_key_id-has (key_id_of a) keys k k') [ inl e ↦ inl (inl e) | inr old ↦ inr old ]
     ]
 
--- what was there stays through all steps
+-- what was there remains through all steps
 fold_keeps : (authorities : List Authority) (keys : List KeyId) (k : KeyId) → Has keys k → Has (fold more keys authorities) k
 fold_keeps [] keys k h = h
 fold_keeps (a ∷ others) keys k h = fold_keeps others (more keys a) k (with_key_id-keeps (key_id_of a) keys k h)

@@ -51,7 +51,7 @@ Leads c records from (r ∷ chain) to = IsFitting c r × Vouches records from r
     × Leads c records (pair_of r) chain to
 
 -- What a closure means: its configuration, and the receipts and the records of distrust that it
--- holds, each a set that is kept as a rising list.
+-- holds, each a set that is kept as a strictly sorted list.
 pub record Meaning : Type 0 where
   pub config : Configuration
   pub held : List Receipt
@@ -93,8 +93,8 @@ pub record IsPending (m : Meaning) (r : Receipt) : Type 0 where
   pub held : Contains m.held r
   pub unreleased : IsReleased m r → ⊥
 
--- The set has the configured documents and, with a document, that of each held receipt that it
--- vouches for.
+-- The set has the configured documents and, with a document, the document of each held receipt
+-- that it vouches for.
 pub record IsClosed (m : Meaning) (set : Pair → Type 0) : Type 0 where
   pub seeds : (s : Seed) → Contains m.config.seeds s → set (pair_of_seed s)
   pub steps : (p : Pair) (r : Receipt) → set p → Contains m.held r → IsFitting m.config r

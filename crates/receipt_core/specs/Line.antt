@@ -47,7 +47,7 @@ RefusesRecord bytes NoMemory = length bytes ≤ 346
 abbrev pub SaysDocument : Data → Bundle → Type 0
 SaysDocument tree b = (t : Data) × (get (codes "doc") tree ≡ Some t) × Means t b × Fits b
 
--- the members of a receipt's line, whatever stands beside them
+-- the members of a receipt's line, whatever other members there are
 pub record SaysReceipt (tree : Data) (r : Receipt) : Type 0 where
   pub document : SaysDocument tree r.document
   pub domain : HasText tree (codes "domain") r.domain
@@ -61,7 +61,7 @@ pub record SaysDistrust (tree : Data) (x : Distrust) : Type 0 where
   pub domain : HasText tree (codes "domain") x.domain
   pub is : IsDistrust x
 
--- the bytes are no JSON text
+-- the bytes are not JSON text
 abbrev pub IsNoJson : List ℕ → Type 0
 IsNoJson bytes = (tree : Data) → IsJson bytes tree → ⊥
 

@@ -1,4 +1,4 @@
--- The orders of receipts, triples and records of distrust are total, and tell apart what differs.
+-- The orders of receipts, triples and records of distrust are total, and distinguish what differs.
 use Rattle.std.specs.Prelude.{Bool, Some}
 use Rattle.std.specs.Ordering.{eq_by_cmp}
 use Rattle.std.specs.Cmp.{IsTotalOrder, IsEquivalence, IsPartialOrder, then_total, eq_by_cmp_equiv}
@@ -19,7 +19,7 @@ pub distrust_total : IsTotalOrder distrust_cmp
 distrust_total = then_total (on_texts (λ (x : Distrust). x.key.0))
     (on_texts (λ (x : Distrust). x.domain))
 
--- the order doesn't tell them apart
+-- the order does not distinguish them
 abbrev pub same_receipt : Receipt → Receipt → Bool
 same_receipt r s = eq_by_cmp receipt_cmp r s
 

@@ -10,7 +10,7 @@ use Rattle.receipt_core.specs.Receipt.{pair_of, key_cmp}
 use Rattle.receipt_core.specs.declared.receipt_id.ReceiptId.{ReceiptId}
 use Rattle.receipt_core.specs.declared.triple.Triple.{Triple}
 
--- a receipt in memory, beside what was computed of it; its id may be left out
+-- a receipt in memory, with what was computed of it; its id may be left out
 pub record IsKeptReceipt (r : Receipt) (id : Option ReceiptId) (need : Triple)
     (offers : List Triple) : Type 0 where
   pub is : IsReceipt r

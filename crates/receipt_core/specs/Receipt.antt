@@ -86,7 +86,7 @@ abbrev pub with_key_id : Option KeyId → List KeyId → List KeyId
 with_key_id None keys = keys
 with_key_id (Some key) keys = with_item key_cmp key keys
 
--- the different key ids of the X.509 authorities, rising
+-- the different key ids of the X.509 authorities, sorted
 abbrev pub key_ids : List Authority → List KeyId
 key_ids authorities = fold (λ keys authority. with_key_id (key_id_of authority) keys) [] authorities
 

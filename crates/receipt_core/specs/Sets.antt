@@ -1,4 +1,4 @@
--- What holds of finite sets that are kept as rising lists.
+-- What holds of finite sets that are kept as strictly sorted lists.
 use Rattle.std.specs.Prelude.{◌≡◌, ◌+◌, ◌↔◌, ◌⊎◌, List, length, Contains}
 use Rattle.std.specs.declared.cmp.Ordering.{Ordering}
 use Rattle.std.specs.declared.cmp.Ordering.TheVariants.{Equal}

@@ -29,7 +29,7 @@ impl Distrust {
     ///
     /// # Errors
     /// - [`LineError::TooLong`]: it has more than 8,388,608 bytes,
-    /// - [`LineError::NotCanonical`]: it is no record's line,
+    /// - [`LineError::NotCanonical`]: it is not a record's line,
     /// - [`LineError::NoMemory`]: memory ran out, which is returned only within the bound of
     ///   records' lines.
     pub fn read_line(alloc: Global, bytes: &[u8]) -> Result<Distrust, LineError>

@@ -11,8 +11,8 @@ use spiffe_name::TrustDomain;
 use std::cmp::Ordering;
 use std::marker::Model;
 
-/// Records of distrust, beside whether they are in their order: then they are searched, and else
-/// read through. A replica lends them in their order.
+/// Records of distrust, and whether they are in their order: then they are searched, and else read
+/// through. A replica lends them in their order.
 #[derive(Drop)]
 pub(crate) struct GivenRecords<'a> {
     items: &'a [Distrust],

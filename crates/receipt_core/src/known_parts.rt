@@ -14,7 +14,7 @@ const PLACES: usize = 4_096;
 /// What is known of lines that came before, for those who read many: digests of certificates, and
 /// what is known of documents ([`KnownDocuments`]). A certificate that comes again is compared,
 /// byte by byte, and not hashed. At most 4,096 are kept, which share their bytes with the receipts,
-/// and their places take at most 256 KiB. The last bytes of a certificate tell its place, and what
+/// and their places take at most 256 KiB. The last bytes of a certificate give its place, and what
 /// was there before is forgotten. No result depends on what is kept.
 #[derive(Drop)]
 pub struct KnownParts {
@@ -100,8 +100,8 @@ fn empty_places(alloc: Global) -> Vec<Option<KnownDigest>> {
     places
 }
 
-// The place of the bytes among so many. A certificate ends in its signature, so its last bytes tell
-// it from others.
+// The place of the bytes among this many. A certificate ends in its signature, so its last bytes
+// differ from those of others.
 fn place_of(bytes: &[u8], places: usize) -> usize
     requires { 0 < places }
     ensures { result < places }

@@ -1,4 +1,4 @@
-//! What follows from the definitions alone. A call that needs a law calls its function, which does
+//! What follows from only the definitions. A call that needs a law calls its function, which does
 //! nothing, and cites what it ensures.
 ghost use Rattle.std.specs.Prelude.{◌≡◌, ◌↔◌, [], ◌∷◌, ◌++◌, ℕ, List, Option, Contains};
 ghost use Rattle.fed_config.specs.Configuration.{Configuration, ReachesFloor};
@@ -19,7 +19,7 @@ ghost use Rattle.receipt_core.specs.declared.distrust.Distrust.{Distrust};
 pub use byte_lines::laws::{pieces, streams};
 
 /// One line, one receipt, and one record of distrust: the orders of receipts and of records are
-/// those of their lines, and tell apart what differs. A record's line comes before each receipt's.
+/// those of their lines, and distinguish what differs. A record's line comes before each receipt's.
 pub fn lines()
     ensures one_receipt { (r s : Receipt) → IsReceipt r → IsReceipt s → line r ≡ line s → r ≡ s }
     ensures one_record { (x y : Distrust) → IsDistrust x → IsDistrust y
@@ -30,7 +30,7 @@ pub fn lines()
         → slice_cmp nat_cmp (distrust_line x) (line r) ≡ Less }
 {}
 
-/// Receipts, triples and records of distrust in rising lists are sets.
+/// Receipts, triples and records of distrust in strictly sorted lists are sets.
 pub fn sets()
     ensures receipts { AreSets IsReceipt receipt_cmp }
     ensures triples { AreSets Always triple_cmp }

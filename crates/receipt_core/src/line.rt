@@ -80,8 +80,8 @@ fn copy_of(digest: [u8; 32]) -> [u8; 32]
     digest
 }
 
-// The bytes of a line beside the document, the domain and the endpoint: the two digests and what
-// stands between all, and a line feed, which most callers add.
+// The bytes of a line except the document, the domain and the endpoint: the two digests and what
+// is between all, and a line feed, which most callers add.
 const OTHER_BYTES: usize = 185;
 
 // The line of a receipt.

@@ -1,4 +1,4 @@
-//! Why bytes are no line.
+//! Why bytes are not a line.
 ghost use Rattle.std.specs.Prelude.{◌≡◌};
 ghost use Rattle.receipt_core.specs.declared.line_error.LineError.TheVariants.{NoMemory};
 

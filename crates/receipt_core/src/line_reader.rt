@@ -1,4 +1,4 @@
-//! Receipts read from their lines: by their parts first, over `Document::read_canonical`, and where
+//! Receipts read from their lines: by their parts first, over `Document::read_canonical`, and if
 //! that gives up by a JSON tree, which is written again and compared.
 ghost use Rattle.std.specs.Prelude.{◌≡◌, ◌++◌, ◌↔◌, IsTrue, IfOk, IfSome, MatchResult};
 ghost use Rattle.serde_json.specs.View.{view};
@@ -27,7 +27,7 @@ pub const MAX_LINE_BYTES: usize = 8_388_608;
 // digests of 64 digits, and 56 between them.
 const MAX_RECEIPT_LINE_BYTES: usize = 1_051_063;
 
-// The receipt of a line, where parts are known.
+// The receipt of a line, if parts are known.
 pub(crate) fn read_receipt(
     alloc: Global,
     bytes: &[u8],

@@ -12,7 +12,7 @@ use std::alloc::{AllocError, Global};
 use std::collections::BTreeSet;
 
 /// What a document of a domain can vouch by: one triple for each different key id of its X.509
-/// authorities, rising.
+/// authorities, sorted.
 ///
 /// # Errors
 /// Memory ran out.
@@ -27,7 +27,7 @@ pub fn offers_of(
     offers_with(alloc, domain, document, &mut KnownParts::none(alloc))
 }
 
-// The same, where parts are known.
+// The same, if parts are known.
 pub(crate) fn offers_with(
     alloc: Global,
     domain: &TrustDomain,

@@ -1,4 +1,4 @@
-//! Receipts. A clone copies what was computed: the offers, and the id where it is kept.
+//! Receipts. A clone copies what was computed: the offers, and the id if it is kept.
 ghost use Rattle.std.specs.Prelude.{◌≡◌, ◌↔◌, IsTrue, IfOk, IfSome, MatchResult, Some, refl};
 ghost use Rattle.std.specs.Cmp.{partial_equiv_from_equiv};
 ghost use Rattle.bundle_doc.specs.Bundle.{doc_id_of};
@@ -27,9 +27,9 @@ use std::marker::Model;
 /// 5.2, profile `https_spiffe`).
 ///
 /// Receipts are equal exactly when their five parts are, which is when their lines are, and are
-/// ordered by their lines' bytes. A receipt keeps its document once, and beside it what it needs
+/// ordered by their lines' bytes. A receipt keeps its document once, and with it what it needs
 /// and what it offers, which are computed when it is made. Its id, the digest of its whole line, is
-/// computed when it is asked for, and kept only where [`Receipt::keep_id`] was called.
+/// computed when it is asked for, and kept only if [`Receipt::keep_id`] was called.
 #[derive(Debug, Drop)]
 pub struct Receipt {
     domain: TrustDomain,
@@ -94,7 +94,7 @@ impl Receipt {
         Receipt::new_with(alloc, domain, endpoint, document, voucher, key, &mut known)
     }
 
-    // The same, where parts are known.
+    // The same, if parts are known.
     pub(crate) fn new_with(
         alloc: Global,
         domain: TrustDomain,
@@ -129,16 +129,16 @@ impl Receipt {
     }
 
     /// Reads a line, without its line feed. A receipt has one line: compact JSON with the members
-    /// `doc`, `domain`, `endpoint`, `key` and `voucher` in this order, where `doc` is the canonical
-    /// document and the digests are 64 lower-case hexadecimal digits.
+    /// `doc`, `domain`, `endpoint`, `key` and `voucher` in this order. `doc` is the canonical
+    /// document, and the digests are 64 lower-case hexadecimal digits.
     ///
     /// A receipt's line has at most 1,051,063 bytes; a longer one is refused before it is parsed. A
-    /// line that is read at once takes memory for its receipt; any other is parsed as JSON, whose
+    /// line that is read directly takes memory for its receipt; any other is parsed as JSON, whose
     /// tree can take over a hundred times its text.
     ///
     /// # Errors
     /// - [`LineError::TooLong`]: it has more than 8,388,608 bytes,
-    /// - [`LineError::NotCanonical`]: it is no receipt's line,
+    /// - [`LineError::NotCanonical`]: it is not a receipt's line,
     /// - [`LineError::NoMemory`]: memory ran out, which is returned only within the bound of
     ///   receipts' lines.
     pub fn read_line(alloc: Global, bytes: &[u8]) -> Result<Receipt, LineError>
@@ -147,7 +147,7 @@ impl Receipt {
         read_receipt(alloc, bytes, &mut KnownParts::none(alloc))
     }
 
-    /// Reads a line as [`Receipt::read_line`] does, where parts of lines are known: a certificate
+    /// Reads a line as [`Receipt::read_line`] does, if parts of lines are known: a certificate
     /// that came in a line before is not hashed again, and an authority or the beginning of a
     /// document that came twice is neither read nor hashed. The receipts share what the authority
     /// takes.
@@ -165,7 +165,7 @@ impl Receipt {
     }
 
     /// Reads a line by its parts, with no JSON tree between, as [`Receipt::read_line`] does first.
-    /// Where it returns None that call has to decide.
+    /// If it returns None that call has to decide.
     ///
     /// # Errors
     /// Memory ran out.
@@ -207,7 +207,7 @@ impl Receipt {
         &self.document
     }
 
-    /// The id of the document as one of its domain. Where the document offers something the id is
+    /// The id of the document as one of its domain. If the document offers something the id is
     /// at hand, and else it is computed, which takes time for each byte of the document.
     pub fn document_id(&self) -> DocId
         ensures { result.0 ≡ doc_id_of self.now.domain self.now.document }
@@ -232,8 +232,8 @@ impl Receipt {
         self.key
     }
 
-    /// The id: the SHA-256 of the line, without a line feed. Where it is not kept it is computed
-    /// anew, which takes time for each byte of the line, and no memory.
+    /// The id: the SHA-256 of the line, without a line feed. If it is not kept it is computed
+    /// again, which takes time for each byte of the line, and no memory.
     pub fn id(&self) -> ReceiptId
         ensures { result.0 ≡ receipt_id_of self.now }
     {
@@ -272,7 +272,7 @@ impl Receipt {
     }
 
     /// What the receipt's document can vouch by: one triple for each different key id of its X.509
-    /// authorities, rising.
+    /// authorities, sorted.
     pub fn offers(&self) -> &[Triple]
         ensures { result.now ≡ offers_of (pair_of self.now) }
     {

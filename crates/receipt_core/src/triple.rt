@@ -94,7 +94,7 @@ impl Triple {
     /// them.
     ///
     /// # Errors
-    /// As many triples share the names as can be counted, which no memory can hold.
+    /// More triples would share the names than can be counted, which no memory can hold.
     pub fn try_clone(&self) -> Result<Triple, AllocError>
         ensures { IfOk result (λ t. t ≡ self.now) }
     {

@@ -1,11 +1,11 @@
 //! Chains of receipts, under records of distrust or none.
-use crate::words::tell;
+use crate::words::print_out;
 use fed_config::Config;
 use receipt_core::{Distrust, LineError, Receipt, check_chain};
 use row_script::Script;
 use std::alloc::{AllocError, Global};
 
-/// Tells whether the receipts of these names are a chain, in turn, under the configuration of the
+/// Reports whether the receipts of these names are a chain, in turn, under the configuration of the
 /// first name and the records of distrust among the others.
 pub(crate) fn check(
     alloc: Global,
@@ -16,7 +16,7 @@ pub(crate) fn check(
     let (config, lines) = words.split_once(' ').unwrap_or((words, ""));
     match Config::read(alloc, script.text(config).unwrap_or(b"")) {
         Ok(config) => check_under(alloc, script, &config, lines, answer),
-        Err(error) => tell(&error, answer),
+        Err(error) => print_out(&error, answer),
     }
 }
 
@@ -29,7 +29,7 @@ fn check_under(
 ) -> Result<(), AllocError> {
     match is_chain(alloc, script, config, lines) {
         Ok(is_chain) => answer.push_str(if is_chain { "a chain\n" } else { "no chain\n" }),
-        Err(error) => tell(&error, answer),
+        Err(error) => print_out(&error, answer),
     }
 }
 

@@ -1,6 +1,6 @@
 //! Devices that work, and devices that fail.
 use crate::streams::in_pieces;
-use crate::words::{number, tell, tell_failed, two_numbers};
+use crate::words::{number, print_failed, print_out, two_numbers};
 use byte_lines::{
     Fault, FromRead, FromWrite, FuseSink, FuseSource, MemSink, Sink, Source, read_up_to, write_all,
 };
@@ -32,7 +32,7 @@ impl Write for Broken {
 // More bytes than what is left of a text has.
 const ALL: usize = 10_000_000;
 
-/// Tells what a source in pieces of a size gives up to a limit, and then.
+/// Reports what a source in pieces of a size gives up to a limit, and then.
 pub(crate) fn read_source(
     alloc: Global,
     script: &Script,
@@ -41,14 +41,14 @@ pub(crate) fn read_source(
     answer: &mut String,
 ) -> Result<(), AllocError> {
     let (size, limit) = two_numbers(words);
-    tell_first_piece(alloc, bytes, size, answer)?;
+    print_first_piece(alloc, bytes, size, answer)?;
     let mut source = in_pieces(alloc, bytes, size)?;
     let mut lent = &mut source;
-    tell_taken(alloc, script, &mut lent, limit, answer)?;
-    tell_rest(alloc, script, &mut source, answer)
+    print_taken(alloc, script, &mut lent, limit, answer)?;
+    print_rest(alloc, script, &mut source, answer)
 }
 
-fn tell_first_piece(
+fn print_first_piece(
     alloc: Global,
     bytes: &[u8],
     size: usize,
@@ -57,12 +57,12 @@ fn tell_first_piece(
     let mut source = in_pieces(alloc, bytes, size)?;
     match source.read(&mut [0u8; 64]) {
         Ok(count) => write!(answer, "a read of 64 gives {count}\n"),
-        Err(error) => tell(&error, answer),
+        Err(error) => print_out(&error, answer),
     }
 }
 
-// Tells the bytes that are read up to a limit, or the error.
-fn tell_taken<R: Source>(
+// Reports the bytes that are read up to a limit, or the error.
+fn print_taken<R: Source>(
     alloc: Global,
     script: &Script,
     source: &mut R,
@@ -71,12 +71,12 @@ fn tell_taken<R: Source>(
 ) -> Result<(), AllocError> {
     match read_up_to(alloc, source, limit) {
         Ok(taken) => show(script, "up to the limit", taken.as_slice(), answer),
-        Err(error) => tell(&error, answer),
+        Err(error) => print_out(&error, answer),
     }
 }
 
-// Tells all that the source has left, and how it ends.
-fn tell_rest<R: Source>(
+// Reports all that the source has left, and how it ends.
+fn print_rest<R: Source>(
     alloc: Global,
     script: &Script,
     source: &mut R,
@@ -84,18 +84,18 @@ fn tell_rest<R: Source>(
 ) -> Result<(), AllocError> {
     match read_up_to(alloc, source, ALL) {
         Ok(rest) => show(script, "then", rest.as_slice(), answer)?,
-        Err(error) => tell(&error, answer)?,
+        Err(error) => print_out(&error, answer)?,
     }
-    tell_end(source, answer)
+    print_end(source, answer)
 }
 
-fn tell_end<R: Source>(source: &mut R, answer: &mut String) -> Result<(), AllocError> {
+fn print_end<R: Source>(source: &mut R, answer: &mut String) -> Result<(), AllocError> {
     match source.read(&mut [0]) {
         Ok(count) => write!(answer, "one read more gives {count}")?,
         Err(error) => write!(answer, "one read more: {error}")?,
     }
     answer.push_str(", ")?;
-    tell_failed(source.failed(), answer)
+    print_failed(source.failed(), answer)
 }
 
 fn show(script: &Script, name: &str, bytes: &[u8], answer: &mut String) -> Result<(), AllocError> {
@@ -104,7 +104,7 @@ fn show(script: &Script, name: &str, bytes: &[u8], answer: &mut String) -> Resul
     answer.push_str("\n")
 }
 
-/// Tells what a source in pieces of one byte gives that fails after this many reads.
+/// Reports what a source in pieces of one byte gives that fails after this many reads.
 pub(crate) fn fail_reads(
     alloc: Global,
     script: &Script,
@@ -113,11 +113,11 @@ pub(crate) fn fail_reads(
     answer: &mut String,
 ) -> Result<(), AllocError> {
     let mut source = FuseSource::new(in_pieces(alloc, bytes, 1)?, number(reads) as u64);
-    tell_taken(alloc, script, &mut source, ALL, answer)?;
-    tell_end(&mut source, answer)
+    print_taken(alloc, script, &mut source, ALL, answer)?;
+    print_end(&mut source, answer)
 }
 
-/// Tells what a source over a reader of std gives up to a limit, and then.
+/// Reports what a source over a reader of std gives up to a limit, and then.
 pub(crate) fn read_reader(
     alloc: Global,
     script: &Script,
@@ -126,11 +126,11 @@ pub(crate) fn read_reader(
     answer: &mut String,
 ) -> Result<(), AllocError> {
     let mut source = FromRead::new(bytes);
-    tell_taken(alloc, script, &mut source, number(limit), answer)?;
-    tell_rest(alloc, script, &mut source, answer)
+    print_taken(alloc, script, &mut source, number(limit), answer)?;
+    print_rest(alloc, script, &mut source, answer)
 }
 
-/// Tells what a source over a reader of std gives up to a limit that fails after these bytes, and
+/// Reports what a source over a reader of std gives up to a limit that fails after these bytes, and
 /// then.
 pub(crate) fn read_broken(
     alloc: Global,
@@ -140,14 +140,14 @@ pub(crate) fn read_broken(
     answer: &mut String,
 ) -> Result<(), AllocError> {
     let mut source = FromRead::new(bytes.chain(Broken));
-    tell_taken(alloc, script, &mut source, number(limit), answer)?;
-    tell_failed(source.failed(), answer)?;
-    tell_taken(alloc, script, &mut source, 1, answer)?;
-    tell_taken(alloc, script, &mut source, 1, answer)?;
-    tell_end(&mut source, answer)
+    print_taken(alloc, script, &mut source, number(limit), answer)?;
+    print_failed(source.failed(), answer)?;
+    print_taken(alloc, script, &mut source, 1, answer)?;
+    print_taken(alloc, script, &mut source, 1, answer)?;
+    print_end(&mut source, answer)
 }
 
-/// Tells what a sink takes of the bytes that has this room.
+/// Reports what a sink takes of the bytes that has this room.
 pub(crate) fn fill(
     alloc: Global,
     script: &Script,
@@ -156,34 +156,34 @@ pub(crate) fn fill(
     answer: &mut String,
 ) -> Result<(), AllocError> {
     let mut sink = MemSink::new(alloc, number(room))?;
-    tell_written(&mut sink, bytes, answer)?;
+    print_written(&mut sink, bytes, answer)?;
     show(script, "holds", sink.as_bytes(), answer)?;
-    tell_written(&mut sink, b"", answer)?;
-    tell_write(&mut sink, b"", answer)
+    print_written(&mut sink, b"", answer)?;
+    print_write(&mut sink, b"", answer)
 }
 
-// Tells how all of the bytes are written.
-fn tell_written<W: Sink>(
+// Reports how all of the bytes are written.
+fn print_written<W: Sink>(
     sink: &mut W,
     bytes: &[u8],
     answer: &mut String,
 ) -> Result<(), AllocError> {
-    tell_outcome("write_all", write_all(sink, bytes), answer)?;
+    print_outcome("write_all", write_all(sink, bytes), answer)?;
     answer.push_str(", ")?;
-    tell_failed(sink.failed(), answer)
+    print_failed(sink.failed(), answer)
 }
 
-// Tells how one write goes.
-fn tell_write<W: Sink>(sink: &mut W, bytes: &[u8], answer: &mut String) -> Result<(), AllocError> {
+// Reports how one write goes.
+fn print_write<W: Sink>(sink: &mut W, bytes: &[u8], answer: &mut String) -> Result<(), AllocError> {
     match sink.write(bytes) {
         Ok(count) => write!(answer, "write: {count}")?,
         Err(error) => write!(answer, "write: {error}")?,
     }
     answer.push_str(", ")?;
-    tell_failed(sink.failed(), answer)
+    print_failed(sink.failed(), answer)
 }
 
-fn tell_outcome(
+fn print_outcome(
     call: &str,
     outcome: Result<(), Fault>,
     answer: &mut String,
@@ -194,7 +194,7 @@ fn tell_outcome(
     }
 }
 
-/// Tells how three pieces are written to a sink that fails after this many writes.
+/// Reports how three pieces are written to a sink that fails after this many writes.
 pub(crate) fn fail_writes(
     alloc: Global,
     script: &Script,
@@ -203,14 +203,14 @@ pub(crate) fn fail_writes(
 ) -> Result<(), AllocError> {
     let mut sink = FuseSink::new(MemSink::new(alloc, 6)?, number(writes) as u64);
     let mut lent = &mut sink;
-    tell_written(&mut lent, b"ab", answer)?;
-    tell_written(&mut lent, b"cd", answer)?;
-    tell_written(&mut lent, b"ef", answer)?;
+    print_written(&mut lent, b"ab", answer)?;
+    print_written(&mut lent, b"cd", answer)?;
+    print_written(&mut lent, b"ef", answer)?;
     let inner = sink.into_inner();
     show(script, "holds", inner.as_bytes(), answer)
 }
 
-/// Tells how the bytes are written to a sink over a writer of std.
+/// Reports how the bytes are written to a sink over a writer of std.
 pub(crate) fn write_writer(
     alloc: Global,
     script: &Script,
@@ -218,13 +218,13 @@ pub(crate) fn write_writer(
     answer: &mut String,
 ) -> Result<(), AllocError> {
     let mut sink = FromWrite::new(Vec::new(alloc));
-    tell_written(&mut sink, bytes, answer)?;
-    tell_write(&mut sink, b"", answer)?;
+    print_written(&mut sink, bytes, answer)?;
+    print_write(&mut sink, b"", answer)?;
     let inner = sink.into_inner();
     show(script, "holds", inner.as_slice(), answer)
 }
 
-/// Tells how many bytes one read of 65,536 gives, and how many one write takes, of a source and a
+/// Reports how many bytes one read of 65,536 gives, and how many one write takes, of a source and a
 /// sink over a reader and a writer of std.
 pub(crate) fn call_once(
     alloc: Global,
@@ -234,12 +234,12 @@ pub(crate) fn call_once(
     let mut chunk = vec![in alloc; 0u8; 65_536]?;
     match FromRead::new(bytes).read(chunk.as_mut_slice()) {
         Ok(count) => write!(answer, "read: {count}\n")?,
-        Err(error) => tell(&error, answer)?,
+        Err(error) => print_out(&error, answer)?,
     }
-    tell_write(&mut FromWrite::new(Vec::new(alloc)), bytes, answer)
+    print_write(&mut FromWrite::new(Vec::new(alloc)), bytes, answer)
 }
 
-/// Tells how the bytes are written to a sink over a slice of three bytes.
+/// Reports how the bytes are written to a sink over a slice of three bytes.
 pub(crate) fn write_short(
     script: &Script,
     bytes: &[u8],
@@ -247,13 +247,13 @@ pub(crate) fn write_short(
 ) -> Result<(), AllocError> {
     let mut room = [0u8; 3];
     let mut sink = FromWrite::new(room.as_mut_slice());
-    tell_written(&mut sink, bytes, answer)?;
+    print_written(&mut sink, bytes, answer)?;
     show(script, "holds", room.as_slice(), answer)
 }
 
-/// Tells how the bytes are written to a sink over a writer of std that fails each time.
+/// Reports how the bytes are written to a sink over a writer of std that fails each time.
 pub(crate) fn write_broken(bytes: &[u8], answer: &mut String) -> Result<(), AllocError> {
     let mut sink = FromWrite::new(Broken);
-    tell_write(&mut sink, bytes, answer)?;
-    tell_write(&mut sink, b"", answer)
+    print_write(&mut sink, bytes, answer)?;
+    print_write(&mut sink, b"", answer)
 }

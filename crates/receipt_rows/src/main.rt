@@ -38,7 +38,7 @@ impl Rows for Calls {
             "record" => receipts::read_record(self.alloc, script, text, answer),
             "triple" => triples::make(self.alloc, row.words, answer),
             "chain" => chains::check(self.alloc, script, row.words, answer),
-            "errors" => words::tell_errors(answer),
+            "errors" => words::print_errors(answer),
             _ => call_with_stream(self.alloc, script, row, text, answer),
         }
     }

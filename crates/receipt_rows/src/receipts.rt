@@ -1,10 +1,10 @@
 //! Receipts and records of distrust on their lines.
-use crate::words::tell;
+use crate::words::print_out;
 use receipt_core::{Distrust, Receipt, Triple};
 use row_script::{Answers, Script};
 use std::alloc::{AllocError, Global};
 
-/// Tells the receipt of a line, or why it is not one.
+/// Reports the receipt of a line, or why it is not one.
 pub(crate) fn read(
     alloc: Global,
     script: &Script,
@@ -12,12 +12,12 @@ pub(crate) fn read(
     answer: &mut String,
 ) -> Result<(), AllocError> {
     match Receipt::read_line(alloc, line) {
-        Ok(receipt) => tell_of_receipt(alloc, script, line, &receipt, answer),
-        Err(error) => tell(&error, answer),
+        Ok(receipt) => print_of_receipt(alloc, script, line, &receipt, answer),
+        Err(error) => print_out(&error, answer),
     }
 }
 
-fn tell_of_receipt(
+fn print_of_receipt(
     alloc: Global,
     script: &Script,
     line: &[u8],
@@ -64,58 +64,58 @@ fn add(
     receipt: &Receipt,
     answers: &mut Answers,
 ) -> Result<(), AllocError> {
-    let mut told = String::new(alloc);
-    describe(alloc, script, receipt, &mut told)?;
-    answers.add(setting, told.as_str())
+    let mut stated = String::new(alloc);
+    describe(alloc, script, receipt, &mut stated)?;
+    answers.add(setting, stated.as_str())
 }
 
 fn describe(
     alloc: Global,
     script: &Script,
     receipt: &Receipt,
-    told: &mut String,
+    stated: &mut String,
 ) -> Result<(), AllocError> {
-    show_line(script, receipt.write_line(alloc)?, told)?;
+    show_line(script, receipt.write_line(alloc)?, stated)?;
     let id = receipt.id();
-    write!(told, "id {id}\n")?;
-    tell_parts(script, receipt, told)?;
-    tell_triple("needs", receipt.need(), told)?;
+    write!(stated, "id {id}\n")?;
+    print_parts(script, receipt, stated)?;
+    print_triple("needs", receipt.need(), stated)?;
     for offer in receipt.offers() {
-        tell_triple("offers", offer, told)?;
+        print_triple("offers", offer, stated)?;
     }
     Ok(())
 }
 
-fn show_line(script: &Script, line: Vec<u8>, told: &mut String) -> Result<(), AllocError> {
-    script.show(line.as_slice(), told)?;
-    told.push_str("\n")
+fn show_line(script: &Script, line: Vec<u8>, stated: &mut String) -> Result<(), AllocError> {
+    script.show(line.as_slice(), stated)?;
+    stated.push_str("\n")
 }
 
-fn tell_parts(script: &Script, receipt: &Receipt, told: &mut String) -> Result<(), AllocError> {
+fn print_parts(script: &Script, receipt: &Receipt, stated: &mut String) -> Result<(), AllocError> {
     let domain = receipt.domain().as_str();
     let endpoint = receipt.endpoint().as_str();
     let key = receipt.key();
     let voucher = receipt.voucher();
     write!(
-        told,
+        stated,
         "domain {domain}\nendpoint {endpoint}\nkey {key}\nvoucher {voucher}\ndocument "
     )?;
-    script.show(receipt.document().canonical(), told)?;
-    told.push_str("\n")
+    script.show(receipt.document().canonical(), stated)?;
+    stated.push_str("\n")
 }
 
-pub(crate) fn tell_triple(
+pub(crate) fn print_triple(
     verb: &str,
     triple: &Triple,
-    told: &mut String,
+    stated: &mut String,
 ) -> Result<(), AllocError> {
     let domain = triple.domain().as_str();
     let document = triple.document();
     let key = triple.key();
-    write!(told, "{verb} {domain} {document} {key}\n")
+    write!(stated, "{verb} {domain} {document} {key}\n")
 }
 
-/// Tells the record of distrust of a line, or why it is not one.
+/// Reports the record of distrust of a line, or why it is not one.
 pub(crate) fn read_record(
     alloc: Global,
     script: &Script,
@@ -123,12 +123,12 @@ pub(crate) fn read_record(
     answer: &mut String,
 ) -> Result<(), AllocError> {
     match Distrust::read_line(alloc, line) {
-        Ok(record) => tell_record(alloc, script, &record, answer),
-        Err(error) => tell(&error, answer),
+        Ok(record) => print_record(alloc, script, &record, answer),
+        Err(error) => print_out(&error, answer),
     }
 }
 
-fn tell_record(
+fn print_record(
     alloc: Global,
     script: &Script,
     record: &Distrust,
@@ -160,19 +160,19 @@ fn add_record(
     record: &Distrust,
     answers: &mut Answers,
 ) -> Result<(), AllocError> {
-    let mut told = String::new(alloc);
-    describe_record(alloc, script, record, &mut told)?;
-    answers.add(setting, told.as_str())
+    let mut stated = String::new(alloc);
+    describe_record(alloc, script, record, &mut stated)?;
+    answers.add(setting, stated.as_str())
 }
 
 fn describe_record(
     alloc: Global,
     script: &Script,
     record: &Distrust,
-    told: &mut String,
+    stated: &mut String,
 ) -> Result<(), AllocError> {
-    show_line(script, record.write_line(alloc)?, told)?;
+    show_line(script, record.write_line(alloc)?, stated)?;
     let domain = record.domain.as_str();
     let key = record.key;
-    write!(told, "domain {domain}\nkey {key}\n")
+    write!(stated, "domain {domain}\nkey {key}\n")
 }

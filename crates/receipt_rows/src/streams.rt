@@ -1,6 +1,6 @@
 //! Lines of streams, in pieces that end anywhere.
 use crate::counting::count_lines;
-use crate::words::{number, tell, tell_failed};
+use crate::words::{number, print_failed, print_out};
 use byte_lines::{DeviceError, FuseSource, Line, LineBuf, MemSource, Source};
 use receipt_core::Receipt;
 use row_script::{Answers, Script};
@@ -8,7 +8,7 @@ use std::alloc::{AllocError, Global};
 
 /// What is shown of a line.
 #[derive(Clone, Copy)]
-enum Telling {
+enum Stating {
     /// Its text.
     Text,
     /// The receipt that it is the line of.
@@ -36,7 +36,7 @@ fn cuts(alloc: Global, length: usize, size: usize) -> Result<Vec<usize>, AllocEr
     Ok(cuts)
 }
 
-/// Tells each line of a stream, in pieces of each of these sizes.
+/// Reports each line of a stream, in pieces of each of these sizes.
 pub(crate) fn read_lines(
     alloc: Global,
     script: &Script,
@@ -44,10 +44,10 @@ pub(crate) fn read_lines(
     bytes: &[u8],
     answer: &mut String,
 ) -> Result<(), AllocError> {
-    tell_pieces(alloc, script, Telling::Text, sizes, bytes, answer)
+    print_pieces(alloc, script, Stating::Text, sizes, bytes, answer)
 }
 
-/// Tells of each line of a stream whether it is a receipt's, in pieces of each of these sizes.
+/// Reports for each line of a stream whether it is a receipt's, in pieces of each of these sizes.
 pub(crate) fn read_receipts(
     alloc: Global,
     script: &Script,
@@ -55,10 +55,10 @@ pub(crate) fn read_receipts(
     bytes: &[u8],
     answer: &mut String,
 ) -> Result<(), AllocError> {
-    tell_pieces(alloc, script, Telling::Receipt, sizes, bytes, answer)
+    print_pieces(alloc, script, Stating::Receipt, sizes, bytes, answer)
 }
 
-/// Tells how many lines of a stream end with a line feed, in pieces of each of these sizes.
+/// Reports how many lines of a stream end with a line feed, in pieces of each of these sizes.
 pub(crate) fn count(
     alloc: Global,
     script: &Script,
@@ -66,20 +66,20 @@ pub(crate) fn count(
     bytes: &[u8],
     answer: &mut String,
 ) -> Result<(), AllocError> {
-    tell_pieces(alloc, script, Telling::Count, sizes, bytes, answer)
+    print_pieces(alloc, script, Stating::Count, sizes, bytes, answer)
 }
 
-fn tell_pieces(
+fn print_pieces(
     alloc: Global,
     script: &Script,
-    telling: Telling,
+    stating: Stating,
     sizes: &str,
     bytes: &[u8],
     answer: &mut String,
 ) -> Result<(), AllocError> {
     let mut answers = Answers::new(alloc);
     for size in sizes.split(' ') {
-        add_pieces(alloc, script, telling, size, bytes, &mut answers)?;
+        add_pieces(alloc, script, stating, size, bytes, &mut answers)?;
     }
     answers.write(answer)
 }
@@ -87,131 +87,131 @@ fn tell_pieces(
 fn add_pieces(
     alloc: Global,
     script: &Script,
-    telling: Telling,
+    stating: Stating,
     size: &str,
     bytes: &[u8],
     answers: &mut Answers,
 ) -> Result<(), AllocError> {
-    let mut told = String::new(alloc);
-    tell_in_pieces(alloc, script, telling, number(size), bytes, &mut told)?;
-    add_size(size, told.as_str(), alloc, answers)
+    let mut stated = String::new(alloc);
+    print_in_pieces(alloc, script, stating, number(size), bytes, &mut stated)?;
+    add_size(size, stated.as_str(), alloc, answers)
 }
 
 fn add_size(
     size: &str,
-    told: &str,
+    stated: &str,
     alloc: Global,
     answers: &mut Answers,
 ) -> Result<(), AllocError> {
     let setting = format!(in alloc; "pieces of {size}")?;
-    answers.add(setting.as_str(), told)
+    answers.add(setting.as_str(), stated)
 }
 
-fn tell_in_pieces(
+fn print_in_pieces(
     alloc: Global,
     script: &Script,
-    telling: Telling,
+    stating: Stating,
     size: usize,
     bytes: &[u8],
-    told: &mut String,
+    stated: &mut String,
 ) -> Result<(), AllocError> {
     let mut source = in_pieces(alloc, bytes, size)?;
-    tell_stream(alloc, script, telling, &mut source, told)
+    print_stream(alloc, script, stating, &mut source, stated)
 }
 
-// Tells each line of a source up to its end or its error.
-fn tell_stream<R: Source>(
+// Reports each line of a source up to its end or its error.
+fn print_stream<R: Source>(
     alloc: Global,
     script: &Script,
-    telling: Telling,
+    stating: Stating,
     source: &mut R,
-    told: &mut String,
+    stated: &mut String,
 ) -> Result<(), AllocError> {
-    let outcome = match telling {
-        Telling::Count => tell_count(alloc, source, told),
-        _ => tell_lines(alloc, script, telling, source, told),
+    let outcome = match stating {
+        Stating::Count => print_count(alloc, source, stated),
+        _ => print_lines(alloc, script, stating, source, stated),
     };
     match outcome {
         Ok(()) => Ok(()),
-        Err(error) => tell(&error, told),
+        Err(error) => print_out(&error, stated),
     }
 }
 
-fn tell_count<R: Source>(
+fn print_count<R: Source>(
     alloc: Global,
     source: &mut R,
-    told: &mut String,
+    stated: &mut String,
 ) -> Result<(), DeviceError> {
     let count = count_lines(alloc, source)?;
-    Ok(tell(&count, told)?)
+    Ok(print_out(&count, stated)?)
 }
 
-fn tell_lines<R: Source>(
+fn print_lines<R: Source>(
     alloc: Global,
     script: &Script,
-    telling: Telling,
+    stating: Stating,
     source: &mut R,
-    told: &mut String,
+    stated: &mut String,
 ) -> Result<(), DeviceError> {
     let mut lines = LineBuf::new(alloc);
     for _ in 0..u64::MAX {
-        if !tell_next(alloc, script, telling, &mut lines, source, told)? {
+        if !print_next(alloc, script, stating, &mut lines, source, stated)? {
             break;
         }
     }
     Ok(())
 }
 
-// Tells what the source has next, and returns whether more may come.
-fn tell_next<R: Source>(
+// Reports what the source has next, and returns whether more may come.
+fn print_next<R: Source>(
     alloc: Global,
     script: &Script,
-    telling: Telling,
+    stating: Stating,
     lines: &mut LineBuf,
     source: &mut R,
-    told: &mut String,
+    stated: &mut String,
 ) -> Result<bool, DeviceError> {
     match lines.next_line(source)? {
-        Line::Text(line) => tell_line(alloc, script, telling, line, told)?,
-        Line::TooLong => told.push_str("too long\n")?,
-        Line::Cut => told.push_str("cut\n")?,
+        Line::Text(line) => print_line(alloc, script, stating, line, stated)?,
+        Line::TooLong => stated.push_str("too long\n")?,
+        Line::Cut => stated.push_str("cut\n")?,
         Line::End => {
-            told.push_str("end\n")?;
+            stated.push_str("end\n")?;
             return Ok(false);
         }
     }
     Ok(true)
 }
 
-fn tell_line(
+fn print_line(
     alloc: Global,
     script: &Script,
-    telling: Telling,
+    stating: Stating,
     line: &[u8],
-    told: &mut String,
+    stated: &mut String,
 ) -> Result<(), AllocError> {
-    match telling {
-        Telling::Text => {
-            told.push_str("line ")?;
-            script.show(line, told)?;
-            told.push_str("\n")
+    match stating {
+        Stating::Text => {
+            stated.push_str("line ")?;
+            script.show(line, stated)?;
+            stated.push_str("\n")
         }
-        Telling::Receipt => tell_receipt(alloc, line, told),
-        Telling::Count => Ok(()),
+        Stating::Receipt => print_receipt(alloc, line, stated),
+        Stating::Count => Ok(()),
     }
 }
 
-fn tell_receipt(alloc: Global, line: &[u8], told: &mut String) -> Result<(), AllocError> {
+fn print_receipt(alloc: Global, line: &[u8], stated: &mut String) -> Result<(), AllocError> {
     match Receipt::read_line(alloc, line) {
         Ok(receipt) => {
             let id = receipt.id();
-            write!(told, "receipt {id}\n")
+            write!(stated, "receipt {id}\n")
         }
-        Err(error) => tell(&error, told),
+        Err(error) => print_out(&error, stated),
     }
 }
 
-/// Tells of each beginning of a line what it is alone and in a stream, once for those of one
+/// Reports for each beginning of a line what it is alone and in a stream, once for those of one
 /// answer.
 pub(crate) fn cut_everywhere(
     alloc: Global,
@@ -221,7 +221,7 @@ pub(crate) fn cut_everywhere(
 ) -> Result<(), AllocError> {
     let mut runs = Runs {
         first: 0,
-        told: String::new(alloc),
+        stated: String::new(alloc),
     };
     for length in 0..=line.len() {
         add_beginning(alloc, script, &line[..length], &mut runs, answer)?;
@@ -229,30 +229,30 @@ pub(crate) fn cut_everywhere(
     runs.write(line.len(), answer)
 }
 
-// The length of the first of several beginnings that come to the same.
+// The length of the first of several beginnings with the same result.
 #[derive(Drop)]
 struct Runs {
     first: usize,
-    told: String,
+    stated: String,
 }
 
 impl Runs {
-    fn add(&mut self, length: usize, told: &str, answer: &mut String) -> Result<(), AllocError> {
-        if self.told.as_str() == told {
+    fn add(&mut self, length: usize, stated: &str, answer: &mut String) -> Result<(), AllocError> {
+        if self.stated.as_str() == stated {
             return Ok(());
         }
         if length > self.first {
             self.write(length.saturating_sub(1), answer)?;
         }
         self.first = length;
-        self.told.clear();
-        self.told.push_str(told)
+        self.stated.clear();
+        self.stated.push_str(stated)
     }
 
     fn write(&self, last: usize, answer: &mut String) -> Result<(), AllocError> {
         let first = self.first;
         write!(answer, "{first} to {last} bytes\n")?;
-        answer.push_str(self.told.as_str())
+        answer.push_str(self.stated.as_str())
     }
 }
 
@@ -263,21 +263,21 @@ fn add_beginning(
     runs: &mut Runs,
     answer: &mut String,
 ) -> Result<(), AllocError> {
-    let mut told = String::new(alloc);
-    told.push_str("alone: ")?;
-    tell_receipt(alloc, beginning, &mut told)?;
-    tell_pieces(
+    let mut stated = String::new(alloc);
+    stated.push_str("alone: ")?;
+    print_receipt(alloc, beginning, &mut stated)?;
+    print_pieces(
         alloc,
         script,
-        Telling::Receipt,
+        Stating::Receipt,
         "1 7 65536",
         beginning,
-        &mut told,
+        &mut stated,
     )?;
-    runs.add(beginning.len(), told.as_str(), answer)
+    runs.add(beginning.len(), stated.as_str(), answer)
 }
 
-/// Tells the lines of a stream in pieces of one byte that fails after this many reads.
+/// Reports the lines of a stream in pieces of one byte that fails after this many reads.
 pub(crate) fn fail_after(
     alloc: Global,
     script: &Script,
@@ -286,6 +286,6 @@ pub(crate) fn fail_after(
     answer: &mut String,
 ) -> Result<(), AllocError> {
     let mut source = FuseSource::new(in_pieces(alloc, bytes, 1)?, number(reads) as u64);
-    tell_stream(alloc, script, Telling::Text, &mut source, answer)?;
-    tell_failed(source.failed(), answer)
+    print_stream(alloc, script, Stating::Text, &mut source, answer)?;
+    print_failed(source.failed(), answer)
 }

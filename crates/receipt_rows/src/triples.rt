@@ -1,5 +1,5 @@
 //! Triples made of their parts, and copied.
-use crate::receipts::tell_triple;
+use crate::receipts::print_triple;
 use bundle_doc::DocId;
 use jwk_set::KeyId;
 use receipt_core::Triple;
@@ -7,7 +7,8 @@ use spiffe_name::TrustDomain;
 use std::alloc::{AllocError, Global};
 
 /// `triple DOMAIN DOCUMENT KEY`: makes the triple of a domain, a document's id and a key's id, and
-/// a copy of it, and tells both, the copy after the first one is gone, and whether they are equal.
+/// a copy of it, and reports both, the copy after the first one is gone, and whether they are
+/// equal.
 pub(crate) fn make(alloc: Global, words: &str, answer: &mut String) -> Result<(), AllocError> {
     let Some((domain, ids)) = words.split_once(' ') else {
         return answer.push_str("bad word\n");
@@ -15,18 +16,18 @@ pub(crate) fn make(alloc: Global, words: &str, answer: &mut String) -> Result<()
     match (TrustDomain::read(alloc, domain), ids_of(ids)) {
         (Ok(domain), Some((document, key))) => {
             let triple = Triple::new(alloc, &domain, document, key)?;
-            tell_both(triple, answer)
+            print_both(triple, answer)
         }
         _ => answer.push_str("bad word\n"),
     }
 }
 
-fn tell_both(triple: Triple, answer: &mut String) -> Result<(), AllocError> {
+fn print_both(triple: Triple, answer: &mut String) -> Result<(), AllocError> {
     let copy = triple.try_clone()?;
-    tell_triple("made", &triple, answer)?;
+    print_triple("made", &triple, answer)?;
     let is_equal = copy == triple;
     drop(triple);
-    tell_triple("copy", &copy, answer)?;
+    print_triple("copy", &copy, answer)?;
     writeln!(answer, "equal {is_equal}")
 }
 

@@ -1,9 +1,9 @@
-//! The words of a row's head, and lines that are shown.
+//! The arguments of a row, and lines that are shown.
 use receipt_core::{Fault, LineError, NextLineError, ReadUpToError};
 use std::alloc::AllocError;
 use std::fmt::Display;
 
-/// The number that a word says, or 0.
+/// The number that an argument says, or 0.
 pub(crate) fn number(word: &str) -> usize {
     word.parse::<usize>().unwrap_or(0)
 }
@@ -14,19 +14,19 @@ pub(crate) fn two_numbers(words: &str) -> (usize, usize) {
     (number(first), number(second))
 }
 
-/// Tells something on a line of its own.
-pub(crate) fn tell<D: Display>(line: &D, answer: &mut String) -> Result<(), AllocError> {
+/// Reports something on a line of its own.
+pub(crate) fn print_out<D: Display>(line: &D, answer: &mut String) -> Result<(), AllocError> {
     write!(answer, "{line}\n")
 }
 
-/// Tells whether a device failed, at the end of a line.
-pub(crate) fn tell_failed(failed: bool, answer: &mut String) -> Result<(), AllocError> {
+/// Reports whether a device failed, at the end of a line.
+pub(crate) fn print_failed(failed: bool, answer: &mut String) -> Result<(), AllocError> {
     write!(answer, "failed {failed}\n")
 }
 
-/// Tells each cause.
-pub(crate) fn tell_errors(answer: &mut String) -> Result<(), AllocError> {
-    tell_each(
+/// Reports each cause.
+pub(crate) fn print_errors(answer: &mut String) -> Result<(), AllocError> {
+    print_each(
         &[
             LineError::NotCanonical,
             LineError::TooLong,
@@ -34,14 +34,14 @@ pub(crate) fn tell_errors(answer: &mut String) -> Result<(), AllocError> {
         ],
         answer,
     )?;
-    tell_each(&[NextLineError::Io, NextLineError::NoMemory], answer)?;
-    tell_each(&[ReadUpToError::Io, ReadUpToError::NoMemory], answer)?;
-    tell_each(&[Fault], answer)
+    print_each(&[NextLineError::Io, NextLineError::NoMemory], answer)?;
+    print_each(&[ReadUpToError::Io, ReadUpToError::NoMemory], answer)?;
+    print_each(&[Fault], answer)
 }
 
-fn tell_each<E: Display>(errors: &[E], answer: &mut String) -> Result<(), AllocError> {
+fn print_each<E: Display>(errors: &[E], answer: &mut String) -> Result<(), AllocError> {
     for error in errors {
-        tell(error, answer)?;
+        print_out(error, answer)?;
     }
     Ok(())
 }

@@ -34,15 +34,15 @@ merging_refused old new text (Sync why) refused = refused
 merging_refused old new text NoMemory refused = refused
 merging_refused old new text e refused = absurd refused
 
--- the same of the call: nothing has changed
+-- the same for the call: nothing has changed
 pub merge_refused : (held : HeldAndRoom) (text : List ℕ) (e : CallError) → RefusesSnapshotText held.meaning.config text e
     → HasRefusedSnapshotBytes held text held e
 merge_refused held text e refused = record { cause = merging_refused held held text e refused; unchanged = search rules }
 
 -- there are bytes of it
-pub not_empty : (count : ℕ) (told : Bool) → told ≡ (count == 0) → told ≡ false → 0 < count
-not_empty zero told is not = absurd (both_ways told not is)
-not_empty (suc n) told is not = omega arith
+pub not_empty : (count : ℕ) (stated : Bool) → stated ≡ (count == 0) → stated ≡ false → 0 < count
+not_empty zero stated is not = absurd (both_ways stated not is)
+not_empty (suc n) stated is not = omega arith
 
 -- when a replica is opened
 opening_refused : (config text : List ℕ) (c : Configuration) (e : CallError) → IsConfig config c → 0 < length text → RefusesSnapshotText c text e
@@ -52,7 +52,7 @@ opening_refused config text c (Sync why) is some refused = record { configuratio
 opening_refused config text c NoMemory is some refused = (c, is)
 opening_refused config text c e is some refused = absurd refused
 
--- the same of the call, by what came of it
+-- the same for the call, by what came of it
 pub opened : {T : Type 0} (meaning : T → Meaning) (config text : List ℕ) (c : Configuration) (result : Result T CallError) → IsConfig config c
     → 0 < length text → MatchResult result (λ t. IsSnapshot c (Some text) (meaning t)) (RefusesSnapshotText c text)
     → MatchResult result (λ t. OpensBytes config text (meaning t)) (RefusesOpening config text)

@@ -51,7 +51,7 @@ RefusesLineBytes old text (Line e) = RefusesReceiptLine text e
 RefusesLineBytes old text (Take why) = RefusesTakenLine old text why
 RefusesLineBytes old text _ = ⊥
 
--- and what is held stays
+-- and what is held is unchanged
 pub record HasRefusedLineBytes (old : HeldAndRoom) (text : List ℕ) (new : HeldAndRoom)
     (e : CallError) : Type 0 where
   pub cause : RefusesLineBytes old text e

@@ -1,4 +1,4 @@
--- The numbers by which a program in another language tells refusals apart. The hundreds mean the
+-- The numbers by which a program in another language distinguishes refusals. The hundreds mean the
 -- letter of the code, and the rest is its number; the number of a code in another one is added to
 -- 1,000 times that of the outer one.
 use Rattle.std.specs.Prelude.{ℕ, ◌+◌}

@@ -14,9 +14,9 @@ abbrev pub IsFaultLength : ℕ → Type 0
 IsFaultLength n = (0 < n) × (n ≤ 240)
 
 -- A call that returns a number below 0 is refused, and its refusal has a text. Any other has none.
-abbrev pub TellsFault : (returned : ℤ) → (fault_length : ℕ) → Type 0
-TellsFault (negsuc below) fault_length = IsFaultLength fault_length
-TellsFault (pos n) fault_length = fault_length ≡ 0
+abbrev pub ReportsFault : (returned : ℤ) → (fault_length : ℕ) → Type 0
+ReportsFault (negsuc below) fault_length = IsFaultLength fault_length
+ReportsFault (pos n) fault_length = fault_length ≡ 0
 
 -- the text of the refusal
 abbrev pub fault_text : CallOutcome → List ℕ

@@ -1,7 +1,7 @@
 //! What a caller in C reads of a call.
 ghost use Rattle.std.specs.Prelude.{◌≡◌, ◌≤◌, codes, MatchResult, MatchOption};
 ghost use Rattle.replica_c_calls.specs.Outcomes.{ReturnsNeedsRoom, Counts, Refuses, WritesOut};
-ghost use Rattle.replica_c_calls.specs.Outcomes.{LacksOut, RefusesOut, TellsFault, fault_text};
+ghost use Rattle.replica_c_calls.specs.Outcomes.{LacksOut, RefusesOut, ReportsFault, fault_text};
 ghost use Rattle.replica_c_calls.specs.Outcomes.{out_run};
 ghost use Rattle.replica_c_calls.specs.declared.call_error.CallError.TheVariants.{Usage};
 
@@ -53,7 +53,7 @@ impl CallOutcome {
         ensures count { self.new.count ≡ self.old.count }
         ensures length { self.new.length ≡ self.old.length }
         ensures fault { self.new.fault_length ≤ 240 }
-        ensures told { TellsFault result self.new.fault_length }
+        ensures stated { ReportsFault result self.new.fault_length }
         ensures usage { error.now ≡ Usage → fault_text self.new ≡ codes "usage" }
     {
         let text = FaultBytes::of(error);
@@ -68,7 +68,7 @@ impl CallOutcome {
         ensures counts { Counts counted self.new.count result }
         ensures length { self.new.length ≡ 0 }
         ensures fault { self.new.fault_length ≤ 240 }
-        ensures told { TellsFault result self.new.fault_length }
+        ensures stated { ReportsFault result self.new.fault_length }
     {
         self.clear();
         match counted {
@@ -86,7 +86,7 @@ impl CallOutcome {
         ensures asks { ReturnsNeedsRoom result }
         ensures count { self.new.count ≡ 0 }
         ensures fault { self.new.fault_length ≡ 0 }
-        ensures told { TellsFault result self.new.fault_length }
+        ensures stated { ReportsFault result self.new.fault_length }
     {
         self.clear();
         self.length = length as u64;
@@ -98,7 +98,7 @@ impl CallOutcome {
         ensures writes { WritesOut text.now (out_run out.old out.new self.new.length result) }
         ensures count { self.new.count ≡ 0 }
         ensures fault { self.new.fault_length ≡ 0 }
-        ensures told { TellsFault result self.new.fault_length }
+        ensures stated { ReportsFault result self.new.fault_length }
     {
         if text.len() > out.len() {
             return self.need(text.len());
@@ -109,14 +109,14 @@ impl CallOutcome {
         DONE
     }
 
-    /// The same of a text that a call returns.
+    /// The same for a text that a call returns.
     pub fn put_result(&mut self, made: Result<Vec<u8>, CallError>, out: &mut [u8]) -> i64
         ensures writes { MatchResult made
             (λ text. WritesOut text.items (out_run out.old out.new self.new.length result))
             (λ e. RefusesOut e (out_run out.old out.new self.new.length result)) }
         ensures count { self.new.count ≡ 0 }
         ensures fault { self.new.fault_length ≤ 240 }
-        ensures told { TellsFault result self.new.fault_length }
+        ensures stated { ReportsFault result self.new.fault_length }
     {
         match made {
             Ok(text) => self.put(text.as_slice(), out),
@@ -127,7 +127,7 @@ impl CallOutcome {
         }
     }
 
-    /// The same of a text that there may be none of.
+    /// The same for a text that may be absent.
     pub fn put_option(&mut self, made: Result<Option<Vec<u8>>, CallError>, out: &mut [u8]) -> i64
         ensures writes { MatchResult made
             (λ found. MatchOption found (LacksOut (out_run out.old out.new self.new.length result))
@@ -135,7 +135,7 @@ impl CallOutcome {
             (λ e. RefusesOut e (out_run out.old out.new self.new.length result)) }
         ensures count { self.new.count ≡ 0 }
         ensures fault { self.new.fault_length ≤ 240 }
-        ensures told { TellsFault result self.new.fault_length }
+        ensures stated { ReportsFault result self.new.fault_length }
     {
         match made {
             Ok(Some(text)) => self.put(text.as_slice(), out),

@@ -2,8 +2,9 @@
 use crate::client::{AskFault, LocalRequest, ask_replica};
 use crate::distrust_at::ask_with;
 use byte_lines::{Source, read_up_to};
+use command_exits::{CommandError, Exit, Step};
+use command_line::{Call, CommandName, OptionName, given};
 use command_streams::{input, options};
-use fedbundle::{Call, CommandError, CommandName, Exit, OptionName, Step, given};
 use local_answers::{MOST_INPUT, request_words};
 use state_files::{has_journal, state_bytes};
 use std::alloc::{AllocError, Global};
@@ -75,7 +76,7 @@ fn input_of(rt: &HostRuntime, call: &Call<'_>, wait_seconds: u64) -> Result<AskI
     }
 }
 
-// One byte more than a request may have, so that the replica can tell what is too long.
+// One byte more than a request may have, so that the replica can see what is too long.
 fn read_input<R: Source>(rt: &HostRuntime, source: &mut R) -> Result<AskInput, Exit> {
     match read_up_to(rt.alloc(), source, MOST_INPUT + 1) {
         Ok(bytes) => Ok(AskInput::Bytes(bytes)),

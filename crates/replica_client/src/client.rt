@@ -1,6 +1,6 @@
 //! The other side of a local request: the arguments and the input go to the replica, and its reply
 //! goes to the standard streams. The wait for a stopped or stuck replica has a limit.
-use fedbundle::FileFault;
+use command_exits::FileFault;
 use memchr::memchr;
 use replica_sockets::too_long;
 use request_lines::{ReplyHead, read_reply_head, write_request_words};

@@ -3,10 +3,9 @@
 use crate::at_replica::{ask_for, ask_running};
 use crate::client::LocalRequest;
 use byte_lines::{Sink, write_all};
-use command_streams::{complaints, output};
-use fedbundle::{
-    Call, CommandError, Exit, OptionName, given, is_flag_given, manner_of, read_key, wanted,
-};
+use command_exits::{CommandError, Exit};
+use command_line::{Call, OptionName, given, is_flag_given, manner_of, read_key, wanted};
+use command_streams::{line_errors, output};
 use serde_json::Value;
 use std::alloc::{AllocError, Global};
 use std::io::Write;
@@ -93,7 +92,7 @@ fn ask_for_one(
     key: &str,
 ) -> Result<u8, Exit> {
     let domain = wanted(call, OptionName::Domain)?;
-    let words = record_words(rt.alloc(), domain, key, told_by(call)?)?;
+    let words = record_words(rt.alloc(), domain, key, named_by(call)?)?;
     let status = ask_with(rt, words.as_slice(), path, wait_seconds, &mut rt.stdout())?;
     if status == 0 && !is_dry(call) {
         let line = format!(in rt.alloc(); "distrusted {key}\n")?;
@@ -122,7 +121,7 @@ pub(crate) fn ask_with<W: Write>(
 }
 
 // The flag by which more is printed, if it is to be.
-fn told_by<'a>(call: &Call<'_>) -> Result<Option<&'a str>, Exit> {
+fn named_by<'a>(call: &Call<'_>) -> Result<Option<&'a str>, Exit> {
     if is_dry(call) {
         return Ok(Some("--dry-run"));
     }
@@ -212,7 +211,7 @@ fn show_same(rt: &HostRuntime, call: &Call<'_>, path: &str, wait_seconds: u64) -
     if is_dry(call) {
         print(&mut output(rt), lines.as_str())?;
     } else {
-        print(&mut complaints(rt), lines.as_str())?;
+        print(&mut line_errors(rt), lines.as_str())?;
     }
     Ok(0)
 }

@@ -4,7 +4,7 @@ use change_view::{
     observed_bundle,
 };
 use closure_core::Closure;
-use fedbundle::{CommandName, command_of};
+use command_line::{CommandName, command_of};
 use receipt_core::LineError;
 use request_lines::read_request_words;
 use std::alloc::Global;

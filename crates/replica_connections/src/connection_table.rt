@@ -3,8 +3,8 @@ use crate::live_connection::{BYTES_A_TURN, LiveConnection};
 use crate::local_talk::Surroundings;
 use crate::talk::Talk;
 use closure_core::Closure;
+use command_exits::FileFault;
 use fair_turns::{ByteRoom, Candidate, Turns, Work, comes_first, first_to_go};
-use fedbundle::FileFault;
 use mio::Poll;
 use peer_talks::{Ending, HeldState};
 use replica_sockets::Socket;
@@ -94,27 +94,27 @@ impl ConnectionTable {
         live.filter(|conn| is_of(conn, group)).count()
     }
 
-    /// If as many other replicas ask as may, one of them gives way.
+    /// If the number of other replicas that ask is at its limit, one of them makes room.
     pub fn make_served_room(&mut self, now: Instant) {
         if self.count(Group::Served) < MOST_SERVED {
             return;
         }
         if let Some(serial) = self.first_to_go(Group::Served, now) {
-            self.end_to_give_way(serial);
+            self.end_for_room(serial);
         }
     }
 
-    /// If as many pages are asked for as may be, a request that has not come whole gives way.
+    /// If the number of requests for pages is at its limit, one that has not come whole makes room.
     pub fn make_page_room(&mut self, now: Instant) {
         if self.count(Group::Pages) < MOST_PAGES {
             return;
         }
         if let Some(serial) = self.first_to_go(Group::AwaitedPages, now) {
-            self.end_to_give_way(serial);
+            self.end_for_room(serial);
         }
     }
 
-    fn end_to_give_way(&mut self, serial: usize) {
+    fn end_for_room(&mut self, serial: usize) {
         for conn in &mut self.connections {
             if conn.serial == serial {
                 conn.ending = Some(Ending::GaveWay);
@@ -122,8 +122,8 @@ impl ConnectionTable {
         }
     }
 
-    /// If there are as many requests of this machine as there may be, one that has not come whole
-    /// gives way. Returns whether there is room for one more.
+    /// If the number of requests of this machine is at its limit, one that has not come whole makes
+    /// room. Returns whether there is room for one more.
     pub fn make_local_room(&mut self, alloc: Global, now: Instant) -> bool {
         if self.count(Group::Local) < MOST_LOCAL {
             return true;
@@ -135,7 +135,7 @@ impl ConnectionTable {
             if let Talk::Local(talk) = &mut conn.talk
                 && conn.serial == serial
             {
-                talk.give_way(alloc);
+                talk.free_place(alloc);
             }
         }
         true
@@ -187,7 +187,7 @@ impl ConnectionTable {
         self.connections.iter().map(|conn| time_of(conn, now)).min()
     }
 
-    /// Keeps what came on each connection, of requests as much as there is room for.
+    /// Keeps what came on each connection, of requests only what there is room for.
     pub fn read(&mut self, alloc: Global, now: Instant) {
         let mut room = self.room();
         for conn in &mut self.connections {

@@ -10,13 +10,13 @@ use std::alloc::Global;
 use std::net::SocketAddr;
 use std::time::{Duration, Instant};
 
-/// How many bytes of a connection are read in one turn, or written at once.
+/// How many bytes of a connection are read, or written, in one turn.
 pub(crate) const BYTES_A_TURN: usize = 65_536;
 
 /// How often a connection is read in one turn: what came is mostly followed by the end.
 const READS_A_TURN: usize = 2;
 
-/// How often one is written at once: a reply has three parts.
+/// How often one is written in one turn: a reply has three parts.
 const WRITES_A_TURN: usize = 3;
 
 /// For how many seconds nothing may move on a connection, and how old it may be.
@@ -29,7 +29,7 @@ const MAX_AGE_SECONDS: u64 = 600;
 pub struct LiveConnection {
     pub talk: Talk,
     socket: Socket,
-    /// The address of the other side, where it has one.
+    /// The address of the other side, if it has one.
     pub peer: Option<SocketAddr>,
     /// Under which number the poll reports it.
     pub serial: usize,
@@ -49,7 +49,7 @@ pub struct LiveConnection {
 }
 
 impl LiveConnection {
-    /// A connection that came, or one that is being made. What came is looked at at once.
+    /// A connection that came, or one that is being made. What came is looked at immediately.
     pub fn new(
         socket: Socket,
         talk: Talk,
@@ -86,7 +86,7 @@ impl LiveConnection {
         self.can_read
     }
 
-    /// Whether there is something to do at once.
+    /// Whether there is something to do immediately.
     pub(crate) fn is_busy(&self) -> bool {
         self.ending.is_some()
             || self.work().is_some()
@@ -103,7 +103,7 @@ impl LiveConnection {
         idle.min(age)
     }
 
-    // A session that this replica asked for ends earlier where little moves.
+    // A session that this replica asked for ends earlier if little moves.
     fn max_age_seconds(&self) -> u64 {
         match &self.talk {
             Talk::Pull(_) => {
@@ -134,7 +134,7 @@ impl LiveConnection {
         self.sent_bytes = self.sent_bytes.saturating_add(count as u64);
     }
 
-    /// What waits for its turn, where something does.
+    /// What waits for its turn, if something does.
     pub fn work(&self) -> Option<Work> {
         match self.ending {
             Some(_) => None,
@@ -168,7 +168,7 @@ impl LiveConnection {
         }
     }
 
-    /// The connection as one that may give way.
+    /// The connection as one that may make room.
     pub(crate) fn candidate(&self, now: Instant) -> Candidate {
         let quiet = now.duration_since(self.asked).as_millis();
         Candidate {
@@ -261,7 +261,7 @@ impl LiveConnection {
         }
     }
 
-    // A reply has several parts: mostly all of them are written at once.
+    // A reply has several parts: mostly all of them are written together.
     fn write_pieces(&mut self, now: Instant) {
         let mut left = BYTES_A_TURN;
         for _ in 0..WRITES_A_TURN {

@@ -43,7 +43,7 @@ enum LocalAnswer {
     Awaited,
     // Nothing, as long as a whole request waits for its turn.
     Due(Work),
-    // What is left of a reply that says why there is none of a command.
+    // What is left of a reply that says why no command answers.
     Fault(&'static [u8]),
     Whole(Sending),
 }
@@ -79,8 +79,8 @@ impl LocalTalk {
         !matches!(self.answer, LocalAnswer::Fault(_))
     }
 
-    /// It gives way to another request: the reply says that there are too many.
-    pub(crate) fn give_way(&mut self, alloc: Global) {
+    /// It makes room for another request: the reply says that there are too many.
+    pub(crate) fn free_place(&mut self, alloc: Global) {
         self.refuse(alloc, RequestFault::TooManyRequests);
     }
 
@@ -136,7 +136,7 @@ impl LocalTalk {
         around: &Surroundings<'_>,
     ) {
         let mut room = around.room;
-        // The lines of what changes take about as much again as the input.
+        // The lines of what changes take about the room of the input once more.
         if self.work() == Some(Work::Change) && !room.take(self.held) {
             self.refuse(alloc, RequestFault::TooManyRequests);
             return;

@@ -1,6 +1,6 @@
 //! What a request asks for, as far as it decides when its turn comes.
+use command_line::{CommandName, command_of};
 use fair_turns::Work;
-use fedbundle::{CommandName, command_of};
 use health_pages::Page;
 use request_lines::read_request_words;
 use std::alloc::Global;

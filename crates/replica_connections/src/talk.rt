@@ -33,7 +33,7 @@ impl Talk {
         }
     }
 
-    /// What waits for a turn, where something does: of what was read nothing was carried out yet.
+    /// What waits for a turn, if something does: of what was read nothing was carried out yet.
     pub fn work(&self) -> Option<Work> {
         match self {
             Talk::Local(talk) => talk.work(),
@@ -132,7 +132,7 @@ impl Talk {
         }
     }
 
-    /// So many bytes of the output were written.
+    /// `count` bytes of the output were written.
     pub fn wrote(&mut self, count: usize) {
         match self {
             Talk::Local(talk) => talk.wrote(count),

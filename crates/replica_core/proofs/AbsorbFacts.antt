@@ -9,7 +9,7 @@ use Rattle.replica_core.specs.Absorbing.{RefusesEntry, with_entry, AreWelcome, I
 use Rattle.replica_core.specs.declared.entry.Entry.{Entry}
 use Rattle.replica_core.specs.declared.entry.Entry.TheVariants.{Record}
 use Rattle.std.proofs.lemmas.List.{length-map}
-use Rattle.replica_core.proofs.JudgeFacts.{with-records}
+use Rattle.replica_core.proofs.UnwelcomeFacts.{with-records}
 
 -- Holding two lists of entries is holding one after the other.
 with-append : (xs ys : List Entry) (m : Meaning) → with_entries (xs ++ ys) m ≡ with_entries ys (with_entries xs m)

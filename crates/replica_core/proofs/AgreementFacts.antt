@@ -46,7 +46,7 @@ in-course q events c event h =
     subst (λ es. Contains es event) (sym c.order)
     (course-parts q.asker q.answerer q.bucket c.before c.asked c.answered c.after c.have_place c.give_place event h)
 
--- All events of a course come to what its last part does to the world after the taking.
+-- All events of a course do what its last part does to the world after the taking.
 course-run : (q : Inquiry) (events : List Event) (rules : Rules) (start : World) (c : Course q events)
     → run_from rules start events ≡ run_from rules (after_taking rules start c) c.after
 course-run q events rules start c =

@@ -45,7 +45,7 @@ kept-from : {X : Type 0} (b : Bool) (y : X) (ys : List X) (x : X) → Contains (
 kept-from true y ys x c = elim (contains-cases y ys x c) [ inl e ↦ inl (refl, e) | inr d ↦ inr d ]
 kept-from false y ys x c = inr c
 
--- What was kept of the rest stays, whether the first item is kept or not.
+-- What was kept of the rest is still kept, whether the first item is kept or not.
 kept-later : {X : Type 0} (b : Bool) (y : X) (ys : List X) (x : X) → Contains ys x → Contains (cond b (y ∷ ys) ys) x
 kept-later true y ys x c = contains-later y ys x c
 kept-later false y ys x c = c

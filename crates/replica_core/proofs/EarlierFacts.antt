@@ -19,7 +19,7 @@ use Rattle.sorted_order.proofs.PickedFacts.{found_of_items, missing_of_items, pi
 use Rattle.closure_core.proofs.RisingFacts.{sought, with_item_at, with_item_rising}
 use Rattle.replica_core.specs.Inside.Earlier.{Front, AreNoted, has_equal}
 
--- Before the first item there is none.
+-- There is no item before the first one.
 take_none : {T : Type 0} (items : List T) → take 0 items ≡ []
 take_none [] = refl
 take_none (x ∷ xs) = refl

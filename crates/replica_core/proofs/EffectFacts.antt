@@ -14,7 +14,7 @@ use Rattle.replica_core.specs.Convergence.{Gains, HasGive, only_receipt, only_re
 use Rattle.replica_core.specs.declared.event.Event.{Event}
 use Rattle.replica_core.specs.declared.event.Event.TheVariants.{Take, Revoke, Absorb, Part, Join}
 use Rattle.replica_core.proofs.EventFacts.{at-here, replica-true}
-use Rattle.replica_core.proofs.GatheringFacts.{fits-to, knows-to}
+use Rattle.replica_core.proofs.GrownFacts.{fits-to, knows-to}
 
 -- an event with the effect of a gain brings it
 gains-held : (past : WorldRun) (event : Event) (i : ℕ) (gain : State) → effect_of (rules_in past) (world_after past) event ≡ gains i gain

@@ -54,7 +54,7 @@ part-gained false w i k state p = part-refl (w.now i)
 pub record Covers (rules : Rules) (event : Event) (P : Effect → Type 0) : Type 0 where
   pub idle : P nothing
   pub more : (k : ℕ) (gain : State) → is_replica rules k ≡ true → P (gains k gain)
-  pub told : (message : Message) → P (sends message)
+  pub stated : (message : Message) → P (sends message)
   pub kept : (k : ℕ) → is_replica rules k ≡ true → event ≡ Save k → P (saves k)
   pub again : (k : ℕ) → is_replica rules k ≡ true → event ≡ Restart k → P (restarts k)
 
@@ -89,8 +89,8 @@ covered rules w (Take k r) P c =
     covered-where P (is_replica rules k && rules.fits r) _ c.idle (λ e. c.more k _ (and_parts (is_replica rules k) (rules.fits r) e).0)
 covered rules w (Revoke k x) P c =
     covered-where P (is_replica rules k && rules.knows x.domain) _ c.idle (λ e. c.more k _ (and_parts (is_replica rules k) (rules.knows x.domain) e).0)
-covered rules w (Ask k b) P c = covered-where P (is_replica rules k && nat_le b 255) _ c.idle (λ e. c.told _)
-covered rules w (Answer k n) P c = covered-where P (is_replica rules k) _ c.idle (λ e. covered-sends_give P (w.now k) k n (slice_get w.sent n) c.idle c.told)
+covered rules w (Ask k b) P c = covered-where P (is_replica rules k && nat_le b 255) _ c.idle (λ e. c.stated _)
+covered rules w (Answer k n) P c = covered-where P (is_replica rules k) _ c.idle (λ e. covered-sends_give P (w.now k) k n (slice_get w.sent n) c.idle c.stated)
 covered rules w (Absorb k n) P c = covered-where P (is_replica rules k) _ c.idle (λ e. covered-whole P k (slice_get w.sent n) c.idle (λ gain. c.more k gain e))
 covered rules w (Part k n m) P c = covered-where P (is_replica rules k) _ c.idle (λ e. covered-part P k m (slice_get w.sent n) c.idle (λ gain. c.more k gain e))
 covered rules w (Join k j) P c =
@@ -104,12 +104,12 @@ part-event laws rules w i event d =
     covered rules w event (λ effect. IsPartOf (w.now i) ((apply w effect).now i)) (record {
       idle = part-refl (w.now i);
       more = λ k gain e. part-gained (is_within_limits (joined (w.now k) gain)) w i k (joined (w.now k) gain) (part-joined laws (w.now k) gain);
-      told = λ message. part-refl (w.now i);
+      stated = λ message. part-refl (w.now i);
       kept = λ k e s. part-refl (w.now i);
       again = λ k e s. subst (IsPartOf (w.now i)) (sym (at-other i k (w.saved k) w.now (λ f. d (s ∙ ap Restart (sym f))))) (part-refl (w.now i));
     })
 
--- what a replica holds stays held while it doesn't restart
+-- what a replica holds remains held while it doesn't restart
 pub part-run : (laws : Laws) (rules : Rules) (i : ℕ) (events : List Event) (w : World) → Lacks events (Restart i)
     → IsPartOf (w.now i) ((run_from rules w events).now i)
 part-run laws rules i [] w l = part-refl (w.now i)
@@ -118,7 +118,7 @@ part-run laws rules i (event ∷ events) w l =
     (part-event laws rules w i event (λ e. l (subst (Contains (event ∷ events)) e (contains-here event events))))
     (part-run laws rules i events (happens rules w event) (λ c. l (contains-later event events (Restart i) c)))
 
--- ---- messages stay
+-- ---- messages remain
 
 -- The case of an effect that sends nothing.
 front-refl : (w : World) → (rest : List Message) × (w.sent ≡ w.sent ++ rest)
@@ -145,14 +145,14 @@ sent-run rules (event ∷ events) w =
     let later = sent-run rules events (happens rules w event) in
     (first.0 ++ later.0, later.1 ∙ ap (λ s. s ++ later.0) first.1 ∙ append_assoc w.sent first.0 later.0)
 
--- So each message stays at its place.
+-- So each message remains at its place.
 pub sent-stays : (rules : Rules) (events : List Event) (w : World) (n : ℕ) (message : Message)
     → slice_get w.sent n ≡ Some message → slice_get (run_from rules w events).sent n ≡ Some message
 sent-stays rules events w n message e =
     let rest = sent-run rules events w in
     ap (λ s. slice_get s n) rest.1 ∙ get-kept w.sent rest.0 n message e
 
--- ---- what was saved stays until the next save
+-- ---- what was saved remains until the next save
 
 -- A gain saves nothing.
 saved-gained : (b : Bool) (w : World) (i k : ℕ) (state : State) → (gained b w k state).saved i ≡ w.saved i
@@ -165,12 +165,12 @@ saved-event rules w i event d =
     covered rules w event (λ effect. (apply w effect).saved i ≡ w.saved i) (record {
       idle = refl;
       more = λ k gain e. saved-gained (is_within_limits (joined (w.now k) gain)) w i k (joined (w.now k) gain);
-      told = λ message. refl;
+      stated = λ message. refl;
       kept = λ k e s. at-other i k (w.now k) w.saved (λ f. d (s ∙ ap Save (sym f)));
       again = λ k e s. refl;
     })
 
--- What a replica saved stays until its next save.
+-- What a replica saved remains until its next save.
 pub saved-run : (rules : Rules) (i : ℕ) (events : List Event) (w : World) → Lacks events (Save i) → (run_from rules w events).saved i ≡ w.saved i
 saved-run rules i [] w l = refl
 saved-run rules i (event ∷ events) w l =

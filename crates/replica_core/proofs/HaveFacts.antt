@@ -119,17 +119,17 @@ bytes-rising [] r = tt
 bytes-rising (h ∷ t) r = (bytes-all h t r.0, bytes-rising t r.1)
 
 -- The comparison of all neighbours says whether ids rise.
-pub rising_told : (ids : List ReceiptId) (told : Bool) → IsAllAdjacentAnswer (λ x y b. b ≡ below x y) ids told
-    → IsTrue told ↔ IsStrictlySortedBy id_cmp (map bytes_of ids)
+pub rising_stated : (ids : List ReceiptId) (stated : Bool) → IsAllAdjacentAnswer (λ x y b. b ≡ below x y) ids stated
+    → IsTrue stated ↔ IsStrictlySortedBy id_cmp (map bytes_of ids)
 unfolding IsStrictlySortedBy
-rising_told [] true all = (λ t. bytes-rising [] tt, λ r. refl)
-rising_told (first ∷ others) true all = (
+rising_stated [] true all = (λ t. bytes-rising [] tt, λ r. refl)
+rising_stated (first ∷ others) true all = (
   λ t. bytes-rising (first ∷ others)
       (sorted_from_all_adjacent named_total (first ∷ others) first (λ k within. less _ (sym (all k first within)))),
   λ r. refl,
 )
-rising_told [] false (k, within, falls) = absurd (omega arith)
-rising_told (first ∷ others) false (k, within, falls) = (
+rising_stated [] false (k, within, falls) = absurd (omega arith)
+rising_stated (first ∷ others) false (k, within, falls) = (
   λ t. absurd (cc),
   λ r.
       let up = named-rising (first ∷ others) r in
@@ -144,7 +144,7 @@ pub record RisesTo (ids : List ReceiptId) (place : ℕ) : Type 0 where
 
 -- If the place is the end, all ids rise.
 pub rises-all : (ids : List ReceiptId) (place : ℕ) → RisesTo ids place → length ids ≤ place → IsStrictlySortedBy id_cmp (map bytes_of ids)
-rises-all ids place r h = (rising_told ids true (λ k d within. r.each k d (omega arith))).0 refl
+rises-all ids place r h = (rising_stated ids true (λ k d within. r.each k d (omega arith))).0 refl
 
 -- Within the list a comparison reads the same with any default.
 same-pair : (ids : List ReceiptId) (j k : ℕ) (d e : ReceiptId) → j < length ids → k < length ids
@@ -158,7 +158,7 @@ pub falls-at : (ids : List ReceiptId) (place : ℕ) (other : ReceiptId) → 0 < 
     → IsStrictlySortedBy id_cmp (map bytes_of ids) → ⊥
 falls-at ids place other some h e rising =
     let at : place ≡ place - 1 + 1 = omega arith in
-    let f : false ≡ true = (rising_told ids false (
+    let f : false ≡ true = (rising_stated ids false (
       place - 1,
       omega arith,
       λ d.

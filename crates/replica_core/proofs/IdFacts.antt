@@ -31,7 +31,7 @@ more-gathered r id rest others old new all e i n h =
 
 -- ---- sets of ids
 
--- Ids make sets: their order tells any two apart.
+-- Ids make sets: their order distinguishes any two.
 sets : AreSets Always id_cmp
 sets = AreSets-from_total Always id_cmp (on_texts (λ (t : List ℕ). t)) (λ a b p q e. exact_bytes a b e)
 

@@ -23,7 +23,7 @@ use Rattle.replica_core.specs.Absorbing.{with_entry, AreWelcome, IsWelcome, of_r
 use Rattle.replica_core.specs.Inside.RecordsToo.{HasRecordsToo, only_records}
 use Rattle.replica_core.specs.declared.entry.Entry.TheVariants.{Record, Receipt as AReceipt}
 use Rattle.replica_core.proofs.ContainsFacts.{contains-none}
-use Rattle.replica_core.proofs.JudgeFacts.{take-next, with_items-push}
+use Rattle.replica_core.proofs.UnwelcomeFacts.{take-next, with_items-push}
 use Rattle.replica_core.proofs.PlaceFacts.{always, with_items-grows}
 use Rattle.replica_core.proofs.RoomFacts.{offers-new, offers-grow}
 

@@ -1,4 +1,4 @@
--- What is so of all that is held, saved and sent stays so.
+-- What is so of all that is held, saved and sent remains so.
 use Rattle.std.proofs.Common.{◌≡◌, ℕ, ◌≤◌, inl, inr, Bool, true, false, cond, ◌&&◌, ◌==◌, nat_le, List, [], ◌∷◌, refl, sym, subst}
 use Rattle.std.specs.Prelude.{Contains, slice_get, Option, Some, None, not, ⊤}
 use Rattle.std.proofs.lemmas.Bool.{and_parts}
@@ -43,7 +43,7 @@ keeps-at : (P : Receipt → Type 0) (Q : Distrust → Type 0) (b : Bool) (state 
 keeps-at P Q true state other s o = s
 keeps-at P Q false state other s o = o
 
--- It stays so when one replica's state is replaced by one that has the properties.
+-- It remains so when one replica's state is replaced by one that has the properties.
 kept-state : (P : Receipt → Type 0) (Q : Distrust → Type 0) (place : ℕ) (A : Type 0) (w : World) (i : ℕ) (state : State)
     → IsKept P Q place A w → Keeps P Q state → IsKept P Q place A (with_state w i state)
 kept-state P Q place A w i state h s = record {
@@ -52,13 +52,13 @@ kept-state P Q place A w i state h s = record {
   sent = h.sent;
 }
 
--- It stays so after a gain, whether that is within the limits or not.
+-- It remains so after a gain, whether that is within the limits or not.
 kept-gained : (P : Receipt → Type 0) (Q : Distrust → Type 0) (place : ℕ) (A : Type 0) (b : Bool) (w : World) (i : ℕ)
     (state : State) → IsKept P Q place A w → Keeps P Q state → IsKept P Q place A (gained b w i state)
 kept-gained P Q place A true w i state h s = kept-state P Q place A w i state h s
 kept-gained P Q place A false w i state h s = h
 
--- Only the part of a gain that comes to be held needs the properties.
+-- Only the part of a gain that is held then needs the properties.
 pub kept-held : (laws : Laws) (P : Receipt → Type 0) (Q : Distrust → Type 0) (place : ℕ) (A : Type 0) (b : Bool) (w : World) (i : ℕ) (gain : State)
     → IsKept P Q place A w
     → ((r : Receipt) → Contains gain.held r → Contains ((gained b w i (joined (w.now i) gain)).now i).held r → P r)
@@ -78,14 +78,14 @@ kept-held laws P Q place A true w i gain h p q =
     })
 kept-held laws P Q place A false w i gain h p q = h
 
--- It stays so when a replica gains what has the properties.
+-- It remains so when a replica gains what has the properties.
 kept-gains : (laws : Laws) (P : Receipt → Type 0) (Q : Distrust
     → Type 0) (place : ℕ) (A : Type 0) (w : World) (i : ℕ) (gain : State) → IsKept P Q place A w → Keeps P Q gain
     → IsKept P Q place A (apply w (gains i gain))
 kept-gains laws P Q place A w i gain h g =
     kept-gained P Q place A (is_within_limits (joined (w.now i) gain)) w i (joined (w.now i) gain) h (keeps-joined laws P Q (w.now i) gain (h.now i) g)
 
--- It stays so when a message is sent that has the properties.
+-- It remains so when a message is sent that has the properties.
 kept-sends : (P : Receipt → Type 0) (Q : Distrust → Type 0) (place : ℕ) (A : Type 0) (w : World) (message : Message)
     → IsKept P Q place A w → KeepsMessage P Q message → IsKept P Q place A (apply w (sends message))
 kept-sends P Q place A w message h m = record {
@@ -94,7 +94,7 @@ kept-sends P Q place A w message h m = record {
   sent = λ n other l e. elim (get-cases w.sent message n other e) [ inl s ↦ h.sent n other l s | inr s ↦ subst (KeepsMessage P Q) (sym s.1) m ];
 }
 
--- It stays so when a replica saves.
+-- It remains so when a replica saves.
 kept-saves : (P : Receipt → Type 0) (Q : Distrust → Type 0) (place : ℕ) (A : Type 0) (w : World) (i : ℕ)
     → IsKept P Q place A w → IsKept P Q place A (apply w (saves i))
 kept-saves P Q place A w i h = record {
@@ -103,14 +103,14 @@ kept-saves P Q place A w i h = record {
   sent = h.sent;
 }
 
--- It stays so if an effect depends on a test, and it does when the test passes.
+-- It remains so if an effect depends on a test, and it does when the test passes.
 pub kept-where : (P : Receipt → Type 0) (Q : Distrust → Type 0) (place : ℕ) (A : Type 0) (b : Bool) (w : World)
     (effect : Effect) → IsKept P Q place A w → (b ≡ true → IsKept P Q place A (apply w effect))
     → IsKept P Q place A (apply w (where_so b effect))
 kept-where P Q place A true w effect h g = g refl
 kept-where P Q place A false w effect h g = h
 
--- It stays so when a replica answers.
+-- It remains so when a replica answers.
 kept-sends_give : (P : Receipt → Type 0) (Q : Distrust
     → Type 0) (place : ℕ) (A : Type 0) (w : World) (state : State) (j k : ℕ) (message : Option Message)
     → IsKept P Q place A w → Keeps P Q state → IsKept P Q place A (apply w (sends_give state j k message))
@@ -122,7 +122,7 @@ kept-sends_give P Q place A w state j k (Some (have_sent asker bucket ids)) h s 
     })
 kept-sends_give P Q place A w state j k (Some (give_sent answerer other content)) h s = h
 
--- It stays so when a replica takes a whole answer that has the properties.
+-- It remains so when a replica takes a whole answer that has the properties.
 kept-whole : (laws : Laws) (P : Receipt → Type 0) (Q : Distrust
     → Type 0) (place : ℕ) (A : Type 0) (w : World) (i : ℕ) (found : Option Message) → IsKept P Q place A w
     → ((message : Message) → found ≡ Some message → KeepsMessage P Q message)
@@ -132,7 +132,7 @@ kept-whole laws P Q place A w i (Some (have_sent asker bucket ids)) h s = h
 kept-whole laws P Q place A w i (Some (give_sent answerer other content)) h s =
     kept-gains laws P Q place A w i content h (s (give_sent answerer other content) refl)
 
--- It stays so when a replica takes part of an answer that has the properties.
+-- It remains so when a replica takes part of an answer that has the properties.
 kept-part : (laws : Laws) (P : Receipt → Type 0) (Q : Distrust
     → Type 0) (place : ℕ) (A : Type 0) (w : World) (i m : ℕ) (found : Option Message) → IsKept P Q place A w
     → ((message : Message) → found ≡ Some message → KeepsMessage P Q message)
@@ -156,7 +156,7 @@ one-record P Q x q = record {
   records = λ y c. elim (contains-cases x [] y c) [ inl e ↦ subst Q (sym e) q | inr d ↦ absurd (contains-none y d) ];
 }
 
--- It stays so over each event that is admitted.
+-- It remains so over each event that is admitted.
 pub kept-event : (laws : Laws) (P : Receipt → Type 0) (Q : Distrust
     → Type 0) (place : ℕ) (A : Type 0) (rules : Rules) (w : World) (event : Event) → IsKept P Q place A w
     → Admits rules P Q place A event → IsKept P Q place A (happens rules w event)
@@ -190,7 +190,7 @@ kept-event laws P Q place A rules w (Save i) h a =
 kept-event laws P Q place A rules w (Restart i) h a =
     kept-where P Q place A (is_replica rules i) w (restarts i) h (λ e. kept-state P Q place A w i (w.saved i) h (h.saved a i))
 
--- So it stays so over each list of events that are admitted.
+-- So it remains so over each list of events that are admitted.
 pub kept-run : (laws : Laws) (P : Receipt → Type 0) (Q : Distrust
     → Type 0) (place : ℕ) (A : Type 0) (rules : Rules) (events : List Event) (w : World) → IsKept P Q place A w
     → ((event : Event) → Contains events event → Admits rules P Q place A event)

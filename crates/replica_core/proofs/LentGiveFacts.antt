@@ -49,10 +49,10 @@ named-has ids r e =
     subst (Contains ids) ((bytes_eq-Decides found.0 (receipt_id_of r)).0 found.2) found.1
 
 -- What the search among the ids returns is whether the receipt is named.
-pub tells-named : (ids : List (List ℕ)) (r : Receipt) (id : List ℕ) (found : Bool) → id ≡ receipt_id_of r
+pub reports-named : (ids : List (List ℕ)) (r : Receipt) (id : List ℕ) (found : Bool) → id ≡ receipt_id_of r
     → IsTrue found ↔ Contains ids id → is_named ids r ≡ found
-tells-named ids r id true e h = named-true ids r (subst (Contains ids) e (h.0 refl))
-tells-named ids r id false e h =
+reports-named ids r id true e h = named-true ids r (subst (Contains ids) e (h.0 refl))
+reports-named ids r id false e h =
     elim (cases_Bool (is_named ids r)) [
       | inl t ↦ absurd (let f : false ≡ true = h.1 (subst (Contains ids) (sym e) (named-has ids r t)) in cc)
       | inr f ↦ f

@@ -17,12 +17,12 @@ mod IdFacts
 mod LentGiveFacts
 pub mod PlaceFacts
 mod EarlierFacts
-pub mod JudgeFacts
+pub mod UnwelcomeFacts
 mod RoomFacts
 mod JoiningFacts
 mod AbsorbFacts
-mod GatheringFacts
+mod GrownFacts
 mod EffectFacts
 mod SoundFacts
-mod PlayingFacts
+mod ReplicaFacts
 mod StandardFacts

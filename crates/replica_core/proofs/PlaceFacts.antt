@@ -10,7 +10,7 @@ use Rattle.std.specs.Cmp.{Equal-is, tied_itself}
 use Rattle.receipt_core.specs.declared.distrust.Distrust.{Distrust}
 use Rattle.receipt_core.specs.Rising.{placed, with_item, with_items}
 use Rattle.receipt_core.specs.Sets.{AreSets, Always}
-use Rattle.replica_core.specs.Inside.Places.{HasPlaces, HasNoPlace, HasPlace}
+use Rattle.replica_core.specs.Inside.FreePlaces.{HasPlaces, HasNoPlace, HasPlace}
 use Rattle.replica_core.proofs.ContainsFacts.{contains-cases, contains-none, each-from, any-from}
 
 -- What a test denies does not hold.

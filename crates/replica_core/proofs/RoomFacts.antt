@@ -14,8 +14,8 @@ use Rattle.std.specs.Prelude.{Result, Ok, Err, IsOk, OnOk, MatchResult}
 use Rattle.closure_core.specs.Changes.{HeldAndRoom as ClosureState}
 use Rattle.closure_core.specs.Refusals.{Room, IsRoomier, offers_count}
 use Rattle.replica_core.specs.Absorbing.{room_for, BringsNew, IsBeyondRoom}
-use Rattle.replica_core.specs.Inside.Places.{CountsNew}
-use Rattle.replica_core.proofs.JudgeFacts.{take-next, with_items-push, all-push}
+use Rattle.replica_core.specs.Inside.FreePlaces.{CountsNew}
+use Rattle.replica_core.proofs.UnwelcomeFacts.{take-next, with_items-push, all-push}
 use Rattle.replica_core.proofs.ContainsFacts.{contains-here, contains-later}
 
 -- how many offers a receipt has

@@ -1,4 +1,5 @@
--- A worked proof that replicas settle: of two, one takes a receipt, and then each has the other's whole answer about every bucket.
+-- A worked proof that replicas settle: of two, one takes a receipt, and then each has the other's
+-- whole answer about every bucket.
 use Rattle.std.proofs.Common.{◌≡◌, ℕ, zero, suc, ◌+◌, ◌*◌, ◌<◌, ◌≤◌, inl, inr, Bool, true, false, ◌&&◌, nat_le, List, [], ◌∷◌, ◌++◌}
 use Rattle.std.proofs.Common.{length, length-append, append_assoc, append-nil, arith, refl, sym, ap, ap₂, ◌∙◌, subst, le-leb}
 use Rattle.std.specs.Prelude.{Contains, slice_get, Option, Some, None, ⊤}
@@ -129,7 +130,7 @@ round-sends rules w k two few size =
     let second = turn-sends rules v 1 0 k (4 * k + 2) (omega (arith, two)) (omega (arith, two)) few first in
     second ∙ omega arith
 
--- This many rounds send four times as many messages.
+-- This many rounds send four times that number of messages.
 rounds-sends : (rules : Rules) (w : World) (k : ℕ) → 2 ≤ rules.replicas → k ≤ 256 → length w.sent ≡ 0 → length (run_from rules w (rounds k)).sent ≡ 4 * k
 unfolding rounds
 rounds-sends rules w zero two few none = none

@@ -14,7 +14,7 @@ use Rattle.receipt_core.specs.Acceptance.{Meaning, IsMeaning, IsFitting}
 use Rattle.replica_core.specs.State.{State, is_of_bucket, is_named, receipts_lacking}
 use Rattle.replica_core.specs.Session.{state_of}
 use Rattle.replica_core.specs.World.{Message, have_sent, give_sent}
-use Rattle.replica_core.specs.Inside.Playing.{give_in_message, CanHold, CanHoldRecords, IsSound}
+use Rattle.replica_core.specs.Inside.ReplicasInMemory.{give_in_message, CanHold, CanHoldRecords, IsSound}
 use Rattle.replica_core.proofs.ContainsFacts.{each-from, each-to, filter-from}
 use Rattle.replica_core.proofs.RisingListFacts.{rising_head, rising_tail}
 

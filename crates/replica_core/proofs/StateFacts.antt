@@ -21,7 +21,7 @@ pub record Throughout (P : ℕ → State → Type 0) (w : World) : Type 0 where
   pub now : (i : ℕ) → P i (w.now i)
   pub saved : (i : ℕ) → P i (w.saved i)
 
--- It stays so when one replica's state is replaced by one that has the property.
+-- It remains so when one replica's state is replaced by one that has the property.
 throughout-at : (P : ℕ → State → Type 0) (i k : ℕ) (state : State) (states : ℕ → State) → P k state → P i (states i) → P i (at_replica k state states i)
 throughout-at P i k state states here there =
     elim (cases_eq i k) [
@@ -29,7 +29,7 @@ throughout-at P i k state states here there =
       | inr d ↦ subst (P i) (sym (at-other i k state states d)) there
     ]
 
--- It stays so after a gain that keeps the property or is beyond the limits.
+-- It remains so after a gain that keeps the property or is beyond the limits.
 throughout-gained : (P : ℕ → State → Type 0) (b : Bool) (w : World) (k : ℕ) (state : State) → Throughout P w
     → (b ≡ true → P k state) → Throughout P (gained b w k state)
 throughout-gained P true w k state h s = record { now = λ i. throughout-at P i k state w.now (s refl) (h.now i); saved = h.saved }
@@ -40,7 +40,7 @@ throughout-gained P false w k state h s = h
 pub record IsKeptByGains (rules : Rules) (P : ℕ → State → Type 0) : Type 0 where
   pub gain : (k : ℕ) (state more : State) → is_replica rules k ≡ true → P k state → is_within_limits (joined state more) ≡ true → P k (joined state more)
 
--- It stays so over each event if gains keep the property.
+-- It remains so over each event if gains keep the property.
 pub throughout-event : (rules : Rules) (P : ℕ → State → Type 0) → IsKeptByGains rules P → (w : World) (event : Event)
     → Throughout P w → Throughout P (happens rules w event)
 throughout-event rules P kept w event h =
@@ -48,12 +48,12 @@ throughout-event rules P kept w event h =
       idle = h;
       more = λ k gain e. throughout-gained P (is_within_limits (joined (w.now k) gain)) w k (joined (w.now k) gain) h
           (λ b. kept.gain k (w.now k) gain e (h.now k) b);
-      told = λ message. record { now = h.now; saved = h.saved };
+      stated = λ message. record { now = h.now; saved = h.saved };
       kept = λ k e s. record { now = h.now; saved = λ i. throughout-at P i k (w.now k) w.saved (h.now k) (h.saved i) };
       again = λ k e s. record { now = λ i. throughout-at P i k (w.saved k) w.now (h.saved k) (h.now i); saved = h.saved };
     })
 
--- So it stays so over each list of events.
+-- So it remains so over each list of events.
 pub throughout-run : (rules : Rules) (P : ℕ → State → Type 0) → IsKeptByGains rules P
     → (events : List Event) (w : World) → Throughout P w → Throughout P (run_from rules w events)
 throughout-run rules P kept [] w h = h

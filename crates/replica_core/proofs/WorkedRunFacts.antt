@@ -115,7 +115,7 @@ halfway a b x = record {
       give_sent 2 2 (record { held = b ∷ []; records = x ∷ [] }) ∷ [];
 }
 
--- The first half comes to that world.
+-- The first half results in that world.
 half : (a b : Receipt) (x : Distrust) → AreApart a b x → run three (starts a b x ++ first_half) ≡ halfway a b x
 half a b x h = simp (
   h.bucket,
@@ -133,7 +133,7 @@ half a b x h = simp (
   h.ids_greater,
 )
 
--- What the second half comes to may be computed from that world.
+-- What the second half results in may be computed from that world.
 again : (a b : Receipt) (x : Distrust) → AreApart a b x → (i : ℕ)
     → (run three ((starts a b x ++ first_half) ++ second_half)).now i
     ≡ (run_from three (halfway a b x) second_half).now i

@@ -42,7 +42,7 @@ same-ids a b e =
     ap (λ t. record a { text = t }) text ∙ ap (λ t. record { text = b.text; domain = t; path = a.path }) domain
     ∙ ap (λ t. record { text = b.text; domain = b.domain; path = t }) path
 
--- Where the test of the list passes, each item passes.
+-- If the test of the list passes, each item passes.
 all-from : {X : Type 0} (p : X → Bool) (xs : List X) (x : X) → list_all p xs ≡ true → Contains xs x → p x ≡ true
 all-from p [] x e c = absurd (contains-none x c)
 all-from p (y ∷ ys) x e c =
@@ -54,7 +54,7 @@ reached-from : (sequence : ℕ) (rank : Option ℕ) → is_reached sequence rank
 reached-from sequence None e = absurd (let f : false ≡ true = e in cc)
 reached-from sequence (Some n) e = (n, refl, leb-true sequence n e)
 
--- A floor that passes the world's test is reached where it is of the domain.
+-- A floor that passes the world's test is reached if it is of the domain.
 floor-from : (f : Floor) (r : Receipt) → cond (bytes_eq f.domain r.domain) (is_reached f.sequence r.document.rank) true ≡ true
     → f.domain ≡ r.domain → Reaches f.sequence r.document
 floor-from f r e same =
@@ -169,7 +169,7 @@ restarts-saved past i l =
     ap (λ (w : World). w.now i) (fold-append (happens (rules_in past)) empty_world past.events (Restart i ∷ []))
     ∙ restarted-here (rules_in past) i (world_after past) l
 
--- The clause `saves`: what was saved stays until the next save.
+-- The clause `saves`: what was saved remains until the next save.
 pub saved-last : (past : WorldRun) (since : List Event) (i : ℕ) → i < past.replicas → Lacks since (Save i)
     → saved_by (followed_by past (Save i ∷ since)) i ≡ held_by past i
 saved-last past since i l h =

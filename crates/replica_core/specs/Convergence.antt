@@ -41,7 +41,7 @@ pub record WasTaken (past : WorldRun) (r : Receipt) : Type 0 where
   pub held : Contains (held_by (record past { events = before ++ Take replica r ∷ [] })
       replica).held r
 
--- A replica came to distrust the key, and held the record right after.
+-- A replica began to distrust the key, and held the record right after.
 pub record WasRevoked (past : WorldRun) (x : Distrust) : Type 0 where
   pub before : List Event
   pub replica : ℕ
@@ -63,7 +63,7 @@ only_receipt r = record { held = r ∷ []; records = [] }
 abbrev pub only_record : Distrust → State
 only_record x = record { held = []; records = x ∷ [] }
 
--- By the event the replica comes to hold all this too, if it is not too much.
+-- After the event the replica holds all this too, if it is not too much.
 abbrev pub Gains : WorldRun → Event → ℕ → State → Type 0
 Gains past event replica gain = is_within_limits (joined (held_by past replica) gain) ≡ true
     → held_by (followed_by past (event ∷ [])) replica ≡ joined (held_by past replica) gain

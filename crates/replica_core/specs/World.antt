@@ -125,7 +125,7 @@ at_replica replica state states other = cond (other == replica) state (states ot
 abbrev pub with_state : World → ℕ → State → World
 with_state w replica state = record w { now = at_replica replica state w.now }
 
--- a replica that would come to hold too much gains nothing
+-- a replica that would then hold too much gains nothing
 abbrev pub gained : Bool → World → ℕ → State → World
 gained true w replica state = with_state w replica state
 gained false w replica state = w

@@ -7,14 +7,14 @@ ghost use Rattle.replica_core.specs.State.{joined, meaning_of_state};
 ghost use Rattle.replica_core.specs.Session.{state_of};
 ghost use Rattle.replica_core.specs.Absorbing.{AreWelcome, HasAbsorbed, HasRefusedAbsorbing};
 ghost use Rattle.replica_core.specs.Absorbing.{IsFirstRefused, entries_of, room_for, IsBeyondRoom};
-ghost use Rattle.replica_core.specs.Inside.Places.{CountsNew};
+ghost use Rattle.replica_core.specs.Inside.FreePlaces.{CountsNew};
 
 use crate::earlier::Earlier;
 use crate::error::SyncError;
+use crate::first_unwelcome::{first_receipt, first_record};
+use crate::free_places::is_receipt_among;
 use crate::give::Give;
 use crate::joining::{distrust_all, take_all};
-use crate::judging::{first_receipt, first_record};
-use crate::places::is_receipt_among;
 use closure_core::{Closure, TakeError};
 use receipt_core::Receipt;
 use std::alloc::{AllocError, Global};

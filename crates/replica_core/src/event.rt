@@ -10,7 +10,7 @@ pub enum Event {
         replica: usize,
         receipt: Receipt,
     },
-    /// A replica comes to distrust a key, if the record's domain is one of the configuration.
+    /// A replica begins to distrust a key, if the record's domain is one of the configuration.
     Revoke {
         replica: usize,
         record: Distrust,

@@ -29,7 +29,7 @@ pub fn provenance()
     ensures saved_comes { (past : WorldRun) (i : ℕ) → ComesFrom past (saved_by past i) }
 {}
 
-/// What each event brings to a replica that would not come to hold too much by it.
+/// What each event brings to a replica that would not hold too much after it.
 ///
 /// - `takes`: a receipt that fits the configuration is held then.
 /// - `revokes`: so is a record whose domain is one of the configuration.
@@ -54,7 +54,7 @@ pub fn effects()
 /// - `means`: its receipts and records have their form, rise, fit, and are not too many.
 /// - `closed`, `least`: what that accepts is the least closed set, of all sets, also those that no
 ///   test decides.
-/// - `tests`: the same of the sets that a test decides.
+/// - `tests`: the same for the sets that a test decides.
 pub fn validity<S: DocumentSet>()
     ensures means { (past : WorldRun) (i : ℕ) → AreEvents past.events
         → IsMeaning (meaning_of_state past.config (held_by past i)) }
@@ -72,7 +72,7 @@ pub fn validity<S: DocumentSet>()
 ///
 /// - `grows`: by every other event a replica keeps what it holds.
 /// - `restarts`: a restart gives what was saved.
-/// - `saves`: a save's content stays saved up to the next one.
+/// - `saves`: a save's content remains saved up to the next one.
 /// - `never_saved`: before the first save nothing is saved.
 pub fn persistence()
     ensures grows { (past : WorldRun) (event : Event) (i : ℕ) → event ≢ Restart i

@@ -2,8 +2,8 @@
 //! what they hold, and what converges. No text is known here.
 //!
 //! A replica asks by `asking` and `have_message`, and answers by `answering` and `lent_answer`. It
-//! takes by `absorbing`: `judging`, `places` and then `joining`. Worlds are `world` over `playing`,
-//! `gathering` and `message`.
+//! takes by `absorbing`: `first_unwelcome`, `free_places` and then `joining`. Worlds are `world`
+//! over `replicas_in_memory`, `grown_closures` and `message`.
 #![tactic(auto)]
 
 mod absorbing;
@@ -13,16 +13,16 @@ mod earlier;
 mod entry;
 mod error;
 mod event;
-mod gathering;
+mod first_unwelcome;
+mod free_places;
 mod give;
+mod grown_closures;
 mod have_message;
 mod joining;
-mod judging;
 pub mod laws;
 mod lent_answer;
 mod message;
-mod places;
-mod playing;
+mod replicas_in_memory;
 mod world;
 
 pub use absorbing::absorb;

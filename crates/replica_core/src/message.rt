@@ -3,8 +3,8 @@ ghost use Rattle.std.specs.Prelude.{◌≡◌, IfOk, map, slice_get, take};
 ghost use Rattle.std.specs.Option.{option_copied, option_map};
 ghost use Rattle.receipt_core.specs.Acceptance.{IsMeaning};
 ghost use Rattle.replica_core.specs.Session.{give_of};
-ghost use Rattle.replica_core.specs.Inside.Playing.{content_of, message_of};
-ghost use Rattle.replica_core.specs.Inside.Playing.{give_in_message, have_in_message};
+ghost use Rattle.replica_core.specs.Inside.ReplicasInMemory.{content_of, message_of};
+ghost use Rattle.replica_core.specs.Inside.ReplicasInMemory.{give_in_message, have_in_message};
 
 use crate::answering::answer;
 use crate::have_message::Have;
@@ -13,7 +13,7 @@ use closure_core::{Closure, Distrusts, NoMemory};
 use receipt_core::{Distrust, Receipt};
 use std::alloc::{AllocError, Global};
 
-/// A message, which stays once it was sent.
+/// A message, which remains once it was sent.
 #[derive(Debug, Drop)]
 pub(crate) enum Message {
     /// What the asker has of a bucket.
@@ -99,7 +99,7 @@ pub(crate) fn give_at(sent: &[Message], place: usize) -> Option<&StoredGive>
     }
 }
 
-/// The first of the items, as many as asked for, or all if there are fewer.
+/// The first of the items, of the number asked for, or all if there are fewer.
 pub(crate) fn first<T>(items: &[T], count: usize) -> &[T]
     ensures { result.now ≡ take count items.now }
 {

@@ -1,11 +1,11 @@
 //! Lists of events, played on replicas in memory, with one arm for each event.
 ghost use Rattle.std.specs.Prelude.{IfOk, OnOk};
 ghost use Rattle.replica_core.specs.World.{rules_of, run, AreOf, MeansState};
-ghost use Rattle.replica_core.specs.Inside.Playing.{StandsForEvent};
+ghost use Rattle.replica_core.specs.Inside.ReplicasInMemory.{MeansEvent};
 
 use crate::event::Event;
-use crate::playing::{
-    Playing, absorb, answer, ask, join, part, restart, revoke, save, start, take,
+use crate::replicas_in_memory::{
+    MemoryReplicas, absorb, answer, ask, join, part, restart, revoke, save, start, take,
 };
 use closure_core::{Closure, NoMemory};
 use fed_config::Config;
@@ -17,7 +17,7 @@ use std::alloc::Global;
 ///
 /// An event that names no replica, or no message of its kind, changes nothing. The same is so of a
 /// receipt or a record that does not fit the configuration, and of a gain by which a replica would
-/// hold more than 65,536 receipts or 4,096 records of distrust. Messages stay: an answer may be
+/// hold more than 65,536 receipts or 4,096 records of distrust. Messages remain: an answer may be
 /// taken late, more than once, in part, or never.
 ///
 /// # Errors
@@ -31,41 +31,41 @@ pub fn run_world<C: Closure>(
     ensures { IfOk result (λ closures. AreOf (MeansState (λ c. (C.state c).meaning) config.now) n
         closures.items (run (rules_of config.now n) events.now).now) }
 {
-    let mut playing: Playing<C> = start(alloc, config, n)?;
+    let mut replicas: MemoryReplicas<C> = start(alloc, config, n)?;
     for event in events {
-        play(alloc, config, &mut playing, event)?;
+        play(alloc, config, &mut replicas, event)?;
     }
-    Ok(playing.held)
+    Ok(replicas.held)
 }
 
 fn play<C: Closure>(
     alloc: Global,
     config: &Config,
-    playing: &mut Playing<C>,
+    replicas: &mut MemoryReplicas<C>,
     event: &Event,
 ) -> Result<(), NoMemory>
-    ensures { OnOk result (StandsForEvent (λ c. (C.state c).meaning) config.now playing.old
-        playing.new event.now) }
+    ensures { OnOk result (MeansEvent (λ c. (C.state c).meaning) config.now replicas.old
+        replicas.new event.now) }
 {
     match event {
-        Event::Take { replica, receipt } => take(alloc, config, playing, *replica, receipt),
-        Event::Revoke { replica, record } => revoke(alloc, config, playing, *replica, record),
-        Event::Ask { replica, bucket } => ask(alloc, playing, *replica, *bucket),
+        Event::Take { replica, receipt } => take(alloc, config, replicas, *replica, receipt),
+        Event::Revoke { replica, record } => revoke(alloc, config, replicas, *replica, record),
+        Event::Ask { replica, bucket } => ask(alloc, replicas, *replica, *bucket),
         Event::Answer {
             replica,
             have: place,
-        } => answer(alloc, playing, *replica, *place),
+        } => answer(alloc, replicas, *replica, *place),
         Event::Absorb {
             replica,
             give: place,
-        } => absorb(alloc, config, playing, *replica, *place),
+        } => absorb(alloc, config, replicas, *replica, *place),
         Event::Part {
             replica,
             give: place,
             count,
-        } => part(alloc, config, playing, *replica, *place, *count),
-        Event::Join { replica, other } => join(alloc, playing, *replica, *other),
-        Event::Save { replica } => save(alloc, playing, *replica),
-        Event::Restart { replica } => restart(alloc, playing, *replica),
+        } => part(alloc, config, replicas, *replica, *place, *count),
+        Event::Join { replica, other } => join(alloc, replicas, *replica, *other),
+        Event::Save { replica } => save(alloc, replicas, *replica),
+        Event::Restart { replica } => restart(alloc, replicas, *replica),
     }
 }

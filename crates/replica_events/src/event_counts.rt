@@ -20,7 +20,7 @@ struct CountedKind {
     event: LogEvent,
     times: u64,
     // When the last line of the kind was written.
-    told: Instant,
+    stated: Instant,
 }
 
 impl EventCounts {
@@ -46,26 +46,26 @@ impl EventCounts {
             let _ = self.kinds.push(CountedKind {
                 event,
                 times: 0,
-                told: now,
+                stated: now,
             });
         }
     }
 
     /// Writes a line for each kind of which some came since the last one, a second after that.
-    pub fn tell<R: Eprint>(&mut self, rt: &R, alloc: Global, now: Instant) {
+    pub fn print_out<R: Eprint>(&mut self, rt: &R, alloc: Global, now: Instant) {
         let second = Duration::from_secs(COUNT_SECONDS);
         for kind in &mut self.kinds {
-            if kind.times > 0 && now.duration_since(kind.told) >= second {
+            if kind.times > 0 && now.duration_since(kind.stated) >= second {
                 log_times(rt, alloc, kind.event, kind.times);
                 kind.times = 0;
-                kind.told = now;
+                kind.stated = now;
             }
         }
-        self.kinds.retain(|kind| kind.times > 0 || now.duration_since(kind.told) < second);
+        self.kinds.retain(|kind| kind.times > 0 || now.duration_since(kind.stated) < second);
     }
 
     /// Writes a line for each kind of which some came since the last one: the replica ends.
-    pub fn tell_all<R: Eprint>(&mut self, rt: &R, alloc: Global) {
+    pub fn print_all<R: Eprint>(&mut self, rt: &R, alloc: Global) {
         for kind in &self.kinds {
             if kind.times > 0 {
                 log_times(rt, alloc, kind.event, kind.times);
@@ -78,7 +78,7 @@ impl EventCounts {
     pub fn time_left(&self, now: Instant) -> Option<Duration> {
         let second = Duration::from_secs(COUNT_SECONDS);
         let due = self.kinds.iter().filter(|kind| kind.times > 0);
-        due.map(|kind| second.saturating_sub(now.duration_since(kind.told)))
+        due.map(|kind| second.saturating_sub(now.duration_since(kind.stated)))
             .min()
     }
 }

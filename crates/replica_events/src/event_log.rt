@@ -1,5 +1,5 @@
 //! Events on standard error: a line for each, pairs of a name and a value in a fixed order. They
-//! have no byte that another side chose. `event_counts` writes one line for several events.
+//! contain no data that a peer supplied. `event_counts` writes one line for several events.
 use change_view::{HeldChange, NewEntries, push_event};
 use peer_talks::Ending;
 use replica_sync::SyncError;
@@ -23,7 +23,7 @@ pub enum LogEvent {
     Local(Duration, Ending),
     /// A connection on which a page was asked for has ended.
     Page(Option<SocketAddr>, Duration, Ending),
-    /// There was no room for a connection, or one gave way to it.
+    /// There was no room for a connection, or one made room for it.
     Refuse,
     /// A connection that came could not be taken.
     Accept,

@@ -35,7 +35,7 @@ byte_more : (feed : Bool) (b : ℕ) (l m : Lines) → Extends l m → Extends (w
 byte_more true b l m h = record { later = h.later; is = ap (λ ls. [] ∷ ls) h.is }
 byte_more false b l m h = before_more b l.whole m.whole l.rest m.rest h.later h.is
 
--- With more bytes behind, whole lines stay, and more may follow.
+-- With more bytes behind, whole lines remain, and more may follow.
 pub lines_extend : (xs ys : List ℕ) → Extends (lines_of xs) (lines_of (xs ++ ys))
 lines_extend [] ys = record { later = (lines_of ys).whole; is = refl }
 lines_extend (b ∷ xs) ys = byte_more (b == 10) b (lines_of xs) (lines_of (xs ++ ys)) (lines_extend xs ys)

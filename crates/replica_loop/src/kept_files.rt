@@ -1,7 +1,7 @@
 //! The files in which a running replica keeps what it holds: the lock, the state and its journal.
 use crate::change_reports::audit_lines;
 use closure_core::Closure;
-use fedbundle::FileFault;
+use command_exits::FileFault;
 use peer_talks::HeldState;
 use progress_line::ProgressMode;
 use replica_connections::ConnectionTable;
@@ -9,7 +9,7 @@ use replica_core::SyncError;
 use replica_events::{LogEvent, log_event};
 use state_files::{
     AppendFault, AppendStep, AuditFile, FoldFault, Journal, KeepStep, Keeping, LostFile, StateLock,
-    begin_anew, fold_state, save_snapshot,
+    begin_again, fold_state, save_snapshot,
 };
 use std::alloc::Global;
 use std::fs::{File, Files};
@@ -43,10 +43,10 @@ pub(crate) struct KeptFiles {
     audit: Option<AuditFile>,
     // Which of the audit file and the state's files is due.
     keeping: Keeping,
-    // Whether a fault came while the journal was emptied: the state file has all that is held, and
-    // no line may be appended before a journal is begun anew.
+    // Whether an error came while the journal was emptied: the state file has all that is held, and
+    // no line may be appended before a journal is begun again.
     is_unsettled: bool,
-    // How often the snapshot was written anew.
+    // How often the snapshot was written again.
     folds: u64,
     progress: ProgressMode,
 }
@@ -69,7 +69,7 @@ impl KeptFiles {
         }
     }
 
-    /// How often the snapshot was written anew.
+    /// How often the snapshot was written again.
     pub(crate) fn folds(&self) -> u64 {
         self.folds
     }
@@ -119,7 +119,7 @@ impl KeptFiles {
         }
     }
 
-    // The lines that the audit file gets for this turn; none where there is no such file.
+    // The lines that the audit file gets for this turn; none if there is no such file.
     fn lines_of<C: Closure>(
         &self,
         alloc: Global,
@@ -163,7 +163,7 @@ impl KeptFiles {
             if held.fresh.is_empty() && !table.has_changes() {
                 return Ok(());
             }
-            return Ok(self.begin_anew(rt, alloc, &held.closure, path)?);
+            return Ok(self.begin_again(rt, alloc, &held.closure, path)?);
         }
         match self.append(rt, held.fresh.as_slice(), table, path) {
             Ok(()) => Ok(()),
@@ -187,9 +187,9 @@ impl KeptFiles {
         self.journal.sync(files, &self.lock, path)
     }
 
-    // A name leads to another file. Where that is the state's, all that is held is written anew;
-    // where it is the journal's, it is written, and the replica ends; and where it is the lock's,
-    // another command may have the state, so nothing is written.
+    // A name leads to another file. If that is the state's, all that is held is written again; if
+    // it is the journal's, it is written, and the replica ends; and if it is the lock's, another
+    // command may have the state, so nothing is written.
     fn mend<C: Closure, R: Files<File = File> + Clock + Eprint>(
         &mut self,
         rt: &R,
@@ -207,25 +207,25 @@ impl KeptFiles {
                 }
                 Err(lost.fault())
             }
-            LostFile::State => self.begin_anew(rt, alloc, closure, path),
+            LostFile::State => self.begin_again(rt, alloc, closure, path),
         }
     }
 
-    fn begin_anew<C: Closure, R: Files<File = File> + Clock + Eprint>(
+    fn begin_again<C: Closure, R: Files<File = File> + Clock + Eprint>(
         &mut self,
         rt: &R,
         alloc: Global,
         closure: &C,
         path: &str,
     ) -> Result<(), FileFault> {
-        self.journal = begin_anew(rt, alloc, closure, path, self.progress)?;
+        self.journal = begin_again(rt, alloc, closure, path, self.progress)?;
         self.is_unsettled = false;
         self.note_fold(rt, alloc);
         Ok(())
     }
 
-    /// Writes the state file anew where the journal is long. Where that fails, the journal goes on,
-    /// or is begun anew before the next change is acknowledged.
+    /// Writes the state file again if the journal is long. If that fails, the journal is still
+    /// used, or is begun again before the next change is acknowledged.
     pub(crate) fn fold<C: Closure, R: Files<File = File> + Clock + Eprint>(
         &mut self,
         rt: &R,

@@ -1,10 +1,10 @@
-//! The beginning and the end of a replica that stays.
+//! The beginning and the end of a replica that keeps running.
 use crate::kept_files::KeepFault;
 use crate::settings::Settings;
 use crate::turn::{RunningReplica, turn};
 use closure_core::Closure;
+use command_exits::{CommandError, Exit, Step};
 use fed_config::Config;
-use fedbundle::{CommandError, Exit, Step};
 use mio::Events;
 use peer_talks::HeldState;
 use replica_events::{LogEvent, log_event};
@@ -120,7 +120,7 @@ fn run_held<C: Closure, R: Files<File = File> + Net + Clock + Print + Eprint>(
     say_health(rt, alloc, &running, settings);
     print_ready(rt, alloc, &held.closure)?;
     let ended = run_turns(rt, alloc, held, &mut running, &mut events, settings);
-    running.tell_all(rt, alloc);
+    running.print_all(rt, alloc);
     running.remove_sockets(rt, settings);
     ended
 }

@@ -8,8 +8,8 @@ use crate::settings::Settings;
 use crate::turn_counts::TurnCounts;
 use change_view::NewEntries;
 use closure_core::Closure;
+use command_exits::{Exit, Step};
 use fair_turns::Work;
-use fedbundle::{Exit, Step};
 use health_pages::LoopCounts;
 use local_answers::{PageLimits, PageSource};
 use mio::Events;
@@ -32,10 +32,10 @@ use std::net::{Net, SocketAddr};
 use std::thread;
 use std::time::{Clock, Duration, Instant};
 
-/// How long a turn waits at most where nothing comes.
+/// How long a turn waits at most if nothing comes.
 const MAX_WAIT_SECONDS: u64 = 60;
 
-/// How long it waits where the system does not say what is ready.
+/// How long it waits if the system does not say what is ready.
 const PAUSE_MILLIS: u64 = 100;
 
 /// How many connections are accepted at each listener in one turn.
@@ -53,7 +53,7 @@ const NOTHING_NEW: NewEntries = NewEntries {
 /// How long replies may still be sent after the replica was asked to end.
 const LAST_SECONDS: u64 = 1;
 
-/// What a replica works with, beside what it holds.
+/// What a replica works with, in addition to what it holds.
 #[derive(Drop)]
 pub(crate) struct RunningReplica {
     listeners: Listeners,
@@ -89,7 +89,8 @@ impl RunningReplica {
         let began = unix_seconds(rt).unwrap_or(0);
         let begun = beginning.begin_journal(rt, alloc, closure, settings.state);
         let journal = file_at_step(Step::Journal, begun)?;
-        // All that is held is on the disk by now, so a line that stays is of a change that is kept.
+        // All that is held is on the disk by now, so a line that is left is of a change that is
+        // kept.
         let audit = begin_audit(rt, alloc, closure, settings.audit, began)?;
         Ok(RunningReplica {
             listeners,
@@ -107,7 +108,7 @@ impl RunningReplica {
         })
     }
 
-    /// The address where pages are asked for, as the system has chosen it.
+    /// The address at which pages are asked for, as the system has chosen it.
     pub(crate) fn health_address(&self) -> Option<SocketAddr> {
         self.listeners.health_address()
     }
@@ -116,13 +117,13 @@ impl RunningReplica {
     pub(crate) fn wait<R: Clock + Eprint>(&mut self, rt: &R, alloc: Global, events: &mut Events) {
         let wait = self.time_left();
         if let Err(error) = self.listeners.poll.poll(events, Some(wait)) {
-            // A signal came, as where the process was stopped and goes on.
+            // A signal came, as when the process was stopped and continued.
             if error.kind() != ErrorKind::Interrupted {
                 self.events.note(rt, alloc, LogEvent::Poll, self.now);
                 thread::sleep(rt, Duration::from_millis(PAUSE_MILLIS));
             }
         }
-        // Where the clock fails no time has passed.
+        // If the clock fails, no time has passed.
         if let Ok(now) = Instant::now(rt) {
             self.now = now;
         }
@@ -212,7 +213,7 @@ impl RunningReplica {
         }
     }
 
-    // Where there are too many requests of this machine, one of them gives way.
+    // If there are too many requests of this machine, one of them makes room.
     fn local_talk(&mut self, alloc: Global, rights: Rights) -> LocalTalk {
         if self.table.make_local_room(alloc, self.now) {
             LocalTalk::new(alloc, rights)
@@ -297,7 +298,7 @@ impl RunningReplica {
             Ok(stream) => stream,
             Err(_) => return Err(Ending::Fault(SyncError::Io)),
         };
-        // Without it a question may wait for a moment.
+        // Without it a question may wait for a short time.
         let _ = stream.set_nodelay(true);
         let socket = Socket::Tcp(stream);
         let talk = Talk::Pull(talk);
@@ -311,8 +312,8 @@ impl RunningReplica {
         }
     }
 
-    /// Keeps what came on each connection, and answers what takes little. That is shown at once: it
-    /// is what is on the disk, and does not wait for the changes of this turn.
+    /// Keeps what came on each connection, and answers what takes little. That is shown
+    /// immediately: it is what is on the disk, and does not wait for the changes of this turn.
     pub(crate) fn read<C: Closure, R: Clock>(
         &mut self,
         rt: &R,
@@ -326,7 +327,7 @@ impl RunningReplica {
         }
     }
 
-    /// Carries out long requests or changes, where some wait.
+    /// Carries out long requests or changes, if some wait.
     pub(crate) fn go_on<C: Closure, R: Clock>(
         &mut self,
         rt: &R,
@@ -359,7 +360,7 @@ impl RunningReplica {
         }
     }
 
-    /// Puts on the disk what came in this turn. Where that fails, the replies say so.
+    /// Puts on the disk what came in this turn. If that fails, the replies say so.
     pub(crate) fn commit<C: Closure, R: Files<File = File> + Clock + Eprint>(
         &mut self,
         rt: &R,
@@ -406,7 +407,7 @@ impl RunningReplica {
             }
         }
         self.table.remove_ended();
-        self.events.tell(rt, alloc, self.now);
+        self.events.print_out(rt, alloc, self.now);
     }
 
     /// The turn that began when the wait ended is over.
@@ -417,8 +418,8 @@ impl RunningReplica {
     }
 
     /// Reports what was only counted.
-    pub(crate) fn tell_all<R: Eprint>(&mut self, rt: &R, alloc: Global) {
-        self.events.tell_all(rt, alloc);
+    pub(crate) fn print_all<R: Eprint>(&mut self, rt: &R, alloc: Global) {
+        self.events.print_all(rt, alloc);
     }
 
     /// Removes the sockets' files, if they are still those of this replica.
@@ -435,7 +436,7 @@ impl RunningReplica {
     }
 }
 
-// What pages show beside what is held.
+// What pages show in addition to what is held.
 fn page_source<'a>(
     running: RunningStatus<'a>,
     counts: LoopCounts,

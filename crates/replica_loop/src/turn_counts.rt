@@ -5,10 +5,10 @@ use peer_talks::Ending;
 use replica_connections::{ConnectionTable, LiveConnection, Talk};
 use std::time::Duration;
 
-/// What a loop counts, beside what its files and the connections that there are count.
+/// What a loop counts, in addition to what its files and the connections that there are count.
 #[derive(Clone, Copy, Debug)]
 pub(crate) struct TurnCounts {
-    // Of connections that have ended.
+    // The counts of connections that have ended.
     ended: LoopCounts,
 }
 

@@ -3,8 +3,8 @@
 use crate::socket::Socket;
 use crate::socket_path::{FileId, file_id, too_long};
 use crate::step_fault::{at_step, file_at_step};
+use command_exits::{Exit, Step};
 use fair_turns::Arrivals;
-use fedbundle::{Exit, Step};
 use mio::net::{TcpListener, UnixListener, UnixStream};
 use mio::{Interest, Poll, Token};
 use std::fs::{Files, Permissions};
@@ -110,7 +110,7 @@ struct LocalGate<'a> {
 struct Queue {
     // Whether somebody may wait.
     is_filled: bool,
-    // When the next accept is tried, after one failed, or as many came within a span as may.
+    // When the next accept is tried, after one failed, or the most that may come in a span came.
     closed_until: Option<Instant>,
     begun: Instant,
     arrivals: Arrivals,
@@ -172,8 +172,8 @@ impl Listeners {
         health.socket.local_addr().ok()
     }
 
-    /// Removes the sockets' files, unless their paths name something else by now. One that stays is
-    /// replaced by the next replica.
+    /// Removes the sockets' files, unless their paths name something else by now. One that is left
+    /// is replaced by the next replica.
     pub fn remove_sockets<R: Files>(&self, rt: &R, places: &ListenPlaces<'_>) {
         self.local.remove(rt, places.socket);
         if let (Some(read), Some(path)) = (&self.read, places.read_socket) {

@@ -1,5 +1,5 @@
 //! The path of the socket for local requests.
-use fedbundle::FileFault;
+use command_exits::FileFault;
 use replica_sync::SyncError;
 use std::fs::Files;
 use std::os::unix::fs::MetadataExt;

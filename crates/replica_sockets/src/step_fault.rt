@@ -1,5 +1,5 @@
 //! Ends with an error of the system and the step at which it came up.
-use fedbundle::{Exit, FileFault, Step};
+use command_exits::{Exit, FileFault, Step};
 use std::io;
 
 /// What the system gave, or the end with its error at the step.
@@ -10,7 +10,7 @@ pub fn at_step<T: Drop>(step: Step, done: io::Result<T>) -> Result<T, Exit> {
     }
 }
 
-/// The same of a call on the state's files.
+/// The same for a call on the state's files.
 pub fn file_at_step<T: Drop>(step: Step, done: Result<T, FileFault>) -> Result<T, Exit> {
     match done {
         Ok(value) => Ok(value),

@@ -115,7 +115,7 @@ line_taken start now text new after left part is steps =
       ]
     ]
 
--- The step of the loop: the answer goes on.
+-- The step of the loop: the answer continues.
 pub part_more : (start now new : TakingPlace) → HasTakenPart start now → TakesNextLine now new false → HasTakenPart start new
 part_more start now new part line =
     let takes = line.takes in

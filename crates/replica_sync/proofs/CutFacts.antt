@@ -5,9 +5,9 @@ use Rattle.std.proofs.Common.{length-append, length-take, arith, unwrap_or, is_s
 use Rattle.std.proofs.Math.Seq.{take-append-add}
 use Rattle.std.proofs.lemmas.List.Elements.{All-append, All-take}
 use Rattle.byte_lines.specs.Lines.{HasNoFeed, lines_of, with_line}
-use Rattle.byte_lines.specs.Inside.Ahead.{AtFeed}
+use Rattle.byte_lines.specs.Ahead.{AtFeed}
 use Rattle.byte_lines.proofs.StreamFacts.{lines_of-line, lines_of-rest}
-use Rattle.replica_sync.specs.Pieces.{EndsLine, GoesOn, IsOverlong, PieceRun, piece_run}
+use Rattle.replica_sync.specs.Pieces.{EndsLine, Continues, IsOverlong, PieceRun, piece_run}
 
 -- Bytes that begin with a line, after what was kept, are that line and the bytes behind it.
 pub ended_split : (used : ℕ) (old piece after text : List ℕ) → old ++ take used piece ≡ text ++ (10 ∷ [])
@@ -26,7 +26,7 @@ lines_of-ended run used after text ends =
     ap lines_of (ended_split used run.old run.piece after text ends.parts) ∙ lines_of-line text (drop used run.piece ++ after) ends.plain
 
 -- What is kept within a line is the rest of what came.
-pub lines_of-kept : (run : PieceRun) (new : List ℕ) → GoesOn run new
+pub lines_of-kept : (run : PieceRun) (new : List ℕ) → Continues run new
     → lines_of (run.old ++ run.piece) ≡ record { whole = []; rest = new }
 lines_of-kept run new goes = ap lines_of (sym goes.kept) ∙ lines_of-rest new goes.plain
 

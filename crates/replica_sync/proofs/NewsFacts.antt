@@ -17,7 +17,7 @@ use Rattle.replica_core.specs.declared.entry.Entry.{Entry}
 use Rattle.replica_core.specs.declared.entry.Entry.TheVariants.{Record}
 use Rattle.replica_core.specs.declared.error.SyncError.{SyncError}
 use Rattle.replica_core.proofs.ContainsFacts.{each-from}
-use Rattle.replica_core.proofs.JudgeFacts.{record-welcome, welcome-push, with-records, with_items-push}
+use Rattle.replica_core.proofs.UnwelcomeFacts.{record-welcome, welcome-push, with-records, with_items-push}
 use Rattle.replica_core.proofs.PlaceFacts.{always, with_item-grows}
 use Rattle.replica_core.proofs.RisingListFacts.{rising_append, rising_cons, rising_head, rising_nil, rising_tail}
 use Rattle.replica_texts.specs.Inside.EntrySteps.{TakesEntry}

@@ -1,5 +1,5 @@
--- A session whose answers come in pieces, where nothing else changes what is held: it is one of a
--- pull that reads the joined bytes.
+-- A session whose answers come in pieces, if nothing else changes what is held: it is one of a pull
+-- that reads the joined bytes.
 use Rattle.std.proofs.Common.{◌≡◌, ◌≢◌, ℕ, ◌+◌, ◌<◌, ◌≤◌, inl, inr, List, [], ◌∷◌, ◌++◌, length, take}
 use Rattle.std.proofs.Common.{Option, None, Some, Ok, Err, refl, sym, ap, ◌∙◌, subst, append_assoc, append-nil, length-append, true, arith}
 use Rattle.std.specs.List.{flat_map}
@@ -27,7 +27,7 @@ use Rattle.replica_sync.proofs.PullingFacts.{gives_more, haves_more, longer_with
 use Rattle.replica_sync.proofs.TakingFacts.{wants}
 use Rattle.replica_sync.specs.PulledPieces.{AreAlone, ArePulledGives, PulledGive, PulledGives, PulledPiece, TakesInTurn}
 use Rattle.replica_sync.specs.PulledPieces.{bytes_pulled, gives_of, haves_asked, haves_pulled, held_at_end, lines_pulled, pieces_of, receipts_pulled}
-use Rattle.replica_sync.specs.PullSessions.{GoesOnPulling, HasLinesOf, HasPulledAll, PullsPieces, StopsAnswer, StopsAsking, StopsInGive}
+use Rattle.replica_sync.specs.PullSessions.{ContinuesPulling, HasLinesOf, HasPulledAll, PullsPieces, StopsAnswer, StopsAsking, StopsInGive}
 use Rattle.replica_sync.specs.declared.answer_lines.AnswerLines.{AnswerLines}
 use Rattle.replica_sync.proofs.PullStepFacts.{next_line}
 
@@ -136,7 +136,7 @@ of_config config m own = λ i. record { config = own i; held = m.held; records =
 
 -- ---- whole answers
 
--- What whole answers bring and ask where nothing else changes what is held.
+-- What whole answers bring and ask if nothing else changes what is held.
 pub record GivesAlone (config : Configuration) (bucket : ℕ) (m : Meaning) (gives : List PulledGive) (after : Meaning) : Type 0 where
   pub each : AreGives config bucket (gives_of gives)
   pub text : bytes_pulled (flat_map pieces_of gives) ≡ flat_map give_text (gives_of gives)
@@ -242,7 +242,7 @@ all_pulled lines start came held written all alone =
       asked = all.asked ∙ ap (flat_map have_text) there.whole.haves;
     }
 
--- What the other lines of a stream are, where the next answer has so much.
+-- What the other lines of a stream are, if the next answer has this much.
 cut_cause : (lines : AnswerLines) (config : Configuration) (state : State) (before : ℕ) (later : List PulledPiece) (rest : List ℕ)
     → (lines.is_begun ≡ true → 0 < lines.due.receipts + lines.due.records) → HasNoFeed rest
     → (some : HasLinesOf config lines before later rest)
@@ -266,7 +266,7 @@ cut_cause lines config state before later rest due plain some =
 -- The stream ends before all came.
 pub cut_pulled : (answered : ℕ) (lines : AnswerLines) (start : Meaning) (came : List PulledPiece) (held : Meaning) (rest written : List ℕ)
     → (lines.is_begun ≡ true → 0 < lines.due.receipts + lines.due.records) → HasNoFeed rest
-    → GoesOnPulling None answered lines start came rest written → AreAlone start came held
+    → ContinuesPulling None answered lines start came rest written → AreAlone start came held
     → PullsUpTo (known_run (bytes_pulled came) written) start held Truncated × HasGained start held (receipts_pulled came)
 cut_pulled answered lines start came held rest written due plain on alone =
     let there = alone_there start came on.gives on.later held on.whole alone in
@@ -305,7 +305,7 @@ cut_pulled answered lines start came held rest written due plain on alone =
       )
     ]
 
--- The fault of an answer, where the meaning is what was held before it with what was taken of it.
+-- The error of an answer, if the meaning is what was held before it with what was taken of it.
 cause_there : (m : Meaning) (config : Configuration) (state : State) (bucket first : ℕ) (content : State) (stream : Option (List ℕ)) (e : SyncError)
     → m ≡ meaning_of_state config (joined state content) → StopsAnswer m bucket first content stream e
     → RefusesGiveAbout config state bucket first content stream e
@@ -322,11 +322,11 @@ cause_there m config state bucket first content stream e is stops =
       })
     ]
 
--- the bytes of the pieces after a fault, and those that may still come
+-- the bytes of the pieces after an error, and those that may still come
 abbrev tail_of : List PulledPiece → List ℕ → List ℕ
 tail_of later more = bytes_pulled later ++ more
 
--- Where a line is not taken, the session ends there as soon as a line feed comes.
+-- If a line is not taken, the session ends there as soon as a line feed comes.
 pub stopped_pulled : (start : Meaning) (came : List PulledPiece) (held : Meaning) (written : List ℕ) (e : SyncError) (more after : List ℕ)
     → StopsInGive None start came written e → AreAlone start came held
     → PullsUpTo (known_run (bytes_pulled came ++ (more ++ (10 ∷ after))) written) start held e × HasGained start held (receipts_pulled came)
@@ -374,7 +374,7 @@ texts_begin first second =
     ∙ take-append-le (length text) text (flat_map have_text second) (omega arith)
     ∙ take_all (length text) text (omega arith)
 
--- Where memory ran out for a have, the session ends before it.
+-- If memory ran out for a have, the session ends before it.
 pub unasked_pulled : (start : Meaning) (came : List PulledPiece) (held : Meaning) (written : List ℕ) (e : SyncError) (more after : List ℕ)
     → StopsAsking None start came written e → AreAlone start came held
     → PullsUpTo (known_run (bytes_pulled came ++ (more ++ (10 ∷ after))) written) start held e × HasGained start held (receipts_pulled came)
@@ -440,7 +440,7 @@ unasked_pulled start came held written e more after stops alone =
 
 -- ---- the machine
 
--- What a session that came to its end did.
+-- What a session that reached its end did.
 pub over_pulls : (f : Option SyncError) (answered : ℕ) (lines : AnswerLines) (m held : Meaning) (came : List PulledPiece) (rest written due : List ℕ)
     (count : ℕ) → f ≡ None → lines.bucket ≡ 256 → due ≡ [] → count ≡ receipts_pulled came
     → PullsPieces None f answered lines m came rest (written ++ due) → AreAlone m came held
@@ -461,13 +461,13 @@ pub cut_pulls : (f : Option SyncError) (answered : ℕ) (lines : AnswerLines) (m
     → PullsPieces None f answered lines m came rest (written ++ due) → AreAlone m came held
     → Pulls (known_run (bytes_pulled came) written) m held (Err (record { why = Truncated; taken = count }))
 cut_pulls None answered lines m held came rest written due count sound more idle taken some plain (inl on) alone =
-    let there = subst (GoesOnPulling None answered lines m came rest) (ap (λ (l : List ℕ). written ++ l) idle ∙ append-nil written) on in
+    let there = subst (ContinuesPulling None answered lines m came rest) (ap (λ (l : List ℕ). written ++ l) idle ∙ append-nil written) on in
     let cut = cut_pulled answered lines m came held rest written some plain there alone in
     (cut.0, subst (HasGained m held) (sym taken) cut.1)
 cut_pulls None answered lines m held came rest written due count sound more idle taken some plain (inr all) alone = absurd (more all.bucket)
 cut_pulls (Some e) answered lines m held came rest written due count sound more idle taken some plain pulls alone = absurd (cc)
 
--- What a session did that a fault ended.
+-- What a session did that an error ended.
 pub stopped_pulls : (f : Option SyncError) (answered : ℕ) (lines : AnswerLines) (m held : Meaning) (came : List PulledPiece)
     (rest written due more after : List ℕ) (count : ℕ) (e : SyncError) → f ≡ Some e → (f ≢ None → due ≡ []) → count ≡ receipts_pulled came
     → PullsPieces None f answered lines m came rest (written ++ due) → AreAlone m came held

@@ -9,7 +9,7 @@ use Rattle.receipt_core.specs.Acceptance.{Meaning}
 use Rattle.replica_core.specs.Absorbing.{with_entries, with_entry}
 use Rattle.replica_core.specs.declared.entry.Entry.{Entry}
 use Rattle.replica_core.specs.declared.entry.Entry.TheVariants.{Record, Receipt as AReceipt}
-use Rattle.replica_core.proofs.JudgeFacts.{all-push}
+use Rattle.replica_core.proofs.UnwelcomeFacts.{all-push}
 use Rattle.replica_texts.specs.SoleLines.{IsWellFormed}
 use Rattle.replica_journal.specs.Journal.{entry_text}
 use Rattle.replica_sync.specs.PulledPieces.{AreAlone, AreNewInTurn, Journals, JournalsAll, JournalsEntry, PulledPiece}
@@ -103,7 +103,7 @@ pulls_more p then q old mid bytes c all at same one = record {
 
 -- ---- the bytes
 
--- So many bytes, and so many of those after them.
+-- The first n bytes, and the first k of those after them.
 pub take_both : (n k : ℕ) (piece : List ℕ) → n ≤ length piece → take n piece ++ take k (drop n piece) ≡ take (n + k) piece
 take_both zero k piece few = let on : k ≡ zero + k = omega arith in ap (λ (m : ℕ). take m piece) on
 take_both (suc n) k [] few = absurd (omega (arith, few))
@@ -120,7 +120,7 @@ why_none : (p : Pulling) → TakesNoMore [] p → (0 < length (due_have p)) ⊎ 
 why_none p (inl feed) = absurd (no_feed feed)
 why_none p (inr rest) = rest
 
--- Where the last call took nothing, or came to the end, no more is taken.
+-- If the last call took nothing, or reached the end, no more is taken.
 pub takes_all : (piece : List ℕ) (p : Pulling) (used more : ℕ) → used ≤ length piece → TakesBytes (drop used piece) p more
     → (more ≡ 0) ⊎ (used + more ≡ length piece) → TakesLines piece p (used + more)
 takes_all piece p used more few took (inr all) = record {
@@ -143,7 +143,7 @@ config_then old mid before then all = ap (λ (m : Meaning). m.config) all.meanin
 abbrev pub rest_of : List ℕ → ℕ → List ℕ
 rest_of piece used = take (length piece - used) (drop used piece)
 
--- What a call does that ends with a fault.
+-- What a call does that ends with an error.
 pub pulls_stop : (p then q : Pulling) (old mid new : Meaning) (piece : List ℕ) (used : ℕ) → Lines p old (take used piece) then mid
     → mid.config ≡ old.config → PullsPiece then (record { bytes = rest_of piece used; old = mid; new = new }) q
     → Lines p old piece q new

@@ -26,10 +26,10 @@ use Rattle.replica_sync.proofs.TakingFacts.{wants}
 use Rattle.replica_sync.specs.Pieces.{EndsLine, piece_run}
 use Rattle.replica_sync.specs.Plans.{answered_of, bucket_at, asked_count, plan_of}
 use Rattle.replica_sync.specs.PulledPieces.{IsPulledGive, PulledGive, PulledGives, PulledPiece, bytes_pulled, lines_pulled, receipts_pulled}
-use Rattle.replica_sync.specs.PullSessions.{GoesOnPulling, HasLinesOf, HasNoLineOf, HasPartOf, PullsPieces, StopsAnswer}
+use Rattle.replica_sync.specs.PullSessions.{ContinuesPulling, HasLinesOf, HasNoLineOf, HasPartOf, PullsPieces, StopsAnswer}
 use Rattle.replica_sync.specs.PullSessions.{EndsInFeed, StopsAsking, StopsInGive, refused_where}
 use Rattle.replica_sync.specs.Inside.AnswerSteps.{HasNoLines, HasSameCountsBut}
-use Rattle.replica_sync.specs.Inside.AnswerSteps.{Asks, EndsAnswer, FailsPulled, GoesOnAfter, IsNextAt, LineLeft, PassesOn, PullState, RefusesAnswerLine}
+use Rattle.replica_sync.specs.Inside.AnswerSteps.{Asks, EndsAnswer, FailsPulled, ContinuesAfter, IsNextAt, LineLeft, PassesOn, PullState, RefusesAnswerLine}
 use Rattle.replica_sync.specs.Inside.AnswerSteps.{RefusesAsking, RefusesEnded, RefusesLong, RefusesPulled, StaysWithin, TakesAnswerLine, TakesPulled, WaitsOn}
 use Rattle.replica_sync.specs.Inside.NextLines.{IsNextOf, RefusesHere}
 use Rattle.replica_sync.specs.declared.answer_lines.AnswerLines.{AnswerLines}
@@ -44,7 +44,7 @@ use Rattle.replica_sync.proofs.PulledPieceFacts.{part_within, pulled_more, recei
 none_more : (later : List PulledPiece) (c : PulledPiece) → c.bytes ≡ [] → bytes_pulled later ≡ [] → bytes_pulled (later ++ c ∷ []) ≡ []
 none_more later c none before = bytes_more later c ∙ ap (λ (l : List ℕ). l ++ c.bytes) before ∙ none
 
--- Where nothing is taken, the session is where it was.
+-- If nothing is taken, the session is as it was.
 pub pulled_nothing : (plan : Option (List ℕ)) (f : Option SyncError) (answered : ℕ) (lines : AnswerLines) (start : Meaning) (came : List PulledPiece)
     (rest output : List ℕ) (c : PulledPiece)
     → f ≡ None → c.bytes ≡ [] → c.new ≡ c.old → PullsPieces plan f answered lines start came rest output
@@ -73,7 +73,7 @@ pulled_nothing plan None answered lines start came rest output c sound none quie
 })
 pulled_nothing plan (Some e) answered lines start came rest output c sound none quiet pulls = absurd (cc)
 
--- After a fault nothing is taken, whatever comes.
+-- After an error nothing is taken, whatever comes.
 pub pulled_still : (plan : Option (List ℕ)) (f : Option SyncError) (why : SyncError) (answered : ℕ) (lines : AnswerLines) (start : Meaning)
     (came : List PulledPiece) (rest output : List ℕ) (c : PulledPiece) → f ≡ Some why → c.new ≡ c.old → PullsPieces plan f answered lines start came rest output
     → PullsPieces plan f answered lines start (came ++ c ∷ []) rest output
@@ -118,13 +118,13 @@ piece_at bytes old new = record { bytes = bytes; old = old.held; new = new.held 
 
 -- No line ended.
 stays : (plan : Option (List ℕ)) (start : Meaning) (came : List PulledPiece) (old new : PullState) (piece : List ℕ) (used : ℕ) (due output : List ℕ)
-    → StaysWithin old piece used new due → GoesOnPulling plan (answered_of old.asked) old.lines start came old.kept output
-    → GoesOnPulling plan (answered_of new.asked) new.lines start (came ++ piece_at (take used piece) old new ∷ []) new.kept output
+    → StaysWithin old piece used new due → ContinuesPulling plan (answered_of old.asked) old.lines start came old.kept output
+    → ContinuesPulling plan (answered_of new.asked) new.lines start (came ++ piece_at (take used piece) old new ∷ []) new.kept output
 stays plan start came old new piece used due output within on =
     let c = piece_at (take used piece) old new in
     let all : take used piece ≡ piece = ap (λ (n : ℕ). take n piece) within.all ∙ take_all (length piece) piece (omega arith) in
     let kept : old.kept ++ take used piece ≡ new.kept = ap (λ (l : List ℕ). old.kept ++ l) all ∙ sym within.goes.kept in
-    subst (λ (lines : AnswerLines). GoesOnPulling plan (answered_of new.asked) lines start (came ++ c ∷ []) new.kept output) (sym within.lines) (record {
+    subst (λ (lines : AnswerLines). ContinuesPulling plan (answered_of new.asked) lines start (came ++ c ∷ []) new.kept output) (sym within.lines) (record {
       gives = on.gives;
       later = on.later ++ c ∷ [];
       whole = pulled_more plan start came on.gives on.later c on.whole;
@@ -201,12 +201,12 @@ ends_give plan start came gives later c output lines new left bucket whole some 
 some_taken : (used : ℕ) (piece : List ℕ) → 0 < used → used ≤ length piece → 0 < length (take used piece)
 some_taken used piece some within = let size = length-take used piece in omega (arith, some, within, size)
 
--- A line ended, and its answer goes on.
+-- A line ended, and its answer continues.
 line_waits : (plan : Option (List ℕ)) (start : Meaning) (came : List PulledPiece) (old new : PullState) (piece : List ℕ) (used : ℕ) (text output : List ℕ)
     → old.held.config ≡ start.config → EndsLine (piece_run line_limit old.kept piece) used text → new.kept ≡ []
     → TakesAnswerLine old.held old.lines text new.held new.lines false → new.asked ≡ old.asked
-    → GoesOnPulling plan (answered_of old.asked) old.lines start came old.kept output
-    → GoesOnPulling plan (answered_of new.asked) new.lines start (came ++ piece_at (take used piece) old new ∷ []) new.kept output
+    → ContinuesPulling plan (answered_of old.asked) old.lines start came old.kept output
+    → ContinuesPulling plan (answered_of new.asked) new.lines start (came ++ piece_at (take used piece) old new ∷ []) new.kept output
 line_waits plan start came old new piece used text output own ends kept takes asked on =
     let c = piece_at (take used piece) old new in
     let left = takes.left in
@@ -231,7 +231,7 @@ line_waits plan start came old new piece used text output own ends kept takes as
 line_ends : (plan : Option (List ℕ)) (start : Meaning) (came : List PulledPiece) (old new : PullState) (lines : AnswerLines) (piece : List ℕ) (used : ℕ)
     (text output : List ℕ) → old.held.config ≡ start.config → EndsLine (piece_run line_limit old.kept piece) used text
     → TakesAnswerLine old.held old.lines text new.held lines true
-    → (on : GoesOnPulling plan (answered_of old.asked) old.lines start came old.kept output)
+    → (on : ContinuesPulling plan (answered_of old.asked) old.lines start came old.kept output)
     → EndsGive plan start (came ++ piece_at (take used piece) old new ∷ []) on.gives output old.lines lines (piece_at (take used piece) old new)
 line_ends plan start came old new lines piece used text output own ends takes on =
     let c = piece_at (take used piece) old new in
@@ -248,7 +248,7 @@ record NextPlace (plan : Option (List ℕ)) (gives : List PulledGive) (new : Pul
 
 -- After an answer one more is counted.
 one_more_place : (plan : Option (List ℕ)) (start : Meaning) (came : List PulledPiece) (old new : PullState) (lines : AnswerLines) (output : List ℕ)
-    → plan_of old.asked ≡ plan → (on : GoesOnPulling plan (answered_of old.asked) old.lines start came old.kept output) → PassesOn old lines new
+    → plan_of old.asked ≡ plan → (on : ContinuesPulling plan (answered_of old.asked) old.lines start came old.kept output) → PassesOn old lines new
     → answered_of new.asked ≡ length on.gives + 1
 one_more_place plan start came old new lines output is_plan on passes =
     let few : answered_of old.asked < asked_count (plan_of old.asked) =
@@ -264,7 +264,7 @@ plan_next plan old lines new place is_plan at passes =
     (subst (λ (p : Option (List ℕ)). IsNextAt p (answered_of new.asked) new.lines) (passes.plan ∙ is_plan) passes.next)
 
 next_place : (plan : Option (List ℕ)) (start : Meaning) (came : List PulledPiece) (old new : PullState) (lines : AnswerLines) (output : List ℕ)
-    → plan_of old.asked ≡ plan → (on : GoesOnPulling plan (answered_of old.asked) old.lines start came old.kept output) → PassesOn old lines new
+    → plan_of old.asked ≡ plan → (on : ContinuesPulling plan (answered_of old.asked) old.lines start came old.kept output) → PassesOn old lines new
     → new.lines.bucket < 256 → NextPlace plan on.gives new
 next_place plan start came old new lines output is_plan on passes below =
     let at = one_more_place plan start came old new lines output is_plan on passes in
@@ -274,7 +274,7 @@ next_place plan start came old new lines output is_plan on passes below =
     ]
 
 past_last : (plan : Option (List ℕ)) (start : Meaning) (came : List PulledPiece) (old new : PullState) (lines : AnswerLines) (output : List ℕ)
-    → plan_of old.asked ≡ plan → (on : GoesOnPulling plan (answered_of old.asked) old.lines start came old.kept output) → PassesOn old lines new
+    → plan_of old.asked ≡ plan → (on : ContinuesPulling plan (answered_of old.asked) old.lines start came old.kept output) → PassesOn old lines new
     → new.lines.bucket ≡ 256 → asked_count plan ≤ length on.gives + 1
 past_last plan start came old new lines output is_plan on passes none =
     let at = one_more_place plan start came old new lines output is_plan on passes in
@@ -285,7 +285,7 @@ past_last plan start came old new lines output is_plan on passes none =
 
 -- After an answer the next one is asked for, or all came.
 asks_next : (plan : Option (List ℕ)) (start : Meaning) (came : List PulledPiece) (old new : PullState) (lines : AnswerLines) (piece : List ℕ) (used : ℕ)
-    (due output : List ℕ) → plan_of old.asked ≡ plan → (on : GoesOnPulling plan (answered_of old.asked) old.lines start came old.kept output)
+    (due output : List ℕ) → plan_of old.asked ≡ plan → (on : ContinuesPulling plan (answered_of old.asked) old.lines start came old.kept output)
     → new.kept ≡ []
     → EndsGive plan start (came ++ piece_at (take used piece) old new ∷ []) on.gives output old.lines lines (piece_at (take used piece) old new)
     → PassesOn old lines new → Asks new.held new.lines true due
@@ -334,40 +334,40 @@ asks_next plan start came old new lines piece used due output is_plan on kept on
 line_pulled : (plan : Option (List ℕ)) (start : Meaning) (came : List PulledPiece) (old new : PullState) (lines : AnswerLines) (piece : List ℕ)
     (used : ℕ) (text due output : List ℕ) (whole : Bool) → plan_of old.asked ≡ plan → old.held.config ≡ start.config
     → EndsLine (piece_run line_limit old.kept piece) used text → new.kept ≡ []
-    → TakesAnswerLine old.held old.lines text new.held lines whole → GoesOnAfter whole old lines new → Asks new.held new.lines whole due
-    → GoesOnPulling plan (answered_of old.asked) old.lines start came old.kept output
+    → TakesAnswerLine old.held old.lines text new.held lines whole → ContinuesAfter whole old lines new → Asks new.held new.lines whole due
+    → ContinuesPulling plan (answered_of old.asked) old.lines start came old.kept output
     → PullsPieces plan None (answered_of new.asked) new.lines start (came ++ piece_at (take used piece) old new ∷ []) new.kept (output ++ due)
 line_pulled plan start came old new lines piece used text due output false is_plan own ends kept takes passes asks on =
     let c = piece_at (take used piece) old new in
     let same : output ≡ output ++ due = sym (append-nil output) ∙ ap (λ (l : List ℕ). output ++ l) (sym asks) in
     let there = subst (λ (ls : AnswerLines). TakesAnswerLine old.held old.lines text new.held ls false) (sym passes.0) takes in
-    inl (subst (GoesOnPulling plan (answered_of new.asked) new.lines start (came ++ c ∷ []) new.kept) same
+    inl (subst (ContinuesPulling plan (answered_of new.asked) new.lines start (came ++ c ∷ []) new.kept) same
     (line_waits plan start came old new piece used text output own ends kept there passes.1 on))
 line_pulled plan start came old new lines piece used text due output true is_plan own ends kept takes passes asks on =
     asks_next plan start came old new lines piece used due output is_plan on kept
     (line_ends plan start came old new lines piece used text output own ends takes on) passes asks
 
--- A piece is taken by a session that goes on.
+-- A piece is taken by a session that continues.
 pub pulled_piece : (plan : Option (List ℕ)) (start : Meaning) (came : List PulledPiece) (old new : PullState) (piece : List ℕ) (used : ℕ)
     (due output : List ℕ) → plan_of old.asked ≡ plan → old.held.config ≡ start.config → TakesPulled old piece used new due
-    → GoesOnPulling plan (answered_of old.asked) old.lines start came old.kept output
+    → ContinuesPulling plan (answered_of old.asked) old.lines start came old.kept output
     → PullsPieces plan None (answered_of new.asked) new.lines start (came ++ piece_at (take used piece) old new ∷ []) new.kept (output ++ due)
 pulled_piece plan start came old new piece used due output is_plan own (inl within) on =
     let c = piece_at (take used piece) old new in
     let same : output ≡ output ++ due = sym (append-nil output) ∙ ap (λ (l : List ℕ). output ++ l) (sym within.none) in
-    inl (subst (GoesOnPulling plan (answered_of new.asked) new.lines start (came ++ c ∷ []) new.kept) same
+    inl (subst (ContinuesPulling plan (answered_of new.asked) new.lines start (came ++ c ∷ []) new.kept) same
     (stays plan start came old new piece used due output within on))
 pulled_piece plan start came old new piece used due output is_plan own (inr line) on =
     line_pulled plan start came old new line.lines piece used line.text due output line.whole is_plan own line.ends line.kept line.takes line.passes
     line.asks on
 
--- ---- a fault
+-- ---- an error
 
 -- what a session wants of an answer
 abbrev pub wish_of : Meaning → ℕ → Option Expected
 wish_of m bucket = Some (record { config = m.config; bucket = bucket })
 
--- A fault of the first line is why the answer is not read.
+-- An error of the first line is why the answer is not read.
 pub first_fault : (m : Meaning) (bucket : ℕ) (stream after : Option (List ℕ)) (text : List ℕ) (e : SyncError) → HasLine stream after text
     → length text ≤ line_limit → RefusesGiveLine (wish_of m bucket) text e → RefusesHead (wish_of m bucket) stream after e
 first_fault m bucket stream after text BadHeader is short why = record { text = text; is = is; cause = inr (short, why) }
@@ -385,7 +385,7 @@ first_fault m bucket stream after text NoMemory is short why = tt
 abbrev pub RefusesAt : Meaning → ℕ → State → Wanted → List ℕ → SyncError → Type 0
 RefusesAt m first content wanted text e = refused_where m first content wanted (last_of (content_lines content)) text e
 
--- A fault of a later line is why the answer is not read further.
+-- An error of a later line is why the answer is not read further.
 later_fault : (m : Meaning) (first count distrusts : ℕ) (content : State) (wanted : Wanted) (further after : Option (List ℕ)) (text : List ℕ) (e : SyncError)
     → Wants count distrusts content wanted → HasLine further after text → RefusesAt m first content wanted text e
     → RefusesNextEntry (refused_where m first content) count distrusts content further after e
@@ -403,7 +403,7 @@ later_fault m first count distrusts content wanted further after text (Refused n
 later_fault m first count distrusts content wanted further after text Io w is h = absurd h
 later_fault m first count distrusts content wanted further after text NoMemory w is h = tt
 
--- The same where memory may have run out besides.
+-- The same if memory may also have run out.
 pub here_fault : (m : Meaning) (first count distrusts : ℕ) (content : State) (wanted : Wanted) (further after : Option (List ℕ)) (last text : List ℕ)
     (number : ℕ) (e : SyncError) → Wants count distrusts content wanted → HasLine further after text → last ≡ last_of (content_lines content)
     → number ≡ next_entry_number first content → RefusesHere wanted m last number text e
@@ -415,7 +415,7 @@ here_fault m first count distrusts content wanted further after last text number
     (subst (λ (k : List ℕ). RefusesEntryLine m (placed_line wanted k (next_entry_number first content) text) e) l
     (subst (λ (k : ℕ). RefusesEntryLine m (placed_line wanted last k text) e) n why))
 
--- which line comes next, where this many are still to come
+-- which line comes next, if this many are still to come
 pub record NextLine (receipts records : ℕ) : Type 0 where
   pub wanted : Wanted
   pub receipts_then : ℕ
@@ -567,7 +567,7 @@ some_stops old config before later piece more after e own due some (inr (inr end
 -- A line is not taken.
 refused_piece : (plan : Option (List ℕ)) (start : Meaning) (came : List PulledPiece) (old new : PullState) (piece output : List ℕ) (e : SyncError)
     → old.held.config ≡ start.config → (old.lines.is_begun ≡ true → 0 < old.lines.due.receipts + old.lines.due.records)
-    → RefusesPulled old piece new e → GoesOnPulling plan (answered_of old.asked) old.lines start came old.kept output
+    → RefusesPulled old piece new e → ContinuesPulling plan (answered_of old.asked) old.lines start came old.kept output
     → StopsInGive plan start (came ++ piece_at piece old new ∷ []) output e
 refused_piece plan start came old new piece output e own due refused on =
     let c = piece_at piece old new in
@@ -607,7 +607,7 @@ refused_piece plan start came old new piece output e own due refused on =
 -- An answer is taken whole, and the next have is not made.
 refused_asking : (plan : Option (List ℕ)) (start : Meaning) (came : List PulledPiece) (old new : PullState) (piece output : List ℕ) (e : SyncError)
     → plan_of old.asked ≡ plan → old.held.config ≡ start.config → RefusesAsking old piece new e
-    → GoesOnPulling plan (answered_of old.asked) old.lines start came old.kept output
+    → ContinuesPulling plan (answered_of old.asked) old.lines start came old.kept output
     → StopsAsking plan start (came ++ piece_at piece old new ∷ []) output e
 refused_asking plan start came old new piece output e is_plan own refused on =
     let c = piece_at piece old new in
@@ -638,10 +638,10 @@ refused_asking plan start came old new piece output e is_plan own refused on =
       asked = on.asked;
     }
 
--- A fault ends the session.
+-- An error ends the session.
 pub pulled_stops : (plan : Option (List ℕ)) (start : Meaning) (came : List PulledPiece) (old new : PullState) (piece rest output : List ℕ) (e : SyncError)
     → plan_of old.asked ≡ plan → old.held.config ≡ start.config → (old.lines.is_begun ≡ true → 0 < old.lines.due.receipts + old.lines.due.records)
-    → FailsPulled old piece new e → GoesOnPulling plan (answered_of old.asked) old.lines start came old.kept output
+    → FailsPulled old piece new e → ContinuesPulling plan (answered_of old.asked) old.lines start came old.kept output
     → PullsPieces plan (Some e) (answered_of new.asked) new.lines start (came ++ piece_at piece old new ∷ []) rest output
 pulled_stops plan start came old new piece rest output e is_plan own due (inl refused) on =
     inl (refused_piece plan start came old new piece output e own due refused on)
@@ -675,7 +675,7 @@ wrote_have plan f answered lines start came rest written due later count is pull
     (ap (λ (l : List ℕ). written ++ l) (sym (take-append-drop count due)) ∙ sym (append_assoc written (take count due) (drop count due))
     ∙ ap (λ (l : List ℕ). (written ++ take count due) ++ l) (sym is)) pulls
 
--- Of nothing nothing is left.
+-- Nothing is left of nothing.
 drop_none : (count : ℕ) → drop {A = ℕ} count [] ≡ []
 drop_none zero = refl
 drop_none (suc count) = refl
@@ -693,13 +693,13 @@ pub read_took : (plan : Option (List ℕ)) (f g : Option SyncError) (start : Mea
     → PullsPieces plan g (answered_of new.asked) new.lines start (came ++ piece_at (take used piece) old new ∷ []) new.kept (written ++ later)
 read_took plan None None start came old new piece used due later written is_plan sound same idle more own takes (inl on) =
     pulled_piece plan start came old new piece used later written is_plan own takes
-    (subst (GoesOnPulling plan (answered_of old.asked) old.lines start came old.kept) (ap (λ (l : List ℕ). written ++ l) idle ∙ append-nil written) on)
+    (subst (ContinuesPulling plan (answered_of old.asked) old.lines start came old.kept) (ap (λ (l : List ℕ). written ++ l) idle ∙ append-nil written) on)
 read_took plan None None start came old new piece used due later written is_plan sound same idle more own takes (inr all) =
     absurd (let bucket = all.bucket in omega (arith, bucket, more))
 read_took plan None (Some e) start came old new piece used due later written is_plan sound same idle more own takes pulls = absurd (cc)
 read_took plan (Some e) g start came old new piece used due later written is_plan sound same idle more own takes pulls = absurd (cc)
 
--- A call that returns a fault keeps it.
+-- A call that returns an error keeps it.
 pub read_stopped : (plan : Option (List ℕ)) (f : Option SyncError) (e : SyncError) (start : Meaning) (came : List PulledPiece) (old new : PullState)
     (piece rest due later written : List ℕ) → plan_of old.asked ≡ plan → f ≡ None → due ≡ [] → later ≡ [] → old.lines.bucket < 256
     → old.held.config ≡ start.config → (old.lines.is_begun ≡ true → 0 < old.lines.due.receipts + old.lines.due.records) → FailsPulled old piece new e
@@ -709,7 +709,7 @@ read_stopped plan None e start came old new piece rest due later written is_plan
     subst (PullsPieces plan (Some e) (answered_of new.asked) new.lines start (came ++ piece_at piece old new ∷ []) rest)
     (sym (append-nil written) ∙ ap (λ (l : List ℕ). written ++ l) (sym quiet))
     (pulled_stops plan start came old new piece rest written e is_plan own some fails
-    (subst (GoesOnPulling plan (answered_of old.asked) old.lines start came old.kept) (ap (λ (l : List ℕ). written ++ l) idle ∙ append-nil written) on))
+    (subst (ContinuesPulling plan (answered_of old.asked) old.lines start came old.kept) (ap (λ (l : List ℕ). written ++ l) idle ∙ append-nil written) on))
 read_stopped plan None e start came old new piece rest due later written is_plan sound idle quiet more own some fails (inr all) =
     absurd (let bucket = all.bucket in omega (arith, bucket, more))
 read_stopped plan (Some d) e start came old new piece rest due later written is_plan sound idle quiet more own some fails pulls = absurd (cc)

@@ -178,7 +178,7 @@ entries_pushed (AReceipt r) content none =
     ap (λ (entries : List Entry). of_records content.records ++ entries) (map-append AReceipt content.held (r ∷ []))
     ∙ sym (append_assoc (of_records content.records) (of_receipts content.held) (AReceipt r ∷ []))
 
--- So much of an answer came in these bytes, the last of which ended a line; this is still to come.
+-- This much of an answer came in these bytes, which end a line; `left` is still to come.
 pub record LinesCame (config : Configuration) (bucket before : ℕ) (left : LineLeft) (number : ℕ) (bytes : List ℕ)
     (pieces : List PulledPiece) : Type 0 where
   pub count : ℕ
@@ -274,7 +274,8 @@ line_came config m lines before later rest bytes text new left c own (inr some) 
 abbrev pub give_with : Configuration → ℕ → State → GiveMessage
 give_with config bucket content = record { bucket = bucket; config = config_id_of config; content = content }
 
--- The first line, with the content that it announces, is what an answer with that content says first.
+-- The first line, with the content that it announces, is what an answer with that content says
+-- first.
 header_is : (config : Configuration) (bucket : ℕ) (first : List ℕ) (count distrusts : ℕ) (content : State)
     → (h : Heads (Some (record { config = config; bucket = bucket })) first count distrusts)
     → length content.held ≡ count → length content.records ≡ distrusts → h.header ≡ give_header_of (give_with config bucket content)

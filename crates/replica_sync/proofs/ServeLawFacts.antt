@@ -68,7 +68,7 @@ pieces_text old (c ∷ came) =
     ∙ ap (λ (l : List ℕ). l ++ bytes_came came) (piece_text old c)
     ∙ append_assoc (text_of_held old.lines ++ old.rest) c.bytes (bytes_came came)
 
--- ---- what is held stays
+-- ---- what is held remains
 
 -- when each line ended this was held
 abbrev AreHeldAt : Meaning → List HeldLine → Type 0

@@ -106,7 +106,7 @@ took_piece m came old piece used new due answer written idle (inr ends) answers 
 
 -- ---- what a call does
 
--- If no error is found, there is none.
+-- If no error is found, there is no error.
 pub no_fault : (f : Option SyncError) → ((why : SyncError) → f ≡ Some why → ⊥) → f ≡ None
 no_fault None none = refl
 no_fault (Some why) none = absurd (none why refl)
@@ -138,7 +138,7 @@ pub kept_plain : (ended : Bool) (line : List ℕ) → HasNoFeed line → HasNoFe
 kept_plain true line plain = All-from_recursion (λ b. b ≢ 10) [] tt
 kept_plain false line plain = plain
 
--- An error ends the session: what was answered stays. The search finds this lemma.
+-- An error ends the session: what was answered remains. The search finds this lemma.
 pub served_stops : (f : Option SyncError) (m : Meaning) (came : List Came) (old piece new due later written : List ℕ) (e : SyncError)
     → f ≡ None → due ≡ [] → later ≡ [] → RefusesPiece m old piece e → ServesPieces f came old (written ++ due)
     → ServesPieces (Some e) (came ++ came_at piece m ∷ []) new (written ++ later)

@@ -212,7 +212,7 @@ no-line-fault config state first whole content wanted text NoMemory ample spelt 
 abbrev pub give_texts : List GiveMessage → List ℕ
 give_texts gives = flat_map give_text gives
 
--- The answer with which a stream goes on has no error of its spelling.
+-- The answer with which a stream continues has no error of its spelling.
 no-fault-of-give : (config : Configuration) (state : State) (bucket first : ℕ) (content : State) (r : GiveMessage)
     (left rest : List ℕ) (e : SyncError) → IsGiveAbout config bucket r → left ≡ give_text r ++ rest
     → e ≢ Io → e ≢ NoMemory → IsSpelling e ⊎ HoldsGive config state r.content
@@ -288,7 +288,7 @@ taken-or-not old new now one other e same configured valid held calm ample all p
     all-or-part old new now one other e same calm ample all part
     (inr (record { configured = configured; rising = rising-meaning old valid; valid = subst IsMeaning all.meaning held; at = refl }))
 
--- Two lists of as many answers with which a stream begins are one list.
+-- Two lists of the same number of answers with which a stream begins are one list.
 same-gives : (config : Configuration) (start : ℕ) (gives others : List GiveMessage) (rest left : List ℕ)
     → AreGives config start gives → AreGives config start others → length gives ≡ length others
     → give_texts gives ++ rest ≡ give_texts others ++ left → gives ≡ others
@@ -302,7 +302,7 @@ same-gives config start (r ∷ gives) (o ∷ others) rest left is valid many w =
     let later = same-gives config (start + 1) gives others rest left is.1 valid.1 (omega (arith, many)) same.follows in
     (λ i. same.give i ∷ later i)
 
--- Two lists of as many answers with which a stream begins are one, as streams state it.
+-- Two lists of the same number of answers with which a stream begins are one, as streams state it.
 pub both-gives : (config : Configuration) (bytes : List ℕ) (gives others : List GiveMessage) (rest left : Option (List ℕ))
     → AreGives config 0 gives → AreGives config 0 others → length gives ≡ length others
     → Consumes (Some bytes) rest (give_texts gives) → Consumes (Some bytes) left (give_texts others) → gives ≡ others

@@ -181,7 +181,7 @@ replied-is m k asked replied count haves same asks all =
     (sym asks.text ∙ all.text) in
     all.written ∙ ap (gives_text k) (sym one) ∙ sym (flat_map-map give_text (give_of k) haves)
 
--- There are as many haves as gives.
+-- There is one have for each give.
 pub length-asked : (c : Configuration) (bucket : ℕ) (state : State) (rs : List GiveMessage) → length (haves_of c bucket state rs) ≡ length rs
 length-asked c bucket state [] = refl
 length-asked c bucket state (r ∷ rs) = let later = length-asked c (bucket + 1) (joined state r.content) rs in omega (arith, later)

@@ -115,7 +115,7 @@ record IsSplit {A : Type 0} (whole front : List A) (item : A) : Type 0 where
 one-further : {A : Type 0} (x y item : A) (xs ys : List A) → x ≡ y → IsSplit xs ys item → IsSplit (x ∷ xs) (y ∷ ys) item
 one-further x y item xs ys same split = record { later = split.later; parts = λ i. same i ∷ split.parts i }
 
--- Lines that go on after those of some receipts are those of a list that goes on so.
+-- Lines that continue after those of some receipts are those of a list that continues so.
 split-receipts : (whole front : List Receipt) (r : Receipt) (later : List (List ℕ)) → AllByRecursion IsReceipt whole
     → AllByRecursion IsReceipt front → IsReceipt r → map line whole ≡ map line front ++ line r ∷ later → IsSplit whole front r
 split-receipts [] [] r later ps qs is e = absurd (cc)
@@ -128,7 +128,7 @@ split-receipts (x ∷ xs) (y ∷ ys) r later ps qs is e =
     let tail : map line xs ≡ map line ys ++ line r ∷ later = cc in
     one-further x y r xs ys (one_line x y ps.0 qs.0 head) (split-receipts xs ys r later ps.1 qs.1 is tail)
 
--- among receipts' lines there is none of a record
+-- no line of a record is among receipts' lines
 no-record : (receipts front : List Receipt) (x : Distrust) (later : List (List ℕ)) → AllByRecursion IsReceipt receipts
     → IsDistrust x → map line receipts ≡ map line front ++ distrust_line x ∷ later → ⊥
 no-record [] [] x later ps is e = absurd (cc)

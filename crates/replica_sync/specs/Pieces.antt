@@ -35,7 +35,7 @@ pub record IsOverlong (most : ℕ) (bytes : List ℕ) : Type 0 where
   pub parts : bytes ≡ text ++ rest
 
 -- No line ended: what was kept and the piece are the beginning of one.
-pub record GoesOn (run : PieceRun) (new : List ℕ) : Type 0 where
+pub record Continues (run : PieceRun) (new : List ℕ) : Type 0 where
   pub kept : new ≡ run.old ++ run.piece
   pub plain : HasNoFeed new
   pub short : length new ≤ run.most
@@ -50,7 +50,7 @@ pub record EndsLine (run : PieceRun) (used : ℕ) (text : List ℕ) : Type 0 whe
 
 -- what a piece does
 abbrev pub TakesPiece : PieceRun → LinePart → PieceEnd → Type 0
-TakesPiece run new Within = GoesOn run (kept_part new)
+TakesPiece run new Within = Continues run (kept_part new)
 TakesPiece run new (Line used) = EndsLine run used (ended_line new) × (kept_part new ≡ [])
 TakesPiece run new TooLong = IsOverlong run.most (run.old ++ run.piece)
     × (kept_part new ≡ run.old)

@@ -35,7 +35,7 @@ pub record HasNoLineOf (lines : AnswerLines) (before : ℕ) (later : List Pulled
   pub takes : TakesInTurn later []
   pub read : lines.read ≡ before
 
--- Its first line came, and so much of what it has, which is taken; `rest` came of the next line.
+-- Its first line came, and this much of what it has, which is taken; `rest` came of the next line.
 pub record HasLinesOf (config : Configuration) (lines : AnswerLines) (before : ℕ)
     (later : List PulledPiece) (rest : List ℕ) : Type 0 where
   pub begun : lines.is_begun ≡ true
@@ -54,10 +54,10 @@ abbrev pub HasPartOf : Configuration → AnswerLines → ℕ → List PulledPiec
 HasPartOf config lines before later rest = HasNoLineOf lines before later rest
     ⊎ HasLinesOf config lines before later rest
 
--- ---- where the session is
+-- ---- the state of the session
 
 -- These answers came whole, and a part of the next one.
-pub record GoesOnPulling (plan : Option (List ℕ)) (answered : ℕ) (lines : AnswerLines)
+pub record ContinuesPulling (plan : Option (List ℕ)) (answered : ℕ) (lines : AnswerLines)
     (start : Meaning) (came : List PulledPiece) (rest output : List ℕ) : Type 0 where
   pub gives : List PulledGive
   pub later : List PulledPiece
@@ -83,12 +83,12 @@ pub record HasPulledAll (plan : Option (List ℕ)) (lines : AnswerLines) (start 
 
 -- ---- why it stops
 
--- what is wrong with a line, where m is held and so much of its answer was taken
+-- what is wrong with a line, if m is held and this much of its answer was taken
 abbrev pub refused_where : Meaning → ℕ → State → Wanted → List ℕ → List ℕ → SyncError → Type 0
 refused_where m first content wanted last text e = RefusesEntryLine m
     (placed_line wanted last (next_entry_number first content) text) e
 
--- A good beginning of the answer, and after it this fault.
+-- A good beginning of the answer, and after it this error.
 pub record FailsAmong (m : Meaning) (bucket first : ℕ) (content : State)
     (stream : Option (List ℕ)) (e : SyncError) : Type 0 where
   pub count : ℕ
@@ -101,12 +101,12 @@ pub record FailsAmong (m : Meaning) (bucket first : ℕ) (content : State)
       after e
 
 -- why the answer about the bucket, whose first line has the number, is not read further than this
--- content, where m is held
+-- content, if m is held
 abbrev pub StopsAnswer : Meaning → ℕ → ℕ → State → Option (List ℕ) → SyncError → Type 0
 StopsAnswer m bucket first content stream e = FailsFirst m.config bucket content stream e
     ⊎ FailsAmong m bucket first content stream e
 
--- These answers came whole, and then a part of the next one; after it is this fault, as soon as a
+-- These answers came whole, and then a part of the next one; after it is this error, as soon as a
 -- line feed comes. Nothing is taken from the piece on that has it.
 pub record StopsInGive (plan : Option (List ℕ)) (start : Meaning) (came : List PulledPiece)
     (output : List ℕ) (e : SyncError) : Type 0 where
@@ -173,20 +173,20 @@ abbrev pub TakesNoMore : List ℕ → Pulling → Type 0
 TakesNoMore bytes pulling = EndsInFeed bytes
     ⊎ ((0 < length (due_have pulling)) ⊎ IsOverPulling pulling)
 
--- So many bytes of the piece are taken: all of them, or those up to the end of an answer, after
+-- This many bytes of the piece are taken: all of them, or those up to the end of an answer, after
 -- which a have is to be written or the session is over.
 pub record TakesLines (piece : List ℕ) (new : Pulling) (used : ℕ) : Type 0 where
   pub within : used ≤ length piece
   pub fewer : used < length piece → (0 < length (due_have new)) ⊎ IsOverPulling new
 
--- So many bytes of the piece are taken: all of them, or no more for such a reason.
+-- This many bytes of the piece are taken: all of them, or no more for such a reason.
 pub record TakesBytes (piece : List ℕ) (new : Pulling) (used : ℕ) : Type 0 where
   pub within : used ≤ length piece
   pub fewer : used < length piece → TakesNoMore (take used piece) new
 
 abbrev pub PullsPieces : Option (List ℕ) → Option SyncError → ℕ → AnswerLines → Meaning
     → List PulledPiece → List ℕ → List ℕ → Type 0
-PullsPieces plan None answered lines start came rest output = GoesOnPulling plan answered lines
+PullsPieces plan None answered lines start came rest output = ContinuesPulling plan answered lines
     start came rest output ⊎ HasPulledAll plan lines start came output
 PullsPieces plan (Some e) answered lines start came rest output = StopsInGive plan start came output
     e ⊎ StopsAsking plan start came output e
@@ -205,8 +205,8 @@ pub record HasPulledAbout (plan : Option (List ℕ)) (pulling : Pulling) (start 
 abbrev pub HasPulledPieces : Pulling → Meaning → List PulledPiece → List ℕ → Type 0
 HasPulledPieces pulling start came written = HasPulledAbout None pulling start came written
 
--- The lines of the bytes are taken one after another, as by as many calls, between which nothing
--- changes.
+-- The lines of the bytes are taken one after another, as by one call for each; between the calls
+-- nothing changes.
 pub record PullsLines (before : Pulling) (piece : PulledPiece) (after : Pulling) : Type 0 where
   pub pieces : List PulledPiece
   pub whole : bytes_pulled pieces ≡ piece.bytes

@@ -1,4 +1,4 @@
--- What comes to a replica that pulls, in pieces: the answers of which they are parts, what is taken
+-- What a replica that pulls is given, in pieces: the answers of which they are parts, what is taken
 -- of each piece, and what is asked.
 use Rattle.std.specs.Prelude.{◌≡◌, ◌≢◌, ℕ, ◌+◌, ◌-◌, ◌<◌, ◌⊎◌, List, [], ◌∷◌, ◌++◌, length, map}
 use Rattle.std.specs.Prelude.{flat_map, take, Option, Result, Ok, Err}
@@ -30,7 +30,7 @@ abbrev pub Journals : Meaning → Meaning → List ℕ → List ℕ → Type 0
 Journals old new before after = ((new ≡ old) × (after ≡ before))
     ⊎ JournalsEntry old new before after
 
--- Each was not held where those before it are held.
+-- Each was not held if those before it are held.
 abbrev pub AreNewInTurn : Meaning → List Entry → Type 0
 AreNewInTurn m [] = Unit {0}
 AreNewInTurn m (entry ∷ entries) = (with_entry entry m ≢ m)
@@ -50,12 +50,12 @@ pub record PulledPiece : Type 0 where
   pub old : Meaning
   pub new : Meaning
 
--- what came by a call: the bytes that it took; or all, where there is a fault among them
+-- what came by a call: the bytes that it took; or all, if there is an error among them
 abbrev pub piece_pulled : List ℕ → Meaning → Meaning → Result ℕ SyncError → PulledPiece
 piece_pulled piece old new (Ok used) = record { bytes = take used piece; old = old; new = new }
 piece_pulled piece old new (Err e) = record { bytes = piece; old = old; new = new }
 
--- the bytes that came by a call: those that it took; or all, where there is a fault among them
+-- the bytes that came by a call: those that it took; or all, if there is an error among them
 abbrev pub bytes_read : List ℕ → Result ℕ SyncError → List ℕ
 bytes_read piece (Ok used) = take used piece
 bytes_read piece (Err e) = piece

@@ -6,7 +6,7 @@ use Rattle.replica_core.specs.declared.error.SyncError.{SyncError}
 use Rattle.replica_core.specs.declared.error.SyncError.TheVariants.{Io, NoMemory}
 
 -- The bytes that the source has when the session begins, and those that the sink holds before and
--- after it, if the devices tell them.
+-- after it, if the devices report them.
 pub record SessionRun : Type 0 where
   pub source : Option (List ℕ)
   pub before : Option (List ℕ)
@@ -19,7 +19,7 @@ session_run source before after = record { source = source; before = before; aft
 abbrev pub known_run : List ℕ → List ℕ → SessionRun
 known_run read written = session_run (Some read) (Some []) (Some written)
 
--- Both have the same bytes to read, and the devices tell them.
+-- Both have the same bytes to read, and the devices report them.
 abbrev pub ReadSame : SessionRun → SessionRun → Type 0
 ReadSame one other = (bytes : List ℕ) × (one.source ≡ Some bytes) × (other.source ≡ Some bytes)
 

@@ -31,7 +31,7 @@ pub(crate) struct AnswerLines {
     // Whether its first line came, and what is still to come then.
     is_begun: bool,
     due: DueLines,
-    // Its last line that is not the first; empty where there is none.
+    // Its last line that is not the first; empty if there is no such line.
     last: Vec<u8>,
     // What is known of its lines, and of those of the answers before it.
     known: KnownParts,
@@ -108,7 +108,7 @@ impl AnswerLines {
         self.taken
     }
 
-    /// The fault of the next line where it is too long.
+    /// The error of the next line if it is too long.
     pub(crate) fn overlong(&self, alloc: Global) -> SyncError
         ensures { IsLongFault self.now result }
     {
@@ -266,8 +266,8 @@ impl AnswerLines {
         Ok(LineStep { due, new })
     }
 
-    // Waits for what is still to come, and for the next answer where that is nothing. Returns
-    // whether it is.
+    // Waits for what is still to come, and for the next answer if that is nothing. Returns whether
+    // it is.
     fn move_on(&mut self, due: DueLines) -> bool
         requires { self.old.bucket < 256 }
         ensures moves { MovesOn self.old self.new (record {
@@ -289,7 +289,7 @@ impl AnswerLines {
     }
 }
 
-// Which line comes next, where this much is still to come, and what then is.
+// Which line comes next, if this much is still to come, and what then is.
 fn next_of(due: DueLines) -> (Wanted, DueLines)
     requires { 0 < due.receipts + due.records }
     ensures { IsNextOf due.receipts due.records result.0 result.1.receipts result.1.records }
@@ -309,8 +309,8 @@ fn next_of(due: DueLines) -> (Wanted, DueLines)
     }
 }
 
-// The number of the line after this many. There is no memory for so many that it has more than 64
-// bits: there it asks for a growth that is always refused.
+// The number of the line after this many. There is no memory for lines whose number has more than
+// 64 bits: for these it asks for a growth that is always refused.
 fn next_number(alloc: Global, read: u64) -> Result<u64, AllocError>
     ensures { IfOk result (λ number. number ≡ read + 1) }
 {

@@ -23,7 +23,7 @@ ghost use Rattle.replica_sync.specs.Events.{EndsCut, whole_exchanges};
 ghost use Rattle.replica_sync.specs.Pulling.{HasDistinctIds, Pulls, PullsAll, PullsUpTo};
 ghost use Rattle.replica_texts.specs.WrittenSnapshot.{written_snapshot};
 ghost use Rattle.replica_sync.specs.declared.pulling.PullFault.{PullFault};
-ghost use Rattle.replica_sync.specs.Pieces.{EndsLine, GoesOn, PieceRun};
+ghost use Rattle.replica_sync.specs.Pieces.{EndsLine, Continues, PieceRun};
 ghost use Rattle.replica_sync.specs.PulledPieces.{AreAlone, PulledPiece, bytes_pulled};
 ghost use Rattle.replica_sync.specs.PullSessions.{HasPulledPieces, IsOverPulling, count_of_pulling};
 ghost use Rattle.replica_sync.specs.PullSessions.{due_have, fault_of_pulling};
@@ -43,9 +43,9 @@ pub fn cuts()
     ensures ends { (run : PieceRun) (used : ℕ) (after text : List ℕ) → EndsLine run used text
         → lines_of ((run.old ++ run.piece) ++ after)
         ≡ with_line text (lines_of (drop used run.piece ++ after)) }
-    ensures goes_on { (run : PieceRun) (new after : List ℕ) → GoesOn run new
+    ensures continues { (run : PieceRun) (new after : List ℕ) → Continues run new
         → lines_of ((run.old ++ run.piece) ++ after) ≡ lines_of (new ++ after) }
-    ensures rests { (run : PieceRun) (new : List ℕ) → GoesOn run new
+    ensures rests { (run : PieceRun) (new : List ℕ) → Continues run new
         → lines_of (run.old ++ run.piece) ≡ record { whole = []; rest = new } }
 {}
 

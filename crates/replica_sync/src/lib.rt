@@ -4,7 +4,7 @@
 //! they come, and bytes go out. `line_part` makes whole lines out of pieces. `piece_serving`
 //! answers the haves that come so, and `text_sink` keeps an answer. `piece_pulling` asks about the
 //! buckets of a `bucket_plan`, and takes the answers that come so: `answer_lines` takes their
-//! lines, and `news` what they say: `new_entry` at once, or records of distrust together.
+//! lines, and `news` what they say: `new_entry` immediately, or records of distrust together.
 //!
 //! `serving` and `pulling` are whole sessions over a source and a sink. `pulling` gives the lines
 //! of its source to the same `answer_lines`.

@@ -2,7 +2,7 @@
 ghost use Rattle.std.specs.Prelude.{◌≡◌, ◌≤◌, [], false, IfOk, OnErr, vec_len};
 ghost use Rattle.std.specs.Prelude.{◌↔◌, IsTrue};
 ghost use Rattle.byte_lines.specs.Lines.{HasNoFeed};
-ghost use Rattle.byte_lines.specs.Inside.Ahead.{AtFeed};
+ghost use Rattle.byte_lines.specs.Ahead.{AtFeed};
 
 use memchr::memchr;
 use std::alloc::{AllocError, Global};
@@ -20,7 +20,7 @@ pub enum PieceEnd {
 }
 
 /// The beginning of a line, kept until its line feed (byte 10) comes. It is given the bytes of a
-/// stream in pieces of any size, and where one piece ends and the next begins means nothing.
+/// stream in pieces of any size, and the places at which pieces end mean nothing.
 ///
 /// Each byte is looked at and copied once. Memory is taken for one line of at most the limit.
 #[derive(Drop)]

@@ -11,7 +11,7 @@ use replica_core::{Entry, SyncError};
 use replica_journal::push_entry;
 use std::alloc::Global;
 
-/// Takes what the line with this number says. Where it was not held, its line is appended to the
+/// Takes what the line with this number says. If it was not held, its line is appended to the
 /// journal. Returns how many receipts are held now and were not.
 pub(crate) fn take_new<C: Closure>(
     alloc: Global,

@@ -22,7 +22,7 @@ use std::cmp::Ordering;
 pub(crate) struct News {
     // The lines of what is new are appended to it.
     journal: Vec<u8>,
-    // The records that wait, rising.
+    // The records that wait, sorted.
     later: Vec<Distrust>,
     // How many more have a place.
     free: usize,
@@ -62,8 +62,8 @@ impl News {
         self.journal.clear();
     }
 
-    /// Takes what the line with this number says. Where it was not held, its line is appended to
-    /// the journal. Returns how many receipts are held now and were not.
+    /// Takes what the line with this number says. If it was not held, its line is appended to the
+    /// journal. Returns how many receipts are held now and were not.
     pub(crate) fn take<C: Closure>(
         &mut self,
         closure: &mut C,

@@ -37,8 +37,8 @@ const LONGEST_LINE: usize = 8_388_608;
 /// The closure is borrowed by each call. It is always to be one of the same configuration, and may
 /// change between two calls.
 ///
-/// Beside what is held, memory is taken for one have and for a few lines, and never for a number
-/// that the other side says.
+/// Apart from what is held, memory is taken for one have and for a few lines, and never for a
+/// number that the other side says.
 #[derive(Drop)]
 pub struct Pulling {
     part: LinePart,
@@ -115,22 +115,22 @@ impl Pulling {
     /// were taken. The others are to be given again. None is taken while something is to be
     /// written, and none after the last answer; else all are, or those up to the end of a line.
     ///
-    /// Where the line says what was not held, it is held now, and is appended to the journal as
+    /// If the line says what was not held, it is held now, and is appended to the journal as
     /// [`push_entry`](replica_journal::push_entry) does: one receipt or one record at most. This
-    /// may be so also where a fault is returned.
+    /// may be so also if an error is returned.
     ///
     /// # Errors
-    /// What the lines before the fault say stays held, and nothing is to be written any more. Each
-    /// later call returns the same fault, and takes nothing. Lines are counted from 1 over all
-    /// answers. Of these the first that holds:
-    /// - [`SyncError::BadHeader`]: a line is no answer's first, of whatever format and number of
-    ///   buckets, or is about another bucket than was asked about, or has more than 8,388,608
+    /// What the lines before the error say remains held, and nothing is to be written any more.
+    /// Each later call returns the same error, and takes nothing. Lines are counted from 1 over all
+    /// answers. The first of these that holds:
+    /// - [`SyncError::BadHeader`]: a line is not an answer's first, of whatever format and number
+    ///   of buckets, or is about another bucket than was asked about, or has more than 8,388,608
     ///   bytes,
     /// - [`SyncError::ConfigDiffers`]: it is of another configuration,
     /// - [`SyncError::VersionDiffers`]: it has another format than 2, or another number of buckets
     ///   than 256,
-    /// - [`SyncError::NotCanonical`]: a line is not a record's where a record should stand, or not
-    ///   a receipt's where a receipt should, or has more than 8,388,608 bytes,
+    /// - [`SyncError::NotCanonical`]: a line that should be a record's is not, or one that should
+    ///   be a receipt's is not, or a line has more than 8,388,608 bytes,
     /// - [`SyncError::NotRising`]: a line is not greater than the one before it in its answer,
     /// - [`SyncError::Refused`]: a receipt or a record is not of the configuration, or is one too
     ///   many,
@@ -166,11 +166,12 @@ impl Pulling {
     /// Takes the next bytes of the stream, up to the end of an answer at most, and returns how many
     /// were taken: as [`Pulling::read`] does, given the same piece again and again. Records of
     /// distrust that come in one piece are taken together, by one merge: what rests on them is
-    /// looked at once for all of them.
+    /// looked at only once for all of them.
     ///
     /// What the lines say that was not held is held afterwards, and is appended to the journal, in
-    /// the order of the lines. This may be so also where a fault is returned. Besides what `read`
-    /// takes, memory is taken for the records that come in the piece, and for a closure of them.
+    /// the order of the lines. This may be so also if an error is returned. In addition to what
+    /// `read` takes, memory is taken for the records that come in the piece, and for a closure of
+    /// them.
     ///
     /// # Errors
     /// Those of [`Pulling::read`], of the first line that has one.
@@ -278,7 +279,7 @@ impl Pulling {
         }
     }
 
-    // Takes the piece up to the end of a line, and makes the next have where an answer ends.
+    // Takes the piece up to the end of a line, and makes the next have when an answer ends.
     fn advance<C: Closure>(
         &mut self,
         alloc: Global,
@@ -415,7 +416,7 @@ impl Pulling {
     /// Whether the stream may end here: the last answer was taken to its end.
     ///
     /// # Errors
-    /// The fault that was found; or [`SyncError::Truncated`]: the stream ends before that.
+    /// The error that was found; or [`SyncError::Truncated`]: the stream ends before that.
     pub fn end(&self) -> Result<(), SyncError>
         ensures whole { OnOk result
             ((fault_of_pulling self.now ≡ None) × IsOverPulling self.now) }

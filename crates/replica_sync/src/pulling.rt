@@ -42,16 +42,16 @@ pub struct PullFault {
 /// other side says.
 ///
 /// # Errors
-/// What the lines before the error say stays held, and [`PullFault::taken`] says how many receipts
-/// of it were new. The first error in the order of the answers' bytes:
+/// What the lines before the error say remains held, and [`PullFault::taken`] says how many
+/// receipts of it were new. The first error in the order of the answers' bytes:
 /// - [`SyncError::Truncated`]: the source ends before the last answer does,
 /// - [`SyncError::BadHeader`]: a line is not an answer's first, of whatever format and number of
 ///   buckets, or is about another bucket than was asked about, or has more than 8,388,608 bytes,
 /// - [`SyncError::ConfigDiffers`]: it is of another configuration,
 /// - [`SyncError::VersionDiffers`]: it has another format than 2, or another number of buckets than
 ///   256,
-/// - [`SyncError::NotCanonical`]: a line is not a record's where a record should be, or not a
-///   receipt's where a receipt should be, or has more than 8,388,608 bytes,
+/// - [`SyncError::NotCanonical`]: a line that should be a record's is not, or one that should be a
+///   receipt's is not, or a line has more than 8,388,608 bytes,
 /// - [`SyncError::NotRising`]: a line is not greater than the one before it in its answer,
 /// - [`SyncError::Refused`]: a receipt or a record is not of the configuration, or is one too many,
 /// - [`SyncError::Io`]: the source or the sink failed,

@@ -13,8 +13,8 @@ use replica_core::{SyncError, answer};
 use replica_texts::{next_own, write_answer};
 use std::alloc::Global;
 
-/// Answers the haves of the source, one after another, until it ends where a have would begin.
-/// Returns how many there were.
+/// Answers the haves of the source, one after another, until it ends before the first byte of a
+/// have. Returns how many there were.
 ///
 /// Only haves of the closure's configuration are answered, each with what the closure holds.
 /// Memory is taken for one have and for one line of an answer.

@@ -46,7 +46,7 @@ feedless_digits : (xs : List ℕ) → AllByRecursion (λ b. is_lower_hex_digit b
 feedless_digits [] h = tt
 feedless_digits (x ∷ xs) h = ((λ e. let no : is_lower_hex_digit 10 ≡ true = subst (λ b. is_lower_hex_digit b ≡ true) e h.0 in cc), feedless_digits xs h.1)
 
--- A digest has four bytes for each of its words.
+-- A digest has four bytes for each of its 32-bit numbers.
 length-digest : (h : List ℕ) (n : ℕ) → length (digest_bytes h n) ≡ 4 * n
 unfolding digest_bytes
 length-digest h zero = refl

@@ -104,7 +104,7 @@ one-asked text a b p q =
 
 -- ---- answers
 
--- The part on records says one number, or that there is none.
+-- The part on records says one number, or no number.
 one-part : (m n : Option ℕ) (more rest : List ℕ) → IfSome m (λ k. k < 2 ^ 64) → IfSome n (λ k. k < 2 ^ 64)
     → distrusts_part m ++ (format_label ++ more) ≡ distrusts_part n ++ (format_label ++ rest) → (m ≡ n) × (more ≡ rest)
 one-part None None more rest p q e = (refl, append_cancel_left format_label more rest e)

@@ -66,7 +66,7 @@ rises old new text rising above e =
     (rising_pushed (content_lines old) text rising above)
 
 module _ (count distrusts : ℕ) (old : State) (begun : IsBegun count distrusts old) where
-  -- A record that is wanted goes on with the answer.
+  -- A record that is wanted continues the answer.
   grows-by-record : (text : List ℕ) (x : Distrust) → length old.records < distrusts
       → IsNextEntry Records (last_of (content_lines old)) text (Record x)
       → Grows count distrusts old text (pushed (Record x) old)
@@ -85,7 +85,7 @@ module _ (count distrusts : ℕ) (old : State) (begun : IsBegun count distrusts 
         lines = lines;
       }
 
-  -- A receipt that is wanted goes on with the answer.
+  -- A receipt that is wanted continues the answer.
   grows-by-receipt : (text : List ℕ) (r : Receipt) → length old.records ≡ distrusts → length old.held < count
       → IsNextEntry Receipts (last_of (content_lines old)) text (AReceipt r)
       → Grows count distrusts old text (pushed (AReceipt r) old)
@@ -104,7 +104,7 @@ module _ (count distrusts : ℕ) (old : State) (begun : IsBegun count distrusts 
         lines = lines;
       }
 
-  -- An entry that is wanted goes on with the answer.
+  -- An entry that is wanted continues the answer.
   grows-by : (wanted : Wanted) (text : List ℕ) (entry : Entry) → Wants count distrusts old wanted
       → IsNextEntry wanted (last_of (content_lines old)) text entry → Grows count distrusts old text (pushed entry old)
   grows-by Records text (Record x) wants next = grows-by-record text x wants next
@@ -113,7 +113,7 @@ module _ (count distrusts : ℕ) (old : State) (begun : IsBegun count distrusts 
   grows-by Receipts text (AReceipt r) wants next = grows-by-receipt text r wants.0 wants.1 next
   grows-by Either text entry wants next = absurd wants
 
-  -- A line that is wanted and read goes on with the answer.
+  -- A line that is wanted and read continues the answer.
   pub grows : (wanted : Wanted) (text : List ℕ) (new : State) → Wants count distrusts old wanted
       → Pushes wanted old text new → Grows count distrusts old text new
   grows wanted text new wants p = subst (Grows count distrusts old text) (sym p.now) (grows-by wanted text p.entry wants p.next)
@@ -171,7 +171,7 @@ content-text content =
     (ap text_of_lines (sym (append-nil (map line content.held))) ∙ lines-of line content.held []
     ∙ append-nil (flat_map receipt_text content.held))
 
--- If as many lines came as the first line says, it is the first line of the answer.
+-- If the number of lines that came is what the first line says, it is the first line of the answer.
 header-whole : (h : Head) (content : State) → IsWhole h.count h.distrusts content
     → header_by_head h ≡ give_header_of (record { bucket = h.bucket; config = h.config.0; content = content })
 header-whole h content whole = λ i. record {
@@ -183,7 +183,7 @@ header-whole h content whole = λ i. record {
   buckets = 256;
 }
 
--- What was read, when as many lines came as the first one says, is the text of an answer.
+-- What was read is the text of an answer if the number of lines is what the first one says.
 pub whole-give : (old middle new : Option (List ℕ)) (h : Head) (content : State) → HasHead None old middle h
     → GathersAll h.count h.distrusts middle content new
     → Consumes old new (give_text (record { bucket = h.bucket; config = h.config.0; content = content }))

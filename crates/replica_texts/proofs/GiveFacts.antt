@@ -224,19 +224,19 @@ further (x ∷ xs) us (y ∷ ys) vs e less =
     record { text = more.text; later = more.later; follows = more.follows; whole = (λ i. sym head i ∷ more.whole i); rest = more.rest }
 
 -- the text is that of such an item
-record StandsAt {A : Type 0} (P : A → Type 0) (f : A → List ℕ) (text : List ℕ) : Type 0 where
+record IsAt {A : Type 0} (P : A → Type 0) (f : A → List ℕ) (text : List ℕ) : Type 0 where
   pub it : A
   pub is : P it
   pub spelt : text ≡ f it
 
 -- A line among those of some items is the line of one of them.
-stands-at : {A : Type 0} (P : A → Type 0) (f : A → List ℕ) (xs : List A) (us ys vs : List (List ℕ)) (text : List ℕ)
-    → AllByRecursion P xs → map f xs ++ us ≡ ys ++ text ∷ vs → length ys < length xs → StandsAt P f text
-stands-at P f [] us ys vs text h e less = absurd (omega (arith, less))
-stands-at P f (x ∷ xs) us [] vs text h e less = record { it = x; is = h.0; spelt = cc }
-stands-at P f (x ∷ xs) us (y ∷ ys) vs text h e less =
+placed-at : {A : Type 0} (P : A → Type 0) (f : A → List ℕ) (xs : List A) (us ys vs : List (List ℕ)) (text : List ℕ)
+    → AllByRecursion P xs → map f xs ++ us ≡ ys ++ text ∷ vs → length ys < length xs → IsAt P f text
+placed-at P f [] us ys vs text h e less = absurd (omega (arith, less))
+placed-at P f (x ∷ xs) us [] vs text h e less = record { it = x; is = h.0; spelt = cc }
+placed-at P f (x ∷ xs) us (y ∷ ys) vs text h e less =
     let tail : map f xs ++ us ≡ ys ++ text ∷ vs = cc in
-    stands-at P f xs us ys vs text h.1 tail (omega (arith, less))
+    placed-at P f xs us ys vs text h.1 tail (omega (arith, less))
 
 -- If a record is wanted after the shorter of two beginnings of an answer, it has fewer records.
 more-records : (count distrusts : ℕ) (whole content : State) → IsBegun count distrusts whole → length content.records < distrusts
@@ -251,7 +251,7 @@ more-records count distrusts whole content larger wants less =
           absurd (omega (arith, same, none, few, many, less))
     ]
 
--- If a receipt is wanted after it, the other one has as many records as it, and more receipts.
+-- If a receipt is wanted after it, the other one has the same number of records, and more receipts.
 more-receipts : (count distrusts : ℕ) (whole content : State) → IsBegun count distrusts whole → length content.records ≡ distrusts
     → length (content_lines content) < length (content_lines whole)
     → (length whole.records ≡ length content.records) × (length content.held < length whole.held)
@@ -275,7 +275,7 @@ entry-at Records count distrusts whole content text later larger begun less want
     ∙ append-nil (map distrust_line content.records) in
     let few = length-map content.records distrust_line in
     let more = more-records count distrusts whole content larger wants less in
-    let at = stands-at IsDistrust distrust_line whole.records (map line whole.held) (map distrust_line content.records)
+    let at = placed-at IsDistrust distrust_line whole.records (map line whole.held) (map distrust_line content.records)
     later text larger.valid.records (e ∙ ap (λ ls. ls ++ text ∷ later) none) (omega (arith, few, more)) in
     (Record at.it, record { is = at.is; spelt = at.spelt })
 entry-at Receipts count distrusts whole content text later larger begun less wants e =
@@ -289,7 +289,7 @@ entry-at Receipts count distrusts whole content text later larger begun less wan
     (map line content.held ++ text ∷ later) (omega (arith, many, many_too, same))
     (e ∙ append_assoc (map distrust_line content.records) (map line content.held) (text ∷ later))).1 in
     let few = length-map content.held line in
-    let at = stands-at IsReceipt line whole.held [] (map line content.held) later text larger.valid.receipts
+    let at = placed-at IsReceipt line whole.held [] (map line content.held) later text larger.valid.receipts
     (append-nil (map line whole.held) ∙ follows) (omega (arith, few, longer)) in
     (AReceipt at.it, record { is = at.is; spelt = at.spelt })
 entry-at Either count distrusts whole content text later larger begun less wants e = absurd wants

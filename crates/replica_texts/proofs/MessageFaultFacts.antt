@@ -1,4 +1,4 @@
--- A stream has one error at most, but for a source that fails and for lack of memory: haves and
+-- A stream has one error at most, except for a source that fails and for lack of memory: haves and
 -- answers.
 use Rattle.std.proofs.Common.{◌≡◌, ◌≢◌, ℕ, ◌<◌, ◌⊎◌, inl, inr, List, ◌++◌, length, Option}
 use Rattle.std.proofs.Common.{None, Some, refl, ap, sym, ◌∙◌, subst, arith, append_assoc}
@@ -184,7 +184,7 @@ one-text-fault wanted last number text (NotCanonical n) e l m p q = absurd q
 one-text-fault wanted last number text (NotRising n) e l m p q = absurd q
 one-text-fault wanted last number text d e l m p q = absurd p
 
--- The next line has the error, or one is wanted and there is none.
+-- The next line has the error, or is wanted and missing.
 abbrev FailsAtNext : ℕ → ℕ → State → List ℕ → Option (List ℕ) → SyncError → Type 0
 FailsAtNext count distrusts content left new e = HasBadNext (refused_text content) count distrusts content (Some left) new e
     ⊎ ((e ≡ Truncated) × HasNoNext count distrusts content (Some left))
@@ -243,7 +243,7 @@ record AreAlike (content other : State) (left rest : List ℕ) : Type 0 where
   pub same : content ≡ other
   pub follows : left ≡ rest
 
--- Readings with as many lines have the same content and the same rest.
+-- Readings with the same number of lines have the same content and the same rest.
 alike : (count distrusts : ℕ) (content other : State) (left rest : List ℕ) → AreOfOne count distrusts content other left rest
     → length (content_lines content) ≡ length (content_lines other) → AreAlike content other left rest
 alike count distrusts content other left rest one size =

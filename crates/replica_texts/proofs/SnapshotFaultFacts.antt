@@ -1,5 +1,5 @@
--- A stream that is not a snapshot has one error at most, but for a source that fails and for lack
--- of memory.
+-- A stream that is not a snapshot has one error at most, except for a source that fails and for
+-- lack of memory.
 use Rattle.std.proofs.Common.{◌≡◌, ◌≢◌, ℕ, ◌+◌, ◌<◌, ◌⊎◌, inl, inr, List, [], ◌∷◌, ◌++◌, length}
 use Rattle.std.proofs.Common.{Option, None, Some, refl, ap, sym, ◌∙◌, subst, arith}
 use Rattle.std.proofs.lemmas.Bool.{cases_lt}
@@ -95,7 +95,7 @@ one-first-cause config bytes d e (inr h) (inr k) = h.0 ∙ sym k.0
 
 -- ---- one line more
 
--- A receipt or a record is refused for one cause at most, but for memory.
+-- A receipt or a record is refused for one cause at most, except for memory.
 one-refusal : (m : Meaning) (entry : Entry) (v w : TakeError) → IsConfiguration m.config → v ≢ NoTakeMemory → w ≢ NoTakeMemory
     → RefusesEntry m entry v → RefusesEntry m entry w → v ≡ w
 one-refusal m entry v NoTakeMemory is l k p q = absurd (k refl)
@@ -287,7 +287,7 @@ record AreAlike (m k : Meaning) (left rest : List ℕ) : Type 0 where
   pub same : m ≡ k
   pub follows : left ≡ rest
 
--- Readings with as many lines have the same content and the same rest.
+-- Readings with the same number of lines have the same content and the same rest.
 alike : (format : Format) (m k : Meaning) (left rest : List ℕ) → AreOfOne format m k left rest → length (held_lines m) ≡ length (held_lines k)
     → AreAlike m k left rest
 alike format m k left rest one size =

@@ -110,7 +110,7 @@ RefusesNextEntry refuses count distrusts content left after Io = Unit {0}
 RefusesNextEntry refuses count distrusts content left after NoMemory = Unit {0}
 RefusesNextEntry refuses count distrusts content left after _ = ⊥
 
--- why no first line is read where one should begin
+-- why the first line that should begin here is not read
 abbrev pub RefusesHead : Option Expected → Option (List ℕ) → Option (List ℕ) → SyncError → Type 0
 RefusesHead expected old new BadHeader = HasBadFirstLine (RefusesGiveLine expected) old new
     BadHeader

@@ -12,7 +12,8 @@ use Rattle.replica_core.specs.declared.error.SyncError.TheVariants.{Truncated}
 use Rattle.replica_core.specs.declared.error.SyncError.TheVariants.{Io, NoMemory}
 use Rattle.byte_lines.specs.Limits.{line_limit}
 
--- Why no have is read where one should begin. Nothing is known of the stream if the source fails.
+-- Why the have that should begin here is not read. Nothing is known of the stream if the source
+-- fails.
 abbrev pub RefusesHave : Option Configuration → Option (List ℕ) → Option (List ℕ) → SyncError
     → Type 0
 RefusesHave config old new BadHeader = HasBadFirstLine (RefusesHaveLine config) old new BadHeader
@@ -39,7 +40,7 @@ pub record IsHaveOf (config : Configuration) (q : HaveMessage) : Type 0 where
   pub own : q.config ≡ config_id_of config
 
 -- Why the next have is not answered: as when a single one is read, except that the stream may end
--- where it would begin.
+-- before its first byte.
 abbrev pub RefusesFurther : Configuration → Option (List ℕ) → SyncError → Type 0
 RefusesFurther config left BadHeader = (after : Option (List ℕ))
     × HasBadFirstLine (RefusesHaveLine (Some config)) left after BadHeader

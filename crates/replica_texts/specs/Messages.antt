@@ -29,7 +29,7 @@ any_have_text a =
     ++ (join_by quoted (codes ",") a.have.ids
     ++ (codes "],\"of\":" ++ (decimal a.buckets ++ codes "}")))))))))
 
--- what the first line of an answer says, of whatever format and number of buckets; in the first
+-- what the first line of an answer says, for any format and number of buckets; only in the first
 -- format it has no number of records
 pub record GiveHeader : Type 0 where
   pub bucket : ℕ

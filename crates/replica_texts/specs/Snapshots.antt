@@ -160,7 +160,7 @@ abbrev pub wanted_of : Format → Wanted
 wanted_of First = Receipts
 wanted_of Second = Either
 
--- the last one, or the empty text if there is none
+-- the last one, or the empty text if there is no line
 abbrev pub last_of : List (List ℕ) → List ℕ
 last_of lines = fold (λ before text. text) [] lines
 

@@ -122,7 +122,7 @@ fn is_own(expected: Option<Expected<'_>>, config: &ConfigId) -> bool
     }
 }
 
-/// Reads the first line of an answer, of whatever format and number of buckets. There is none if
+/// Reads the first line of an answer, of whatever format and number of buckets. Returns `None` if
 /// the line is not spelt as one, or its bucket is not below that number.
 pub(crate) fn read_give_header(
     alloc: Global,
@@ -183,7 +183,7 @@ fn records_after(text: &[u8]) -> (Option<u64>, &[u8])
     }
 }
 
-// Whether the bucket is below the number of buckets, and the number of records is given, but for
+// Whether the bucket is below the number of buckets, and the number of records is given, except in
 // the first format.
 fn is_give_header(header: &GiveHeaderLine) -> bool
     requires { HasWords (header_by header.now) }

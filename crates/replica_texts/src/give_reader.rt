@@ -34,8 +34,8 @@ use std::alloc::{AllocError, Global};
 ///   buckets, or its bucket is not below that number, or it has more than 8,388,608 bytes,
 /// - [`SyncError::VersionDiffers`]: it has another format than 2, or another number of buckets than
 ///   256,
-/// - [`SyncError::NotCanonical`]: a line is not a record's where a record should be, or not a
-///   receipt's where a receipt should be, or has more than 8,388,608 bytes,
+/// - [`SyncError::NotCanonical`]: a line that should be a record's is not, or one that should be a
+///   receipt's is not, or a line has more than 8,388,608 bytes,
 /// - [`SyncError::NotRising`]: a line is not greater than the one before,
 /// - [`SyncError::Io`]: the source failed,
 /// - [`SyncError::NoMemory`]: memory ran out.
@@ -63,7 +63,7 @@ pub fn read_give<R: Source>(
 struct GiveBody {
     distrusts: Vec<Distrust>,
     receipts: Vec<Receipt>,
-    // The last line of it, and empty if there is none.
+    // The last line of it, and empty if it has no line.
     last: Vec<u8>,
 }
 

@@ -4,8 +4,8 @@ ghost use Rattle.std.specs.Prelude.{◌≡◌, ◌<◌, ◌%◌};
 use fed_config::ConfigId;
 use replica_core::Have;
 
-/// What the line of a have says, of whatever format and number of buckets. The bucket is one of as
-/// many as the line names; the bucket of the have itself is that number modulo 256.
+/// What the line of a have says, of whatever format and number of buckets. The bucket is one of the
+/// number of buckets that the line names; the bucket of the have itself is this bucket modulo 256.
 #[derive(Debug, Drop)]
 pub(crate) struct VersionedHave {
     pub(crate) bucket: u64,

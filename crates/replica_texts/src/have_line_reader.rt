@@ -16,7 +16,7 @@ use receipt_core::ReceiptId;
 use replica_core::Have;
 use std::alloc::{AllocError, Global};
 
-/// Reads the line of a have. There is none if the line is not spelt as one, or its bucket is not
+/// Reads the line of a have. Returns `None` if the line is not spelt as one, or its bucket is not
 /// below the number of buckets, or its ids do not rise.
 pub(crate) fn read_versioned_have(
     alloc: Global,

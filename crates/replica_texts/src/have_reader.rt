@@ -56,8 +56,8 @@ pub fn read_have<R: Source>(
     }
 }
 
-/// Reads the next have as [`read_have`] does, and then compares its configuration. There is none if
-/// the stream ends where it would begin.
+/// Reads the next have as [`read_have`] does, and then compares its configuration. Returns `None`
+/// if the stream ends before its first byte.
 ///
 /// # Errors
 /// The first of these that holds:
@@ -92,8 +92,8 @@ pub fn next_own<R: Source>(
     }
 }
 
-// The line of a have that is next in the stream. There is none if the stream ends where one would
-// begin.
+// The line of a have that is next in the stream, or `None` if the stream ends before its first
+// byte.
 fn next_have_line<R: Source>(
     alloc: Global,
     lines: &mut LineBuf,

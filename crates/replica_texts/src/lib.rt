@@ -1,5 +1,5 @@
-//! The texts by which replicas come to hold the same receipts: snapshots, and the messages of
-//! sessions, haves and answers. What these say is in `replica_core`.
+//! The texts by which replicas reach the same receipts: snapshots, and the messages of sessions,
+//! haves and answers. What these say is in `replica_core`.
 //!
 //! Snapshots: `header` and `format` are the first and the last line, read and written by
 //! `snapshot_reader` and `snapshot_writer`. First lines of messages: `scanner` guesses their parts,

@@ -105,7 +105,7 @@ none_all passed shows (y ∷ ys) are x has = elim are [
   | inr shown ↦ absurd (omega (arith, ap length shown.3))
 ]
 
--- And if each item is passed over, there is none.
+-- And if each item is passed over, there is no line.
 all_none : {A : Type 0} (passed : A → Type 0) (shows : A → List ℕ → Type 0) (xs : List A) (lines : List (List ℕ)) → AreLinesFor passed shows xs lines
     → ((x : A) → Contains xs x → passed x) → lines ≡ []
 all_none passed shows [] lines are all = are
@@ -180,17 +180,17 @@ same_held one other lines are = (
 -- ---- what the code finds of a domain
 
 pub passed_as : (chosen : Option (List ℕ)) (b : Bool) (d e : List ℕ) → d ≡ e → b ≡ is_left_aside chosen d → b ≡ true → is_left_aside chosen e ≡ true
-passed_as chosen b d e same told is = ap (is_left_aside chosen) (sym same) ∙ sym told ∙ is
+passed_as chosen b d e same stated is = ap (is_left_aside chosen) (sym same) ∙ sym stated ∙ is
 
 pub not_passed_as : (chosen : Option (List ℕ)) (b : Bool) (d e : List ℕ) → d ≡ e → b ≡ is_left_aside chosen d → b ≡ false
     → is_left_aside chosen e ≡ true → ⊥
-not_passed_as chosen b d e same told is passed = both_ways b is (told ∙ ap (is_left_aside chosen) same ∙ passed)
+not_passed_as chosen b d e same stated is passed = both_ways b is (stated ∙ ap (is_left_aside chosen) same ∙ passed)
 
 pub passed_record : (chosen : Option (List ℕ)) (b : Bool) (d : List ℕ) → b ≡ is_left_aside chosen d → b ≡ true → is_left_aside chosen d ≡ true
-passed_record chosen b d told is = sym told ∙ is
+passed_record chosen b d stated is = sym stated ∙ is
 
 pub not_passed_record : (chosen : Option (List ℕ)) (b : Bool) (d : List ℕ) → b ≡ is_left_aside chosen d → b ≡ false → is_left_aside chosen d ≡ true → ⊥
-not_passed_record chosen b d told is passed = both_ways b is (told ∙ passed)
+not_passed_record chosen b d stated is passed = both_ways b is (stated ∙ passed)
 
 -- ---- one line
 

@@ -101,8 +101,8 @@ module _ (m : Meaning) (offered : BTreeSet Triple) (r : Receipt) (valid : IsMean
 
   -- an accepted document vouches for it, if one offers what it needs and its key is not distrusted
   pub is_vouched : (Contains m.records (distrust_of r.endpoint.domain r) → ⊥) → contains triple_cmp offered (need_of r) ≡ true → IsReleased m r
-  is_vouched trusted told =
-      let by = set.are.sound (need_of r) ((set.exactly (need_of r)).0 told) in
+  is_vouched trusted stated =
+      let by = set.are.sound (need_of r) ((set.exactly (need_of r)).0 stated) in
       record {
         held = held;
         fits = fits;
@@ -113,11 +113,11 @@ module _ (m : Meaning) (offered : BTreeSet Triple) (r : Receipt) (valid : IsMean
 
   -- and none does, if none offers that
   pub is_unvouched : contains triple_cmp offered (need_of r) ≡ false → IsPending m r
-  is_unvouched told = record {
+  is_unvouched stated = record {
     held = held;
     unreleased = λ is.
         let offers = (Vouches-by_offers m.records is.voucher r).0 is.vouches in
         let has : HasDomain m.config is.voucher.domain = subst (HasDomain m.config) (sym is.vouches.endpoint) (endpoint_domain m.config r fits) in
-        both_ways (contains triple_cmp offered (need_of r)) told
+        both_ways (contains triple_cmp offered (need_of r)) stated
         ((set.exactly (need_of r)).1 (set.are.complete is.voucher (need_of r) has is.accepted offers.0));
   }

@@ -1,4 +1,5 @@
--- Which documents vouch for the receipts that are shown, and what of other domains is passed over by that
+-- Which documents vouch for the receipts that are shown, and what of other domains is passed over
+-- by that
 use Rattle.std.proofs.Common.{◌≡◌, ◌↔◌, inl, inr, ℕ, List, [], ◌∷◌, ◌++◌, refl, sym, ap, ◌∙◌, subst, append_assoc, append-nil}
 use Rattle.std.proofs.Common.{Bool, true, false, Option, Some, None}
 use Rattle.std.specs.Prelude.{◌&&◌, not, Contains}
@@ -99,7 +100,7 @@ module _ (chosen : Option (List ℕ)) where
 doc_id_total : IsTotalOrder doc_id_cmp
 doc_id_total = on_texts (λ (d : DocId). d.0)
 
--- ids that the order does not tell apart are equal
+-- ids that the order does not distinguish are equal
 one_doc_id : (a b : DocId) → doc_id_cmp a b ≡ Equal → a ≡ b
 one_doc_id a b h =
     let same : a.0 ≡ b.0 = exact_bytes a.0 b.0 h in λ i. record { 0 = same i }
@@ -109,35 +110,35 @@ pub vouchers_set : (m : Meaning) (chosen : Option (List ℕ)) (ids : List DocId)
 vouchers_set m chosen ids set are made = record {
   exactly = λ id.
       let both = btree_set_contains_from_list doc_id_total one_doc_id ids set made id in
-      (λ told. are.sound id (both.0 told), λ is. both.1 (are.complete id is));
+      (λ stated. are.sound id (both.0 stated), λ is. both.1 (are.complete id is));
 }
 
 -- ---- what is passed over
 
-both_told : (a c : Bool) → (a && not c) ≡ true → (a ≡ true) × (c ≡ true → ⊥)
-both_told true true e = absurd (both_ways false refl e)
-both_told true false e = (refl, λ is. both_ways false refl is)
-both_told false c e = absurd (both_ways false refl e)
+both_stated : (a c : Bool) → (a && not c) ≡ true → (a ≡ true) × (c ≡ true → ⊥)
+both_stated true true e = absurd (both_ways false refl e)
+both_stated true false e = (refl, λ is. both_ways false refl is)
+both_stated false c e = absurd (both_ways false refl e)
 
 one_fails : (a c : Bool) → (a && not c) ≡ false → a ≡ true → (c ≡ true → ⊥) → ⊥
 one_fails true true e is fails = fails refl
 one_fails true false e is fails = both_ways true e refl
 one_fails false c e is fails = both_ways false refl is
 
-both_tell : (a c : Bool) → a ≡ true → (c ≡ true → ⊥) → (a && not c) ≡ true
-both_tell true true is fails = absurd (fails refl)
-both_tell true false is fails = refl
-both_tell false c is fails = absurd (both_ways false refl is)
+both_state_it : (a c : Bool) → a ≡ true → (c ≡ true → ⊥) → (a && not c) ≡ true
+both_state_it true true is fails = absurd (fails refl)
+both_state_it true false is fails = refl
+both_state_it false c is fails = absurd (both_ways false refl is)
 
 module _ (m : Meaning) (chosen : Option (List ℕ)) (vouchers : BTreeSet DocId) (set : IsVoucherSet m chosen vouchers) where
-  module _ (b : Bool) (domain : List ℕ) (d : Bundle) (told : b ≡ is_passed chosen vouchers domain d) where
+  module _ (b : Bool) (domain : List ℕ) (d : Bundle) (stated : b ≡ is_passed chosen vouchers domain d) where
     pub document_passed : b ≡ true → IsPassedDocument m chosen domain d
     document_passed is =
-        let both = both_told (is_left_aside chosen domain) (is_voucher vouchers domain d) (sym told ∙ is) in
+        let both = both_stated (is_left_aside chosen domain) (is_voucher vouchers domain d) (sym stated ∙ is) in
         record { other = both.0; unnamed = λ named. both.1 ((set.exactly (record { 0 = doc_id_of domain d })).1 named) }
 
     pub document_shown : b ≡ false → IsPassedDocument m chosen domain d → ⊥
-    document_shown is passed = one_fails (is_left_aside chosen domain) (is_voucher vouchers domain d) (sym told ∙ is) passed.other
+    document_shown is passed = one_fails (is_left_aside chosen domain) (is_voucher vouchers domain d) (sym stated ∙ is) passed.other
         (λ named. passed.unnamed ((set.exactly (record { 0 = doc_id_of domain d })).0 named))
 
   -- the current document is one of them
@@ -150,16 +151,16 @@ module _ (m : Meaning) (chosen : Option (List ℕ)) (vouchers : BTreeSet DocId) 
       → ((a b : Option Bundle) → IsCurrent m domain a → IsCurrent m domain b → a ≡ b) → (other named result : Bool)
       → other ≡ is_left_aside chosen domain → named ≡ is_current_voucher vouchers domain current → result ≡ (other && not named)
       → (result ≡ true) ↔ IsPassedDomain m chosen domain
-  domain_passed domain current is one other named result told_other told_named told = (
+  domain_passed domain current is one other named result stated_other stated_named stated = (
     λ e.
-        let both = both_told other named (sym told ∙ e) in
+        let both = both_stated other named (sym stated ∙ e) in
         record {
-          other = sym told_other ∙ both.0;
+          other = sym stated_other ∙ both.0;
           unnamed = λ d is_d names.
-              both.1 (told_named ∙ ap (is_current_voucher vouchers domain) (one current (Some d) is is_d)
+              both.1 (stated_named ∙ ap (is_current_voucher vouchers domain) (one current (Some d) is is_d)
               ∙ (set.exactly (record { 0 = doc_id_of domain d })).1 names);
         },
-    λ passed. told ∙ both_tell other named (told_other ∙ passed.other)
-        (λ e. let found = current_named domain current (sym told_named ∙ e) in
+    λ passed. stated ∙ both_state_it other named (stated_other ∙ passed.other)
+        (λ e. let found = current_named domain current (sym stated_named ∙ e) in
         passed.unnamed found.0 (subst (IsCurrent m domain) found.1 is) found.2),
   )

@@ -22,7 +22,7 @@ unfoldable pub brought_members : Receipt → List ℕ
 brought_members r = number_member (codes ",\"sequence\":") r.document.rank
     ++ digest_member (codes ",\"document\":") (doc_id_of r.domain r.document)
 
--- from where, and by which key of which document
+-- from which endpoint, and by which key of which document
 unfoldable pub fetched_members : Receipt → List ℕ
 fetched_members r = string_member (codes ",\"endpoint\":") r.endpoint.text
     ++ (digest_member (codes ",\"key\":") r.key.0

@@ -36,7 +36,7 @@ abbrev pub brought_text : Receipt → List ℕ
 brought_text r = codes " sequence " ++ (number_or_none r.document.rank
     ++ (codes " document " ++ encode_lower (doc_id_of r.domain r.document)))
 
--- from where, and by which key of which document
+-- from which endpoint, and by which key of which document
 abbrev pub fetched_text : Receipt → List ℕ
 fetched_text r = codes " endpoint " ++ (r.endpoint.text
     ++ (codes " key " ++ (encode_lower r.key.0

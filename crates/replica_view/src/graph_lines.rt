@@ -55,7 +55,7 @@ pub(crate) fn configured_line(alloc: Global, seed: &Seed) -> Result<TextLine, Al
     Ok(TextLine::new(line))
 }
 
-/// The current document of the domain, whose border is bold, or a comment if there is none.
+/// The current document of the domain, whose border is bold, or a comment if it has none.
 pub(crate) fn current_line(
     alloc: Global,
     domain: &TrustDomain,

@@ -71,6 +71,6 @@ flat_items : (ws : List (List ℕ)) → items_depth (items_of (map string ws)) �
 flat_items [] = refl
 flat_items (w ∷ ws) = ap (λ n. max 0 n) (flat_items ws)
 
--- the same of the whole value
+-- the same for the whole value
 pub words_are_flat : (ws : List (List ℕ)) → depth (words_value ws) ≡ 1
 words_are_flat ws = ap suc (flat_items ws)

@@ -1,11 +1,12 @@
 //! The program `request_rows`: it reads rows from standard input, reads and writes the first lines
 //! of local requests and of replies, and prints what came of each.
 //!
-//! - `words = LINE`: the words of a request's first line, each on a line,
-//! - `line WORDS`: the first line of a request with these words,
+//! - `words = LINE`: the arguments of a request's first line, each on a line,
+//! - `line WORDS`: the first line of a request with these arguments,
 //! - `reply = LINE`: what a reply's first line says,
 //! - `head ERRORS OUTPUT STATUS`: the first line of a reply with these numbers,
-//! - `parts SIZE = BYTES`: the words and the input of a request that comes in pieces of this size,
+//! - `parts SIZE = BYTES`: the arguments and the input of a request that comes in pieces of this
+//!   size,
 //! - `fault NAME`: what is replied for an error,
 //! - `ask SIZE = BYTES`: what a request asks for that comes in pieces of this size,
 //! - `response STATUS TYPE METHOD = BODY`: a response,

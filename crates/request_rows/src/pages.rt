@@ -6,7 +6,7 @@ use health_pages::{
 use std::alloc::{AllocError, Global};
 use std::str;
 
-/// Takes the bytes in pieces of this many until there is a verdict, and tells that.
+/// Takes the bytes in pieces of this many until there is a verdict, and reports that.
 pub(crate) fn ask(
     alloc: Global,
     size: &str,

@@ -7,7 +7,7 @@ use std::str;
 /// The longest text that is printed.
 const MOST_SHOWN: usize = 100;
 
-/// Takes the bytes in pieces of this many, and tells the words and the input, or the error.
+/// Takes the bytes in pieces of this many, and reports the arguments and the input, or the error.
 pub(crate) fn take(
     alloc: Global,
     size: &str,
@@ -43,7 +43,7 @@ fn show_fault(fault: RequestFault, answer: &mut String) -> Result<(), AllocError
     write!(answer, "{fault:?}\n")
 }
 
-/// Tells the reply of an error, and whether its first line says how long the rest is.
+/// Reports the reply for an error, and whether its first line says how long the rest is.
 pub(crate) fn reply(alloc: Global, name: &str, answer: &mut String) -> Result<(), AllocError> {
     let Some(fault) = fault_of(name) else {
         return answer.push_str("unknown fault\n");

@@ -1,4 +1,4 @@
-//! The words of requests.
+//! The arguments of requests.
 use request_lines::{RequestError, read_request_words, write_request_words};
 use std::alloc::{AllocError, Global};
 

@@ -1,4 +1,4 @@
--- What work over the domains of a configuration comes to.
+-- The result of work over the domains of a configuration.
 use Rattle.std.proofs.Common.{◌≡◌, ℕ, List, [], ◌∷◌, ◌++◌, Option, Some, None}
 use Rattle.std.proofs.Common.{true, false, cond, refl, sym, ap, ◌∙◌, subst, arith, inl, inr, append-nil}
 use Rattle.std.proofs.lemmas.List.{map-append, flat_map_more}
@@ -99,7 +99,7 @@ refuses_none m allowed domain text current none is = record {
   now = sym (append-nil text);
 }
 
--- nor has one against whose current document nothing stands
+-- nor has one without a doubt about its current document
 pub refuses_sound : (m : Meaning) (allowed : Option (List ℕ)) (domain text : List ℕ) (current : Option Bundle) (d : Bundle)
     (doubt : Option SeedDoubt) → current ≡ Some d → IsCurrent m domain current → doubt ≡ None → IsDoubt m domain d doubt
     → AddsRefusal m allowed domain text text
@@ -114,10 +114,10 @@ refuses_sound m allowed domain text current d doubt some is none sound = record 
 pub refuses_allowed : (m : Meaning) (allowed : Option (List ℕ)) (domain text : List ℕ) (current : Option Bundle) (d : Bundle)
     (doubt : Option SeedDoubt) (why : SeedDoubt) → current ≡ Some d → IsCurrent m domain current → doubt ≡ Some why
     → IsDoubt m domain d doubt → is_allowed allowed domain ≡ true → AddsRefusal m allowed domain text text
-refuses_allowed m allowed domain text current d doubt why some is doubted stands passes = record {
+refuses_allowed m allowed domain text current d doubt why some is doubted placed passes = record {
   judged = record { domain = domain; current = Some d; doubt = Some why };
   domain_is = refl;
-  is = record { current = subst (IsCurrent m domain) some is; doubt = subst (IsDoubt m domain d) doubted stands };
+  is = record { current = subst (IsCurrent m domain) some is; doubt = subst (IsDoubt m domain d) doubted placed };
   now = sym (append-nil text) ∙ ap (λ b. text ++ cond b [] (refused_domain_line domain why)) (sym passes);
 }
 
@@ -126,9 +126,9 @@ pub refuses_line : (m : Meaning) (allowed : Option (List ℕ)) (domain old new :
     (doubt : Option SeedDoubt) (why : SeedDoubt) → current ≡ Some d → IsCurrent m domain current → doubt ≡ Some why
     → IsDoubt m domain d doubt → is_allowed allowed domain ≡ false → new ≡ old ++ refused_domain_line domain why
     → AddsRefusal m allowed domain old new
-refuses_line m allowed domain old new current d doubt why some is doubted stands stays now = record {
+refuses_line m allowed domain old new current d doubt why some is doubted placed stays now = record {
   judged = record { domain = domain; current = Some d; doubt = Some why };
   domain_is = refl;
-  is = record { current = subst (IsCurrent m domain) some is; doubt = subst (IsDoubt m domain d) doubted stands };
+  is = record { current = subst (IsCurrent m domain) some is; doubt = subst (IsDoubt m domain d) doubted placed };
   now = now ∙ ap (λ b. old ++ cond b [] (refused_domain_line domain why)) (sym stays);
 }

@@ -15,7 +15,7 @@ pub record HasSome {X : Type 0} (P : X → Type 0) (xs : List X) : Type 0 where
   pub has : Contains xs item
   pub is : P item
 
--- Where the first one does not have the property, some later one has it just where some one does.
+-- If the first one does not have the property, some later one has it exactly if some one does.
 pub passed_by : {X : Type 0} (P : X → Type 0) (all ahead rest : List X) (first : X) → ahead ≡ first ∷ rest → (P first → ⊥)
     → (HasSome P ahead ↔ HasSome P all) → HasSome P rest ↔ HasSome P all
 passed_by P all ahead rest first e other same = (
@@ -31,7 +31,7 @@ passed_by P all ahead rest first e other same = (
       ],
 )
 
--- Where the first one has the property, some one has it.
+-- If the first one has the property, some one has it.
 pub found_here : {X : Type 0} (P : X → Type 0) (all ahead rest : List X) (first : X) → ahead ≡ first ∷ rest → P first
     → (HasSome P ahead ↔ HasSome P all) → HasSome P all
 found_here P all ahead rest first e is same = same.0 (record {
@@ -40,7 +40,7 @@ found_here P all ahead rest first e is same = same.0 (record {
   is = is;
 })
 
--- Where none is left, none has it.
+-- If none is left, none has it.
 pub found_none : {X : Type 0} (P : X → Type 0) (all ahead : List X) → ahead ≡ [] → (HasSome P ahead ↔ HasSome P all) → HasSome P all → ⊥
 found_none P all ahead e same some = let one = same.1 some in contains_none one.item (subst (λ xs. Contains xs one.item) e one.has)
 
@@ -60,7 +60,7 @@ listed m domain d some = record { given = some.item; held = some.has; of_domain 
 pub listed_back : (m : Meaning) (domain : List ℕ) (d : Bundle) → ListsDistrusted m domain d → HasSome (IsListedRecord domain d) m.records
 listed_back m domain d lists = record { item = lists.given; has = lists.held; is = (lists.of_domain, lists.lists) }
 
--- a document with the same sequence number, or with none as this one, that is another one
+-- another document with the same sequence number, or with none as this one
 abbrev pub IsOther : Bundle → Bundle → Type 0
 IsOther d rival = (rival.rank ≡ d.rank) × (canonical_text rival ≢ canonical_text d)
 

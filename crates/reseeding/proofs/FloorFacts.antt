@@ -1,4 +1,4 @@
--- What the floors of the domains come to.
+-- The floors that the domains get.
 use Rattle.std.proofs.Common.{◌≡◌, ℕ, List, [], ◌∷◌, ◌++◌, Option, Some, None}
 use Rattle.std.proofs.Common.{refl, sym, ap, ◌∙◌, subst, arith, inl, inr, append-nil}
 use Rattle.std.proofs.lemmas.List.{map-append, flat_map_more}

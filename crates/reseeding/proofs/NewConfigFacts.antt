@@ -29,7 +29,7 @@ use Rattle.reseeding.proofs.StayFacts.{floor_of_some, floor_there, of_part, part
 
 -- ---- what is accepted
 
--- a chain ends where it begins, or with a receipt
+-- the end of a chain is its beginning, or the pair of a receipt
 last_of : (c : Configuration) (records : List Distrust) (held : List Receipt) (from : Pair) (chain : List Receipt) (to : Pair)
     → AllByRecursion (Contains held) chain → Leads c records from chain to
     → (from ≡ to) ⊎ ((r : Receipt) × Contains held r × IsFitting c r × (pair_of r ≡ to))
@@ -99,7 +99,7 @@ no_lower m c valid is new f has =
 
 -- ---- lists made of parts
 
--- the parts of a rising list, each of which rises, rise as one
+-- the parts of a sorted list, if each is sorted, are sorted together
 rising_parts : {X Y : Type 0} (key : X → List ℕ) (parts : X → List Y) (cmp : Y → Y → Ordering) → ((x : X) → IsStrictlySortedBy cmp (parts x))
     → ((x z : X) (a b : Y) → domain_cmp (key x) (key z) ≡ Less → Contains (parts x) a → Contains (parts z) b → cmp a b ≡ Less)
     → (xs : List X) → IsStrictlySortedBy domain_cmp (map key xs) → IsStrictlySortedBy cmp (flat_map parts xs)

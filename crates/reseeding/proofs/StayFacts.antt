@@ -1,4 +1,4 @@
--- Which receipts stay under a new configuration, and how many.
+-- Which receipts remain under a new configuration, and how many.
 use Rattle.std.proofs.Common.{◌≡◌, ◌⊎◌, ◌↔◌, ℕ, ◌+◌, ◌≤◌, List, [], ◌∷◌, length, map, flat_map, Bool, true, false}
 use Rattle.std.proofs.Common.{Option, Some, None, Less, Equal, Greater, IsTrue, refl, sym, ap, ◌∙◌, subst, arith, inl, inr}
 use Rattle.std.specs.declared.cmp.Ordering.{Ordering}
@@ -14,7 +14,7 @@ use Rattle.fed_config.specs.declared.floor.Floor.{Floor}
 use Rattle.receipt_core.specs.Acceptance.{IsFitting, IsMeaning, Meaning}
 use Rattle.receipt_core.specs.Order.{receipt_total}
 use Rattle.receipt_core.specs.Receipt.{Receipt, receipt_cmp}
-use Rattle.receipt_core.proofs.ChainFacts.{not_told}
+use Rattle.receipt_core.proofs.ChainFacts.{not_stated}
 use Rattle.receipt_core.proofs.OrderFacts.{equal_bytes}
 use Rattle.closure_core.specs.AcceptedList.{document_cmp}
 use Rattle.closure_core.specs.Count.{AreDifferent}
@@ -27,7 +27,7 @@ use Rattle.reseeding.specs.declared.new_floors.FloorChoice.TheVariants.{Kept, Ra
 
 -- ---- a domain gets one floor
 
--- two orders in turn tie only where the first does
+-- two orders in turn tie only if the first does
 first_tied : (a b : Ordering) → ordering_then a b ≡ Equal → a ≡ Equal
 first_tied Less b h = absurd (cc)
 first_tied Equal b h = refl
@@ -110,7 +110,8 @@ floor_of_some domain floor n some =
     subst (λ (x : Option ℕ). Contains (floor_of domain x) (record { domain = domain; sequence = n })) (sym some)
     (contains_first (record { domain = domain; sequence = n }) [])
 
--- Under a new configuration with raised floors a document reaches its domain's floor, if it reaches the one that the domain gets.
+-- Under a new configuration with raised floors a document reaches its domain's floor, if it reaches
+-- the one that the domain gets.
 pub reaches_new : (m : Meaning) (c : Configuration) (domain : List ℕ) (document : Bundle) (floor : Option ℕ) → IsNewConfig Raised m c
     → IsRaised m (record { domain = domain; floor = floor }) → ((n : ℕ) → floor ≡ Some n → Reaches n document) → ReachesFloor c domain document
 reaches_new m c domain document floor new raised reaches f has same =
@@ -141,9 +142,9 @@ pub reaches_none : (d : Bundle) (floor : Option ℕ) → floor ≡ None → IsTr
 reaches_none d floor none = (λ _ n some. absurd (let wrong : None ≡ Some n = sym none ∙ some in cc), λ _. refl)
 
 -- one with a number reaches it if that is not lower
-pub reaches_some : (d : Bundle) (floor : Option ℕ) (f k : ℕ) (told : Bool) → floor ≡ Some f → d.rank ≡ Some k → (IsTrue told ↔ (f ≤ k))
-    → IsTrue told ↔ ((n : ℕ) → floor ≡ Some n → Reaches n d)
-reaches_some d floor f k told some ranked is = (
+pub reaches_some : (d : Bundle) (floor : Option ℕ) (f k : ℕ) (stated : Bool) → floor ≡ Some f → d.rank ≡ Some k → (IsTrue stated ↔ (f ≤ k))
+    → IsTrue stated ↔ ((n : ℕ) → floor ≡ Some n → Reaches n d)
+reaches_some d floor f k stated some ranked is = (
   λ t n same. (k, ranked, let e : n ≡ f = cc in let low = is.0 t in omega (arith, e, low)),
   λ reaches.
       let (n, numbered, low) = reaches f some in
@@ -163,7 +164,8 @@ reaches_unnumbered d floor f some unranked = (
 fitting_known : (m : Meaning) (domains : List (List ℕ)) (r : Receipt) → AreDomains m.config domains → IsFitting m.config r → Contains domains r.domain
 fitting_known m domains r are fits = are.complete r.domain (inl (fits.relationship, fits.has, fits.domain))
 
--- a receipt that fits stays under a new configuration, if its document reaches its domain's floor there
+-- a receipt that fits remains under a new configuration, if its document reaches its domain's
+-- floor there
 still_fits : (m : Meaning) (c : Configuration) (r : Receipt) → c.relationships ≡ m.config.relationships → ReachesFloor c r.domain r.document
     → IsFitting m.config r → IsFitting c r
 still_fits m c r same reaches fits = record {
@@ -174,26 +176,26 @@ still_fits m c r same reaches fits = record {
   reaches = reaches;
 }
 
--- With raised floors it stays exactly if it reaches the floor that its domain gets.
-stays_raised : (m : Meaning) (r : Receipt) (floor : Option ℕ) (told : Bool) → IsRaised m (record { domain = r.domain; floor = floor })
-    → (IsTrue told ↔ ((n : ℕ) → floor ≡ Some n → Reaches n r.document)) → (c : Configuration) → IsNewConfig Raised m c → IsFitting m.config r
-    → IsTrue told ↔ IsFitting c r
-stays_raised m r floor told raised is c new fits = (
+-- With raised floors it remains exactly if it reaches the floor that its domain gets.
+stays_raised : (m : Meaning) (r : Receipt) (floor : Option ℕ) (stated : Bool) → IsRaised m (record { domain = r.domain; floor = floor })
+    → (IsTrue stated ↔ ((n : ℕ) → floor ≡ Some n → Reaches n r.document)) → (c : Configuration) → IsNewConfig Raised m c → IsFitting m.config r
+    → IsTrue stated ↔ IsFitting c r
+stays_raised m r floor stated raised is c new fits = (
   λ t. still_fits m c r new.relationships (reaches_new m c r.domain r.document floor new raised (is.0 t)) fits,
   λ fit. is.1 (new_reaches m c r.domain r.document floor new raised (fitting_known m _ r new.floors.domains fits) fit.reaches),
 )
 
--- the same of the domain and the document that it lends
-pub stays_lent : (m : Meaning) (r : Receipt) (domain : List ℕ) (document : Bundle) (floor : Option ℕ) (told : Bool) → domain ≡ r.domain
+-- the same for the domain and the document that it lends
+pub stays_lent : (m : Meaning) (r : Receipt) (domain : List ℕ) (document : Bundle) (floor : Option ℕ) (stated : Bool) → domain ≡ r.domain
     → document ≡ r.document → IsRaised m (record { domain = domain; floor = floor })
-    → (IsTrue told ↔ ((n : ℕ) → floor ≡ Some n → Reaches n document)) → (c : Configuration) → IsNewConfig Raised m c → IsFitting m.config r
-    → IsTrue told ↔ IsFitting c r
-stays_lent m r domain document floor told same is raised tells =
-    stays_raised m r floor told
+    → (IsTrue stated ↔ ((n : ℕ) → floor ≡ Some n → Reaches n document)) → (c : Configuration) → IsNewConfig Raised m c → IsFitting m.config r
+    → IsTrue stated ↔ IsFitting c r
+stays_lent m r domain document floor stated same is raised reports =
+    stays_raised m r floor stated
     (subst (λ (name : List ℕ). IsRaised m (record { domain = name; floor = floor })) same raised)
-    (subst (λ (d : Bundle). IsTrue told ↔ ((n : ℕ) → floor ≡ Some n → Reaches n d)) is tells)
+    (subst (λ (d : Bundle). IsTrue stated ↔ ((n : ℕ) → floor ≡ Some n → Reaches n d)) is reports)
 
--- With the floors that are kept it stays.
+-- With the floors that are kept it remains.
 stays_kept : (m : Meaning) (c : Configuration) (r : Receipt) → IsNewConfig Kept m c → IsFitting m.config r → IsFitting c r
 stays_kept m c r new fits =
     still_fits m c r new.relationships (λ f has. fits.reaches f (subst (λ (fs : List Floor). Contains fs f) new.floors has)) fits
@@ -268,7 +270,7 @@ picks P (x ∷ xs) n different (inr (k, is, holds, rest)) =
       count = let size : length (x ∷ others.items) ≡ length others.items + 1 = omega arith in omega (arith, size, count, is);
     }
 
--- a rising list has no item twice
+-- a sorted list has no item twice
 rising_different : {T : Type 0} (cmp : T → T → Ordering) → IsTotalOrder cmp → (xs : List T) → IsStrictlySortedBy cmp xs → AreDifferent xs
 rising_different cmp total [] rising = tt
 rising_different cmp total (x ∷ xs) rising = (
@@ -276,7 +278,7 @@ rising_different cmp total (x ∷ xs) rising = (
   rising_different cmp total xs (rising_rest cmp x xs rising),
 )
 
--- what was counted is how many stay
+-- what was counted is how many remain
 pub stay_count : (m : Meaning) (c : Configuration) (n : ℕ) → IsMeaning m → Counts (IsFitting c) m.held n → IsStayCount m c n
 stay_count m c n valid counted =
     let stay = picks (IsFitting c) m.held n (rising_different receipt_cmp receipt_total m.held valid.rising) counted in
@@ -307,9 +309,9 @@ pub record StaySoFar (m : Meaning) (all rest : List Receipt) (n : ℕ) : Type 0 
   pub size : n + length rest ≤ length all
   pub counted : (c : Configuration) → IsNewConfig Raised m c → (k : ℕ) → Counts (IsFitting c) rest k → Counts (IsFitting c) all (n + k)
 
--- what is told of a receipt
-abbrev pub TellsStay : Meaning → Receipt → Bool → Type 0
-TellsStay m r told = (c : Configuration) → IsNewConfig Raised m c → IsFitting m.config r → IsTrue told ↔ IsFitting c r
+-- what is said of a receipt
+abbrev pub ReportsStay : Meaning → Receipt → Bool → Type 0
+ReportsStay m r stated = (c : Configuration) → IsNewConfig Raised m c → IsFitting m.config r → IsTrue stated ↔ IsFitting c r
 
 pub stay_none : (m : Meaning) (all : List Receipt) → AllByRecursion (IsFitting m.config) all → StaySoFar m all all 0
 stay_none m all fitting = record {
@@ -318,34 +320,34 @@ stay_none m all fitting = record {
   counted = λ c new k counts. subst (Counts (IsFitting c) all) (omega arith) counts;
 }
 
-stay_passed_at : (m : Meaning) (all : List Receipt) (r : Receipt) (later : List Receipt) (n : ℕ) → TellsStay m r false
+stay_passed_at : (m : Meaning) (all : List Receipt) (r : Receipt) (later : List Receipt) (n : ℕ) → ReportsStay m r false
     → StaySoFar m all (r ∷ later) n → StaySoFar m all later n
-stay_passed_at m all r later n told so_far = record {
+stay_passed_at m all r later n stated so_far = record {
   fitting = so_far.fitting.1;
   size = let size = so_far.size in let one : length (r ∷ later) ≡ length later + 1 = omega arith in omega (arith, size, one);
-  counted = λ c new k counts. so_far.counted c new k (inl (λ fits. not_told (IsFitting c r) false (told c new so_far.fitting.0) refl fits, counts));
+  counted = λ c new k counts. so_far.counted c new k (inl (λ fits. not_stated (IsFitting c r) false (stated c new so_far.fitting.0) refl fits, counts));
 }
 
-stay_more_at : (m : Meaning) (all : List Receipt) (r : Receipt) (later : List Receipt) (n : ℕ) → TellsStay m r true
+stay_more_at : (m : Meaning) (all : List Receipt) (r : Receipt) (later : List Receipt) (n : ℕ) → ReportsStay m r true
     → StaySoFar m all (r ∷ later) n → StaySoFar m all later (n + 1)
-stay_more_at m all r later n told so_far = record {
+stay_more_at m all r later n stated so_far = record {
   fitting = so_far.fitting.1;
   size = let size = so_far.size in let one : length (r ∷ later) ≡ length later + 1 = omega arith in omega (arith, size, one);
   counted = λ c new k counts. subst (Counts (IsFitting c) all) (omega arith)
-      (so_far.counted c new (k + 1) (inr (k, refl, (told c new so_far.fitting.0).0 refl, counts)));
+      (so_far.counted c new (k + 1) (inr (k, refl, (stated c new so_far.fitting.0).0 refl, counts)));
 }
 
--- one more receipt that does not stay
-pub stay_passed : (m : Meaning) (all rest : List Receipt) (r : Receipt) (later : List Receipt) (n : ℕ) (told : Bool) → rest ≡ r ∷ later
-    → TellsStay m r told → told ≡ false → StaySoFar m all rest n → StaySoFar m all later n
-stay_passed m all rest r later n told cut tells not so_far =
-    stay_passed_at m all r later n (subst (TellsStay m r) not tells) (subst (λ (rs : List Receipt). StaySoFar m all rs n) cut so_far)
+-- one more receipt that does not remain
+pub stay_passed : (m : Meaning) (all rest : List Receipt) (r : Receipt) (later : List Receipt) (n : ℕ) (stated : Bool) → rest ≡ r ∷ later
+    → ReportsStay m r stated → stated ≡ false → StaySoFar m all rest n → StaySoFar m all later n
+stay_passed m all rest r later n stated cut reports not so_far =
+    stay_passed_at m all r later n (subst (ReportsStay m r) not reports) (subst (λ (rs : List Receipt). StaySoFar m all rs n) cut so_far)
 
--- one more that stays
-pub stay_more : (m : Meaning) (all rest : List Receipt) (r : Receipt) (later : List Receipt) (n : ℕ) (told : Bool) → rest ≡ r ∷ later
-    → TellsStay m r told → told ≡ true → StaySoFar m all rest n → StaySoFar m all later (n + 1)
-stay_more m all rest r later n told cut tells is so_far =
-    stay_more_at m all r later n (subst (TellsStay m r) is tells) (subst (λ (rs : List Receipt). StaySoFar m all rs n) cut so_far)
+-- one more that remains
+pub stay_more : (m : Meaning) (all rest : List Receipt) (r : Receipt) (later : List Receipt) (n : ℕ) (stated : Bool) → rest ≡ r ∷ later
+    → ReportsStay m r stated → stated ≡ true → StaySoFar m all rest n → StaySoFar m all later (n + 1)
+stay_more m all rest r later n stated cut reports is so_far =
+    stay_more_at m all r later n (subst (ReportsStay m r) is reports) (subst (λ (rs : List Receipt). StaySoFar m all rs n) cut so_far)
 
 -- there is room for one more
 pub stay_room : (m : Meaning) (all rest : List Receipt) (r : Receipt) (later : List Receipt) (n : ℕ) → rest ≡ r ∷ later

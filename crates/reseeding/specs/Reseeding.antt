@@ -17,10 +17,10 @@ use Rattle.reseeding.specs.declared.doubt.SeedDoubt.TheVariants.{DistrustedKey, 
 use Rattle.reseeding.specs.declared.doubt.SeedDoubt.TheVariants.{Unnumbered}
 use Rattle.reseeding.specs.declared.new_floors.FloorChoice.{FloorChoice}
 use Rattle.reseeding.specs.declared.new_floors.FloorChoice.TheVariants.{Kept, Raised}
-use Rattle.reseeding.specs.declared.starting_anew.Reseeded.{Reseeded}
-use Rattle.reseeding.specs.declared.starting_anew.Reseeded.TheVariants.{Refusals, Seeded}
+use Rattle.reseeding.specs.declared.new_start.Reseeded.{Reseeded}
+use Rattle.reseeding.specs.declared.new_start.Reseeded.TheVariants.{Refusals, Seeded}
 
--- ---- what stands against a document as a seed
+-- ---- the doubt about a document as a seed
 
 -- A key is distrusted in the domain, and an X.509 authority of the document has it.
 pub record ListsDistrusted (m : Meaning) (domain : List ℕ) (d : Bundle) : Type 0 where
@@ -30,14 +30,14 @@ pub record ListsDistrusted (m : Meaning) (domain : List ℕ) (d : Bundle) : Type
   pub lists : HasKeyId d.authorities given.key
 
 -- Another accepted document of the domain has the same sequence number, or has none as this one:
--- which of them is current is decided by their texts alone.
+-- only their texts decide which of them is current.
 pub record HasRival (m : Meaning) (domain : List ℕ) (d : Bundle) : Type 0 where
   pub rival : Bundle
   pub accepted : IsMember m (document_of domain rival)
   pub same : rival.rank ≡ d.rank
   pub other : canonical_text rival ≢ canonical_text d
 
--- what stands against the document: a distrusted key is named before a rival
+-- the doubt about the document: a distrusted key is named before a rival
 abbrev pub IsDoubt : Meaning → List ℕ → Bundle → Option SeedDoubt → Type 0
 IsDoubt m domain d None = (ListsDistrusted m domain d → ⊥) × (HasRival m domain d → ⊥)
 IsDoubt m domain d (Some DistrustedKey) = ListsDistrusted m domain d
@@ -46,7 +46,7 @@ IsDoubt m domain d (Some Rival) = (ListsDistrusted m domain d → ⊥) × HasRiv
 IsDoubt m domain d (Some Unnumbered) = (ListsDistrusted m domain d → ⊥) × HasRival m domain d
     × (d.rank ≡ None)
 
--- the same of a domain's current document, where there is one
+-- the same for a domain's current document, if there is one
 abbrev pub IsDoubtOf : Meaning → List ℕ → Option Bundle → Option SeedDoubt → Type 0
 IsDoubtOf m domain None why = why ≡ None
 IsDoubtOf m domain (Some d) why = IsDoubt m domain d why
@@ -58,7 +58,7 @@ doubt_text DistrustedKey = codes ": the current bundle lists a distrusted key\n"
 doubt_text Rival = codes ": another bundle has the current one's sequence\n"
 doubt_text Unnumbered = codes ": another bundle has no sequence either\n"
 
--- the domain that is allowed, whatever stands against it, if one is
+-- whether the domain is the one that is allowed in spite of a doubt, if one is
 abbrev pub is_allowed : Option (List ℕ) → List ℕ → Bool
 is_allowed None domain = false
 is_allowed (Some allowed) domain = bytes_eq allowed domain
@@ -72,7 +72,7 @@ refusal_of allowed domain None = []
 refusal_of allowed domain (Some why) =
     cond (is_allowed allowed domain) [] (refused_domain_line domain why)
 
--- a domain, its current document and what stands against that
+-- a domain, its current document and the doubt about that
 pub record JudgedDomain : Type 0 where
   pub domain : List ℕ
   pub current : Option Bundle
@@ -85,8 +85,8 @@ pub record IsJudged (m : Meaning) (judged : JudgedDomain) : Type 0 where
 abbrev pub refusal_line : Option (List ℕ) → JudgedDomain → List ℕ
 refusal_line allowed judged = refusal_of allowed judged.domain judged.doubt
 
--- a line for each domain of the configuration against whose current document something stands, but
--- for the allowed one, rising
+-- a line for each domain of the configuration with a doubt about its current document, except the
+-- allowed one, sorted
 pub record IsRefusalText (m : Meaning) (allowed : Option (List ℕ)) (text : List ℕ) : Type 0 where
   pub judged : List JudgedDomain
   pub domains : AreDomains m.config (map (λ s. s.domain) judged)
@@ -107,7 +107,7 @@ pub record SeededDomain : Type 0 where
 abbrev pub seed_in : SeededDomain → List Seed
 seed_in s = seed_of s.domain s.current
 
--- the current document of each domain of the configuration that has one, rising
+-- the current document of each domain of the configuration that has one, sorted
 pub record AreCurrentSeeds (m : Meaning) (seeds : List Seed) : Type 0 where
   pub seeded : List SeededDomain
   pub domains : AreDomains m.config (map (λ s. s.domain) seeded)

@@ -1,4 +1,4 @@
-//! What stands against a domain's current document as a seed.
+//! The doubt about a domain's current document as a seed.
 ghost use Rattle.std.specs.Prelude.{◌≡◌, ◌≢◌, ◌↔◌, IsTrue};
 ghost use Rattle.bundle_doc.specs.Bundle.{HasKeyId, canonical_text};
 ghost use Rattle.reseeding.specs.Reseeding.{HasRival, IsDoubt, ListsDistrusted};
@@ -8,7 +8,7 @@ use closure_core::Closure;
 use jwk_set::KeyId;
 use spiffe_name::TrustDomain;
 
-/// What stands against a domain's current document as a seed.
+/// The doubt about a domain's current document as a seed.
 #[derive(Clone, Copy, Debug, PartialEq, Eq)]
 pub enum SeedDoubt {
     /// It lists a key that is distrusted in the domain.
@@ -19,7 +19,7 @@ pub enum SeedDoubt {
     Unnumbered,
 }
 
-/// What stands against the document, which is a domain's current one.
+/// The doubt about the document, which is a domain's current one.
 pub(crate) fn doubt_of<C: Closure>(
     closure: &C,
     domain: &TrustDomain,

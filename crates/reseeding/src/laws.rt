@@ -1,4 +1,4 @@
-//! What follows from the definitions alone. No call does any work.
+//! What follows only from the definitions. No call does any work.
 ghost use Rattle.std.specs.Prelude.{◌≡◌, ◌≤◌, Contains};
 ghost use Rattle.fed_config.specs.Configuration.{Configuration, IsConfiguration};
 ghost use Rattle.fed_config.specs.declared.floor.Floor.{Floor};

@@ -1,15 +1,15 @@
-//! A start anew: the configuration whose seeds are the current documents, and what stands against
-//! one of them as a seed. It knows closures by their trait alone.
+//! A new start: the configuration whose seeds are the current documents, and the doubt about one of
+//! them as a seed. It knows closures only by their trait.
 #![tactic(auto)]
 
 mod doubt;
 pub mod laws;
 mod new_floors;
+mod new_start;
 mod refusals;
 mod seed_choice;
-mod starting_anew;
 mod staying;
 
 pub use doubt::SeedDoubt;
 pub use new_floors::FloorChoice;
-pub use starting_anew::{NewConfig, Reseeded, reseed};
+pub use new_start::{NewConfig, Reseeded, reseed};

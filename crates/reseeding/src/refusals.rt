@@ -10,7 +10,7 @@ use closure_core::Closure;
 use spiffe_name::TrustDomain;
 use std::alloc::{AllocError, Global};
 
-/// A line for each domain that is refused, rising.
+/// A line for each domain that is refused, sorted.
 pub(crate) fn refusal_text<C: Closure>(
     alloc: Global,
     closure: &C,

@@ -9,7 +9,7 @@ use fed_config::Seed;
 use spiffe_name::TrustDomain;
 use std::alloc::{AllocError, Global};
 
-/// The current document of each domain that has one, rising by domain.
+/// The current document of each domain that has one, sorted by domain.
 pub(crate) fn current_seeds<C: Closure>(alloc: Global, closure: &C) -> Result<Vec<Seed>, AllocError>
     ensures { IfOk result (λ seeds. AreCurrentSeeds (C.state closure.now).meaning seeds.items) }
 {

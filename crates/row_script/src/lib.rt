@@ -2,7 +2,7 @@
 //!
 //! A script is UTF-8 text, a row a line. An empty line, and one that begins with `#`, is passed
 //! over. `text NAME = TEMPLATE` defines a text. Any other line is a row: `HEAD`, or
-//! `HEAD = TEMPLATE`. Its head is a verb and words with one space between them.
+//! `HEAD = TEMPLATE`. Its head is a verb and arguments with one space between them.
 //!
 //! A template is literal text to the end of the line, in which these are replaced by other bytes:
 //!

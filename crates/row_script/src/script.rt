@@ -20,7 +20,7 @@ struct NamedText {
 pub struct Row<'a> {
     /// The line as it is in the script.
     pub line: &'a str,
-    /// The first word of its head.
+    /// Its head up to the first space.
     pub verb: &'a str,
     /// The rest of its head, after the first space.
     pub words: &'a str,
@@ -106,7 +106,7 @@ fn split_line(line: &str) -> (&str, &str) {
     }
 }
 
-// The first word, and what comes after the space after it.
+// What comes before the first space, and what comes after it.
 fn split_word(head: &str) -> (&str, &str) {
     head.split_once(' ').unwrap_or((head, ""))
 }

@@ -7,7 +7,7 @@ use Rattle.std.proofs.lemmas.List.Sums.{fold-append}
 use Rattle.std.proofs.lemmas.List.Elements.{Contains-append_left}
 use Rattle.fed_config.specs.Configuration.{IsConfiguration}
 use Rattle.byte_lines.specs.Lines.{HasNoFeed, Lines, lines_of}
-use Rattle.byte_lines.specs.Inside.Ahead.{IsFeed}
+use Rattle.byte_lines.specs.Ahead.{IsFeed}
 use Rattle.byte_lines.proofs.StreamFacts.{lines_of-line, lines_of-rest}
 use Rattle.receipt_core.specs.declared.distrust.Distrust.{Distrust}
 use Rattle.receipt_core.specs.Receipt.{Receipt}

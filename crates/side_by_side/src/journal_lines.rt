@@ -1,7 +1,7 @@
 //! Bytes, line by line.
 ghost use Rattle.std.specs.Prelude.{MatchOption};
 ghost use Rattle.byte_lines.specs.Lines.{HasNoFeed};
-ghost use Rattle.byte_lines.specs.Inside.Ahead.{AtFeed};
+ghost use Rattle.byte_lines.specs.Ahead.{AtFeed};
 ghost use Rattle.side_by_side.specs.Inside.Steps.{IsFirstLine};
 
 use memchr::memchr;

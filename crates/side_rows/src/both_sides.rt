@@ -1,6 +1,6 @@
 //! Both sides of a replica that is between two configurations.
 use crate::held::{closure_at, show, show_held};
-use crate::offers::tell_offered;
+use crate::offers::print_offered;
 use crate::row_call::RowCall;
 use crate::stop::Stop;
 use closure_core::Closure;
@@ -23,7 +23,7 @@ fn previous_at<C: Closure>(row: RowCall<'_>, place: usize) -> Result<Option<C>, 
 }
 
 /// Says which side the digest of the first argument names, and what is held under it.
-pub(crate) fn tell_side<C: Closure>(row: RowCall<'_>, text: &mut String) -> Result<(), Stop> {
+pub(crate) fn print_side<C: Closure>(row: RowCall<'_>, text: &mut String) -> Result<(), Stop> {
     let digest = digest_of(row.named(0)?)?;
     let sides: Sides<C> = sides_at(row, 1)?;
     text.push_str(match sides.side_of(digest) {
@@ -43,28 +43,28 @@ fn digest_of(digits: &[u8]) -> Result<ConfigId, Stop> {
 }
 
 /// Passes on the lines of the row's text from the side of the first argument, and again.
-pub(crate) fn tell_passed<C: Closure>(row: RowCall<'_>, text: &mut String) -> Result<(), Stop> {
+pub(crate) fn print_passed<C: Closure>(row: RowCall<'_>, text: &mut String) -> Result<(), Stop> {
     let from = side_of(row.argument(0)?)?;
     let mut sides: Sides<C> = sides_at(row, 1)?;
     let mut journal = Vec::new(row.alloc);
     let offered = sides.pass_on(row.alloc, from, row.text, &mut journal)?;
-    tell_offered("passed on", offered, text)?;
+    print_offered("passed on", offered, text)?;
     let offered = sides.pass_on(row.alloc, from, row.text, &mut journal)?;
-    tell_offered("again", offered, text)?;
+    print_offered("again", offered, text)?;
     text.push_str("journal\n")?;
     show(row, &journal, text)?;
     show_sides(row, &sides, text)
 }
 
 /// Shares all that the side of the first argument holds with the other side, and again.
-pub(crate) fn tell_shared<C: Closure>(row: RowCall<'_>, text: &mut String) -> Result<(), Stop> {
+pub(crate) fn print_shared<C: Closure>(row: RowCall<'_>, text: &mut String) -> Result<(), Stop> {
     let from = side_of(row.argument(0)?)?;
     let mut sides: Sides<C> = sides_at(row, 1)?;
     let mut journal = Vec::new(row.alloc);
     let offered = sides.share(row.alloc, from, &mut journal)?;
-    tell_offered("shared", offered, text)?;
+    print_offered("shared", offered, text)?;
     let offered = sides.share(row.alloc, from, &mut journal)?;
-    tell_offered("again", offered, text)?;
+    print_offered("again", offered, text)?;
     text.push_str("journal\n")?;
     show(row, &journal, text)?;
     show_sides(row, &sides, text)

@@ -40,7 +40,7 @@ impl Rows for SideRows {
             arguments: row.words,
             text: row.text.as_slice(),
         };
-        match tell_all(call, answer) {
+        match print_all(call, answer) {
             Ok(()) => Ok(()),
             Err(Stop::NoMemory) => Err(AllocError),
             Err(stop) => writeln!(answer, "{stop}"),
@@ -49,7 +49,7 @@ impl Rows for SideRows {
 }
 
 // Runs the row over each kind of closure.
-fn tell_all(row: RowCall<'_>, answer: &mut String) -> Result<(), Stop> {
+fn print_all(row: RowCall<'_>, answer: &mut String) -> Result<(), Stop> {
     let mut answers = Answers::new(row.alloc);
     add::<IndexedClosure>(row, "indexed", &mut answers)?;
     add::<ExchangeClosure>(row, "exchange", &mut answers)?;
@@ -59,17 +59,17 @@ fn tell_all(row: RowCall<'_>, answer: &mut String) -> Result<(), Stop> {
 
 fn add<C: Closure>(row: RowCall<'_>, setting: &str, answers: &mut Answers) -> Result<(), Stop> {
     let mut text = String::new(row.alloc);
-    tell::<C>(row, &mut text)?;
+    print_out::<C>(row, &mut text)?;
     Ok(answers.add(setting, text.as_str())?)
 }
 
-fn tell<C: Closure>(row: RowCall<'_>, text: &mut String) -> Result<(), Stop> {
+fn print_out<C: Closure>(row: RowCall<'_>, text: &mut String) -> Result<(), Stop> {
     match row.call {
-        "offer_lines" => offers::tell_lines::<C>(row, text),
-        "offer_held" => offers::tell_held::<C>(row, text),
-        "side_of" => both_sides::tell_side::<C>(row, text),
-        "pass_on" => both_sides::tell_passed::<C>(row, text),
-        "share" => both_sides::tell_shared::<C>(row, text),
+        "offer_lines" => offers::print_lines::<C>(row, text),
+        "offer_held" => offers::print_held::<C>(row, text),
+        "side_of" => both_sides::print_side::<C>(row, text),
+        "pass_on" => both_sides::print_passed::<C>(row, text),
+        "share" => both_sides::print_shared::<C>(row, text),
         _ => Err(Stop::Verb),
     }
 }

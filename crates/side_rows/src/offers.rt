@@ -8,30 +8,30 @@ use std::alloc::AllocError;
 
 /// Offers the lines of the row's text, and the same lines again, to a closure of the configuration
 /// of the first argument, which was given the lines of the second. Its journal begins with these.
-pub(crate) fn tell_lines<C: Closure>(row: RowCall<'_>, text: &mut String) -> Result<(), Stop> {
+pub(crate) fn print_lines<C: Closure>(row: RowCall<'_>, text: &mut String) -> Result<(), Stop> {
     let mut to: C = closure_at(row, 0)?;
     let mut journal = Vec::from_slice(row.alloc, row.named(1)?)?;
     let offered = offer_lines(row.alloc, row.text, &mut to, &mut journal)?;
-    tell_offered("offered", offered, text)?;
+    print_offered("offered", offered, text)?;
     let offered = offer_lines(row.alloc, row.text, &mut to, &mut journal)?;
-    tell_offered("again", offered, text)?;
-    tell_end(row, &to, &journal, text)
+    print_offered("again", offered, text)?;
+    print_end(row, &to, &journal, text)
 }
 
 /// Offers all that a closure holds, and the same again, to another one. Two arguments say what the
 /// first closure was given, and two what the other one was.
-pub(crate) fn tell_held<C: Closure>(row: RowCall<'_>, text: &mut String) -> Result<(), Stop> {
+pub(crate) fn print_held<C: Closure>(row: RowCall<'_>, text: &mut String) -> Result<(), Stop> {
     let from: C = closure_at(row, 0)?;
     let mut to: C = closure_at(row, 2)?;
     let mut journal = Vec::from_slice(row.alloc, row.named(3)?)?;
     let offered = offer_held(row.alloc, &from, &mut to, &mut journal)?;
-    tell_offered("offered", offered, text)?;
+    print_offered("offered", offered, text)?;
     let offered = offer_held(row.alloc, &from, &mut to, &mut journal)?;
-    tell_offered("again", offered, text)?;
-    tell_end(row, &to, &journal, text)
+    print_offered("again", offered, text)?;
+    print_end(row, &to, &journal, text)
 }
 
-fn tell_end<C: Closure>(
+fn print_end<C: Closure>(
     row: RowCall<'_>,
     to: &C,
     journal: &[u8],
@@ -44,7 +44,7 @@ fn tell_end<C: Closure>(
 }
 
 /// Says how many lines were offered, by what came of them.
-pub(crate) fn tell_offered(
+pub(crate) fn print_offered(
     when: &str,
     offered: Offered,
     text: &mut String,

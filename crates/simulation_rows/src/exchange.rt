@@ -47,7 +47,7 @@ impl Exchange {
         self.bucket >= 256
     }
 
-    /// A have has come to a replica that holds this. False if none was sent.
+    /// A have has reached a replica that holds this. False if none was sent.
     pub(crate) fn ask(&mut self, universe: &Universe, answerer: Held, sight: Sight) -> bool {
         if self.coming.is_some() {
             return false;

@@ -49,7 +49,7 @@ impl Rows for SimulationRows {
         row: &Row<'_>,
         answer: &mut String,
     ) -> Result<(), AllocError> {
-        match rows::tell(self.alloc, row.verb, row.words, answer) {
+        match rows::print_out(self.alloc, row.verb, row.words, answer) {
             Ok(()) => Ok(()),
             Err(Stop::NoMemory) => Err(AllocError),
             Err(stop) => writeln!(answer, "{stop}"),

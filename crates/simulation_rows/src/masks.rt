@@ -1,4 +1,4 @@
-//! Sets of small numbers, as the bits of a word.
+//! Sets of small numbers, as the bits of a `u64`.
 
 /// The set that has only this number; no number above 63 is in a set.
 pub(crate) fn only(number: usize) -> u64 {

@@ -3,7 +3,7 @@ use crate::chance::Chance;
 use crate::corpus::{Corpus, make_corpus};
 use crate::fleet::Setting;
 use crate::model::Sight;
-use crate::scale::{tell_agreement, tell_scale};
+use crate::scale::{print_agreement, print_scale};
 use crate::search::{Failed, search};
 use crate::stop::Stop;
 use crate::topology::Topology;
@@ -12,42 +12,42 @@ use crate::world::Stage;
 use std::alloc::{AllocError, Global};
 use trust_closure::ExchangeClosure;
 
-/// Tells what comes of a row.
-pub(crate) fn tell(
+/// Reports what comes of a row.
+pub(crate) fn print_out(
     alloc: Global,
     verb: &str,
     words: &str,
     answer: &mut String,
 ) -> Result<(), Stop> {
     match verb {
-        "search" => tell_search(alloc, words, answer),
-        "scale" => tell_fleet(alloc, words, answer),
-        "agree" => tell_same(alloc, words, answer),
+        "search" => print_search(alloc, words, answer),
+        "scale" => print_fleet(alloc, words, answer),
+        "agree" => print_same(alloc, words, answer),
         _ => Err(Stop::Verb),
     }
 }
 
 // `search SIGHT SEED COUNT`
-fn tell_search(alloc: Global, words: &str, answer: &mut String) -> Result<(), Stop> {
+fn print_search(alloc: Global, words: &str, answer: &mut String) -> Result<(), Stop> {
     let sight = sight(word(words, 0)?)?;
     let seed = number(words, 1)?;
     let count = size(words, 2)?;
     match searched(alloc, sight, seed, count)? {
-        Some(failed) => Ok(tell_failed(&failed, answer)?),
+        Some(failed) => Ok(print_failed(&failed, answer)?),
         None => Ok(writeln!(answer, "{count} schedules agree with the model")?),
     }
 }
 
 // `scale TOPOLOGY calm SEED REPLICAS DOMAINS LENGTH`, or `rough` in place of `calm`
-fn tell_fleet(alloc: Global, words: &str, answer: &mut String) -> Result<(), Stop> {
+fn print_fleet(alloc: Global, words: &str, answer: &mut String) -> Result<(), Stop> {
     let corpus = make_named(alloc, words)?;
-    tell_scale::<ExchangeClosure>(alloc, read_setting(words, &corpus)?, &corpus, answer)
+    print_scale::<ExchangeClosure>(alloc, read_setting(words, &corpus)?, &corpus, answer)
 }
 
-// `agree` and the words of `scale`
-fn tell_same(alloc: Global, words: &str, answer: &mut String) -> Result<(), Stop> {
+// `agree` and the arguments of `scale`
+fn print_same(alloc: Global, words: &str, answer: &mut String) -> Result<(), Stop> {
     let corpus = make_named(alloc, words)?;
-    tell_agreement::<ExchangeClosure>(alloc, read_setting(words, &corpus)?, &corpus, answer)
+    print_agreement::<ExchangeClosure>(alloc, read_setting(words, &corpus)?, &corpus, answer)
 }
 
 fn make_named(alloc: Global, words: &str) -> Result<Corpus, Stop> {
@@ -75,7 +75,7 @@ fn searched(alloc: Global, sight: Sight, seed: u64, count: usize) -> Result<Opti
     search::<ExchangeClosure>(stage, &mut Chance::new(seed), count)
 }
 
-fn tell_failed(failed: &Failed, answer: &mut String) -> Result<(), AllocError> {
+fn print_failed(failed: &Failed, answer: &mut String) -> Result<(), AllocError> {
     let Failed {
         after,
         replicas,
@@ -102,7 +102,7 @@ fn sight(word: &str) -> Result<Sight, Stop> {
     }
 }
 
-/// The word at this place of several with one space between them.
+/// The argument at this place of several with one space between them.
 pub(crate) fn word(words: &str, place: usize) -> Result<&str, Stop> {
     words.split(' ').nth(place).ok_or(Stop::Word)
 }

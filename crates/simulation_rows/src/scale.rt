@@ -11,8 +11,8 @@ use std::alloc::{AllocError, Global};
 /// The most seconds that pass.
 const MOST_SECONDS: usize = 20_000;
 
-/// Lets many replicas pull from each other until all hold the same, and tells what that took.
-pub(crate) fn tell_scale<C: Closure>(
+/// Lets many replicas pull from each other until all hold the same, and reports what that took.
+pub(crate) fn print_scale<C: Closure>(
     alloc: Global,
     setting: Setting,
     corpus: &Corpus,
@@ -20,14 +20,14 @@ pub(crate) fn tell_scale<C: Closure>(
 ) -> Result<(), Stop> {
     let mut fleet: Fleet<C> = Fleet::new(alloc, setting, corpus)?;
     let seconds = run(&mut fleet, corpus)?;
-    tell_counts(&fleet, corpus, setting, seconds, answer)?;
+    print_counts(&fleet, corpus, setting, seconds, answer)?;
     let bytes = snapshot_bytes(alloc, &fleet, setting.room)?;
     writeln!(answer, "{bytes} bytes in a snapshot")?;
-    tell_same(alloc, &fleet, corpus, setting, answer)
+    print_same(alloc, &fleet, corpus, setting, answer)
 }
 
-/// Lets replicas pull from each other until all hold the same, and tells only whether they do.
-pub(crate) fn tell_agreement<C: Closure>(
+/// Lets replicas pull from each other until all hold the same, and reports only whether they do.
+pub(crate) fn print_agreement<C: Closure>(
     alloc: Global,
     setting: Setting,
     corpus: &Corpus,
@@ -35,10 +35,10 @@ pub(crate) fn tell_agreement<C: Closure>(
 ) -> Result<(), Stop> {
     let mut fleet: Fleet<C> = Fleet::new(alloc, setting, corpus)?;
     run(&mut fleet, corpus)?;
-    tell_same(alloc, &fleet, corpus, setting, answer)
+    print_same(alloc, &fleet, corpus, setting, answer)
 }
 
-fn tell_same<C: Closure>(
+fn print_same<C: Closure>(
     alloc: Global,
     fleet: &Fleet<C>,
     corpus: &Corpus,
@@ -66,7 +66,7 @@ fn run<C: Closure>(fleet: &mut Fleet<C>, corpus: &Corpus) -> Result<usize, Stop>
     Ok(MOST_SECONDS)
 }
 
-fn tell_counts<C: Closure>(
+fn print_counts<C: Closure>(
     fleet: &Fleet<C>,
     corpus: &Corpus,
     setting: Setting,
@@ -88,10 +88,10 @@ fn tell_counts<C: Closure>(
         answer,
         "{whole} sessions, {failed} that failed, {kills} restarts"
     )?;
-    tell_bytes(fleet.bytes.as_slice(), answer)
+    print_bytes(fleet.bytes.as_slice(), answer)
 }
 
-fn tell_bytes(bytes: &[u64], answer: &mut String) -> Result<(), AllocError> {
+fn print_bytes(bytes: &[u64], answer: &mut String) -> Result<(), AllocError> {
     let mut sum: u64 = 0;
     let mut most: u64 = 0;
     for count in bytes {

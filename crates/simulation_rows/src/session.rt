@@ -34,7 +34,7 @@ impl Session {
         self.haves.sent().saturating_add(self.answers.sent())
     }
 
-    /// Lets bytes of haves come to the one that answers, and sends what it writes. Returns how many
+    /// Lets bytes of haves reach the one that answers, and sends what it writes. Returns how many
     /// lines came.
     pub(crate) fn ask<C: Closure>(
         &mut self,
@@ -52,7 +52,7 @@ impl Session {
         Ok(self.haves.came(used))
     }
 
-    /// Lets bytes of answers come to the one that asked, up to the end of a line or, if `whole`, of
+    /// Lets bytes of answers reach the one that asked, up to the end of a line or, if `whole`, of
     /// an answer. Returns how many lines came.
     pub(crate) fn answer<C: Closure>(
         &mut self,

@@ -1,4 +1,4 @@
-//! Why a row comes to nothing.
+//! Why a row has no result.
 use bundle_doc::DocError;
 use bundle_view::ReportError;
 use fed_config::ConfigError;
@@ -8,12 +8,12 @@ use spiffe_name::NameError;
 use std::alloc::{AllocError, AllocFailed};
 use std::fmt;
 
-/// Why a row comes to nothing.
+/// Why a row has no result.
 #[derive(Clone, Copy, Debug, PartialEq, Eq)]
 pub(crate) enum Stop {
     /// The row has a verb that means nothing.
     Verb,
-    /// A word is missing or unknown, or is not a number.
+    /// An argument is missing or unknown, or is not a number.
     Word,
     /// A generated text is refused.
     Text,

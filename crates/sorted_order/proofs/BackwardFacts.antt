@@ -1,4 +1,4 @@
--- Numbers lent from the end: where the last of them is, and what is left before it
+-- Numbers lent from the end: the place of the last of them, and what is left before it
 use Rattle.std.proofs.Common.{◌≡◌, ℕ, zero, suc, ◌+◌, ◌-◌, ◌<◌, ◌≤◌, List, [], ◌∷◌, ◌++◌, length, take}
 use Rattle.std.proofs.Common.{◌==◌, true, eqb-true, refl, sym, subst, ◌∙◌, ap, arith, append_assoc, length-append}
 use Rattle.std.proofs.lemmas.List.{append-nil, take-append-le}

@@ -1,4 +1,4 @@
--- Blocks of a sequence: what is put in, what is cut, and where a place lies
+-- Blocks of a sequence: what is put in, what is cut, and the block of a place
 use Rattle.std.proofs.Common.{◌≡◌, ℕ, zero, suc, ◌+◌, ◌-◌, ◌*◌, ◌<◌, ◌≤◌, List, [], ◌∷◌, ◌++◌, length, take, drop}
 use Rattle.std.proofs.Common.{slice_index, slice_index_or, slice_set, refl, sym, ◌∙◌, ap, arith, slice_get, Some}
 use Rattle.std.proofs.Common.{Result, IsOk, is_ok, if◌then◌else◌, append_assoc, length-append, length-drop, add-one}
@@ -57,7 +57,7 @@ length-halved (b ∷ bs) (suc i) h = ap suc (length-halved bs i (omega arith))
 
 -- ---- the two halves
 
--- After a cut the first half is where the block was.
+-- After a cut the first half is at the block's place.
 pub first_half : (bs : List (List ℕ)) (i : ℕ) → i < length bs → block_at (halved bs i) i ≡ take 256 (block_at bs i)
 first_half [] i h = absurd (omega arith)
 first_half (b ∷ bs) zero h = refl
@@ -207,9 +207,9 @@ pub split_from : (bs : List (List ℕ)) (i next : ℕ) (b first second : List �
     → next ≡ suc i → first ≡ take 256 b → second ≡ drop 256 b → insert (slice_set bs i first) next second ≡ halved bs i
 split_from bs i next b first second l e n f s = rw (n, f, s, get_or_read bs i b l e []) (halved_is bs i l)
 
--- ---- where a place lies after a block is cut into halves
+-- ---- the block of a place after a block is cut into halves
 
--- A place in the first half lies in the block where it lay.
+-- A place in the first half lies in the same block as before.
 pub first_spot : (bs : List (List ℕ)) (at i w : ℕ) → IsSpot bs at i w → 256 ≤ length (block_at bs i) → w ≤ 256
     → IsSpot (halved bs i) at i w
 first_spot bs at i w spot half low = record {

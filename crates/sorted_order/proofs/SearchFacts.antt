@@ -84,11 +84,11 @@ edge_of_end compared bs i w here end whole some less =
 
 -- A place is the edge if the number just before it, which is in its block, comes before what is
 -- sought, and the number there does not.
-pub edge_beside : (compared : ℕ → Ordering) (bs : List (List ℕ)) (i w : ℕ) → i < length bs → w ≤ length (block_at bs i)
+pub edge_next : (compared : ℕ → Ordering) (bs : List (List ℕ)) (i w : ℕ) → i < length bs → w ≤ length (block_at bs i)
     → (0 < w → compared (slice_index (block_at bs i) (w - 1)) ≡ Less) → (w ≡ 0 → i ≡ 0)
     → ((number : ℕ) → slice_get (concat bs) (length_before bs i + w) ≡ Some number → compared number ≢ Less)
     → IsBoundary compared (concat bs) (length_before bs i + w)
-edge_beside compared bs i w here within before start after = record {
+edge_next compared bs i w here within before start after = record {
   within = omega (arith, within, before_next bs i here, before_within bs (suc i));
   before = λ p. elim (cases_lt 0 w) [
     | inl some ↦

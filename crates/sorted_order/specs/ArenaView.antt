@@ -44,7 +44,7 @@ pub record IsNumber {T : Type 0} (compared : T → Ordering) (stock : ArenaView 
   pub found : IsFound compared (in_order stock) place
   pub numbered : slice_index stock.order place ≡ number
 
--- what a search answers: the item's number, or the place in the order where it would be
+-- what a search answers: the item's number, or the place that it would have in the order
 abbrev pub FindsNumber : {T : Type 0} → (T → Ordering) → ArenaView T → Result ℕ ℕ → Type 0
 FindsNumber compared stock result = MatchResult result (IsNumber compared stock)
     (IsMissing compared (in_order stock))

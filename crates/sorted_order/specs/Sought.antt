@@ -32,7 +32,7 @@ pub record IsMissing {X : Type 0} (compared : X → Ordering) (items : List X)
   pub before : AllWithin (λ x. compared x ≡ Less) items 0 place
   pub after : AllWithin (λ x. compared x ≡ Greater) items place (length items)
 
--- what a search answers: the place where it is, or the place where it would be
+-- what a search answers: the place that it has, or the place that it would have
 abbrev pub Finds : {X : Type 0} → (X → Ordering) → List X → Result ℕ ℕ → Type 0
 Finds compared items result = MatchResult result (IsFound compared items) (IsMissing compared items)
 

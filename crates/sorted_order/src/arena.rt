@@ -128,7 +128,7 @@ impl<T> Arena<T> {
     }
 
     /// The number of the first item in the order that is what is sought, or, as an error, the place
-    /// in the order where it would be.
+    /// that it would have in the order.
     pub fn find<P: ItemProbe<T>>(&self, probe: &P) -> Result<u32, usize>
         requires { IsRising (P.compared probe.now) (in_order self.now) }
         ensures { FindsNumber (P.compared probe.now) self.now result }

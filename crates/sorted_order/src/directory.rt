@@ -1,5 +1,5 @@
-//! Calls over the blocks of a sequence, a list of lists: where a place lies, putting a number in,
-//! cutting a full block into halves with a spare one, making spare blocks.
+//! Calls over the blocks of a sequence, a list of lists: finding the block of a place, putting a
+//! number in, cutting a full block into halves with a spare one, making spare blocks.
 ghost use Rattle.std.specs.Prelude.{◌≡◌, ℕ, ◌+◌, ◌-◌, ◌*◌, ◌^◌, ◌<◌, ◌≤◌, length, vec_capacity};
 ghost use Rattle.std.specs.Prelude.{OnOk};
 ghost use Rattle.std.specs.List.{concat, insert};

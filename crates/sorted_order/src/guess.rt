@@ -1,4 +1,4 @@
-//! Guesses of where what is sought is. They are made by parts of what is compared, and believed
+//! Guesses of the place of what is sought. They are made by parts of what is compared, and believed
 //! only if comparisons next to the place show that they hold.
 ghost use Rattle.std.specs.Prelude.{◌≡◌, ◌≢◌, ℕ, ◌+◌, ◌-◌, ◌<◌, ◌≤◌, length};
 ghost use Rattle.std.specs.Prelude.{slice_get, slice_index, Some, IsTrue};
@@ -22,8 +22,8 @@ pub struct Agreed {
     pub after: usize,
 }
 
-/// Guesses where numbers are, for those who seek by a hint, and by a text or a number if hints are
-/// equal. No clause speaks of it: if a guess does not hold, the search compares.
+/// Guesses the places of numbers, for those who seek by a hint, and by a text or a number if hints
+/// are equal. No clause speaks of it: if a guess does not hold, the search compares.
 pub trait Guess {
     /// What is known beforehand of the place of what is sought. As far as hints differ, they grow
     /// with the order. Each number has the hint that it was inserted with.
@@ -35,8 +35,8 @@ pub trait Guess {
     fn guess(&self, number: u32, agreed: Agreed) -> (bool, usize);
 }
 
-/// Guesses where items are, for those who seek by a hint, and by a text or a number if hints are
-/// equal. No clause speaks of it: if a guess does not hold, the search compares.
+/// Guesses the places of items, for those who seek by a hint, and by a text or a number if hints
+/// are equal. No clause speaks of it: if a guess does not hold, the search compares.
 pub trait ItemGuess<T> {
     /// What is known beforehand of the place of what is sought. As far as hints differ, they grow
     /// with the order. Each item has the hint that it was inserted with.
@@ -99,8 +99,8 @@ fn agreement(one: &[u8], other: &[u8], agreed: Agreed) -> usize {
     place
 }
 
-/// From where the first byte that differs is to be looked for: after the samples in which the texts
-/// agree.
+/// The place from which the first byte that differs is to be looked for: after the samples in which
+/// the texts agree.
 fn sampled(one: &[u8], other: &[u8], near: usize, far: usize) -> usize
     requires order { near ≤ far }
     requires one { far ≤ length one.now }
@@ -144,7 +144,7 @@ pub(crate) fn edge_by_guess<P: Probe + Guess>(blocks: &[Block], probe: &P) -> (u
     edge_among(blocks, probe)
 }
 
-/// Whether the place is where what is sought would be. A yes is sure.
+/// Whether the place is the one that what is sought would have. A yes is sure.
 fn is_edge<P: Probe>(blocks: &[Block], probe: &P, block: usize, place: usize) -> bool
     requires filled { AreFilled blocks.now }
     requires known { All (P.knows probe.now) (concat blocks.now) }
@@ -167,7 +167,7 @@ fn is_edge<P: Probe>(blocks: &[Block], probe: &P, block: usize, place: usize) ->
 }
 
 /// Whether the number just before the place, which is in the same block, comes before what is
-/// sought, or there is none before.
+/// sought, or there is no number before.
 fn is_past<P: Probe>(blocks: &[Block], probe: &P, block: usize, place: usize) -> bool
     requires block { block < length blocks.now }
     requires place { place ≤ length (block_at blocks.now block) }
@@ -183,7 +183,7 @@ fn is_past<P: Probe>(blocks: &[Block], probe: &P, block: usize, place: usize) ->
     probe.compare(numbers[place - 1]).is_lt()
 }
 
-/// Whether the number at the place does not come before what is sought, or there is none.
+/// Whether the number at the place does not come before what is sought, or there is no number.
 fn is_not_past<P: Probe>(blocks: &[Block], probe: &P, block: usize, place: usize) -> bool
     requires block { block < length blocks.now }
     requires place { place ≤ length (block_at blocks.now block) }

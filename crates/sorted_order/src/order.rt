@@ -186,7 +186,7 @@ impl Order {
         place
     }
 
-    /// The first place of what is sought, or, as an error, the place where it would be.
+    /// The first place of what is sought, or, as an error, the place that it would have.
     pub fn find<P: Probe>(&self, probe: &P) -> Result<usize, usize>
         requires known { All (P.knows probe.now) self.now.items }
         requires rising { IsRising (P.compared probe.now) self.now.items }
@@ -233,8 +233,8 @@ impl Order {
         self.range(first, end - first)
     }
 
-    /// The first number in the place of what is sought, or, as an error, the place where it would
-    /// be. If it finds one it adds up no lengths.
+    /// The first number in the place of what is sought, or, as an error, the place that it would
+    /// have. If it finds one it adds up no lengths.
     pub(crate) fn find_number<P: Probe>(&self, probe: &P) -> Result<u32, usize>
         requires known { All (P.knows probe.now) self.now.items }
         requires rising { IsRising (P.compared probe.now) self.now.items }

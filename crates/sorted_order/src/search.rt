@@ -10,8 +10,8 @@ ghost use Rattle.sorted_order.specs.Inside.Seeking.{FindsAt};
 use crate::block::Block;
 use crate::probe::Probe;
 
-/// Where what is sought would be: a block, and a place in it. Items often come in their order, so
-/// it looks at the last number first.
+/// The place that what is sought would have: a block, and a place in it. Items often come in their
+/// order, so it looks at the last number first.
 pub(crate) fn edge<P: Probe>(blocks: &[Block], probe: &P) -> (usize, usize)
     requires some { 0 < length blocks.now }
     requires filled { AreFilled blocks.now }

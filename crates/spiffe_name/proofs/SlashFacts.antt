@@ -1,4 +1,4 @@
--- Where a text is split at a slash.
+-- A text that is split at a slash.
 use Rattle.std.proofs.Common.{◌≡◌, ◌≢◌, ℕ, ◌<◌, true, List, [], ◌∷◌, ◌++◌, length, take, drop, get_or, refl, sym, ◌∙◌, subst, arith, drop-cons, lit<}
 use Rattle.std.proofs.lemmas.Bool.Decides.{nat_tests}
 use Rattle.std.proofs.lemmas.List.{append-nil, take-append-drop, get_or-take, get_or_at, length-append, length-take-le}
@@ -51,7 +51,7 @@ same_split (x ∷ xs) rest (y ∷ ys) more p s q t e =
     let h = same_split xs rest ys more (All-tail (λ b. is_not_slash b ≡ true) x xs p) s (All-tail (λ b. is_not_slash b ≡ true) y ys q) t cc in
     (cc, h.1)
 
--- a text may be cut where a slash or nothing follows
+-- a text may be cut if a slash or nothing follows
 pub IsCharBoundary-at_slash : (text front rest : List ℕ) → text ≡ front ++ rest → EmptyOrSlash rest → IsCharBoundary text (length front)
 IsCharBoundary-at_slash text front [] e s = rw (e ∙ append-nil front) (IsCharBoundary-end front)
 IsCharBoundary-at_slash text front (b ∷ rest) e s =

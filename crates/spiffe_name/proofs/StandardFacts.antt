@@ -104,7 +104,7 @@ user = (
 pub no_domain : RefusesId (codes "spiffe:///x") Empty
 no_domain = inr (codes "", codes "/x", (parts_of _ _ _ refl (lit≤ tt) refl refl, refl))
 
--- a slash at the end is refused for the empty segment after it, at the place where that begins
+-- a slash at the end is refused for the empty segment after it, at the place of its start
 pub trailing_slash : RefusesId (codes "spiffe://example.com/") (BadPath 21)
 trailing_slash = (
   codes "example.com",

@@ -1,4 +1,4 @@
--- Bytes of names, and where a text first has a wrong one.
+-- Bytes of names, and the place of the first wrong one in a text.
 use Rattle.std.specs.Prelude.{◌≡◌, ℕ, ◌<◌, Bool, false, ◌&&◌, ◌||◌, ◌==◌, nat_le, nat_lt, not, List}
 use Rattle.std.specs.Prelude.{[], ◌∷◌, ◌++◌, length, take, slice_index}
 use Rattle.std.specs.List.{AllPass}

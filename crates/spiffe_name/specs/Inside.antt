@@ -1,2 +1,2 @@
--- Where the bytes of a name lie.
+-- The place of a name's bytes.
 pub mod NameText

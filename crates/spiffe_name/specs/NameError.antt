@@ -4,7 +4,7 @@ use Rattle.spiffe_name.specs.declared.error.NameError.{NameError}
 use Rattle.spiffe_name.specs.declared.error.NameError.TheVariants.{Empty, TooLong, BadScheme}
 use Rattle.spiffe_name.specs.declared.error.NameError.TheVariants.{BadDomainByte, BadPath, NoMemory}
 
--- where the error is, or 0
+-- the place of the error, or 0
 abbrev pub place_of : NameError → ℕ
 place_of Empty = 0
 place_of TooLong = 0

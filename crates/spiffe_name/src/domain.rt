@@ -34,7 +34,7 @@ pub struct TrustDomain {
     text: NameText,
 }
 
-/// Where the bytes of a name lie. Most names are short.
+/// The place of a name's bytes. Most names are short.
 #[derive(Debug, Drop)]
 enum NameText {
     Short(ArrayString<24>),
@@ -158,7 +158,7 @@ fn is_domain_byte(byte: u8) -> bool
     matches!(byte, b'a'..=b'z' | b'0'..=b'9' | b'.' | b'-' | b'_')
 }
 
-/// Where the first byte is that a trust domain name doesn't have.
+/// The place of the first byte that a trust domain name doesn't have.
 fn first_bad_byte(text: &[u8]) -> Option<usize>
     ensures { MatchOption result (AllPass is_domain_byte text.now)
         (FirstFails is_domain_byte text.now) }

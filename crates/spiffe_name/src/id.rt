@@ -181,7 +181,7 @@ fn is_segment_byte(byte: u8) -> bool
     matches!(byte, b'a'..=b'z' | b'A'..=b'Z' | b'0'..=b'9' | b'.' | b'-' | b'_')
 }
 
-/// Where the first byte is that no segment has.
+/// The place of the first byte that no segment has.
 fn first_bad_byte(segment: &[u8]) -> Option<usize>
     ensures { MatchOption result (AllPass is_segment_byte segment.now)
         (FirstFails is_segment_byte segment.now) }
@@ -196,7 +196,7 @@ fn is_empty_or_modifier(segment: &str) -> bool
     segment == "" || segment == "." || segment == ".."
 }
 
-/// Where a segment has its error: at its first wrong byte, or at its start.
+/// The place of a segment's error: its first wrong byte, or its start.
 fn fault_in_segment(segment: &str) -> Option<usize>
     ensures { MatchOption result (IsSegment segment.now) (FaultInSegment segment.now) }
 {
@@ -207,7 +207,7 @@ fn fault_in_segment(segment: &str) -> Option<usize>
     }
 }
 
-/// Where a path has its first error.
+/// The place of a path's first error.
 fn fault_in_path(path: &str) -> Option<usize>
     requires { EmptyOrSlash path.now }
     ensures answer { MatchOption result (IsPath path.now) (FirstFault path.now) }

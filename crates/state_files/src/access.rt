@@ -1,5 +1,5 @@
 //! Who may read and write a file: its mode, its owner and its group.
-use fedbundle::FileFault;
+use command_exits::FileFault;
 use std::fs::{File, Metadata, OpenOptions, Permissions};
 use std::os::unix::fs::{MetadataExt, OpenOptionsExt, PermissionsExt, fchown};
 
@@ -12,14 +12,14 @@ const ACCESS_BITS: u32 = 0o777;
 /// Those of the bits that are not about the file's group.
 const BITS_BUT_GROUP: u32 = 0o707;
 
-/// Options to write a file. Where opening makes it, its owner alone reads and writes it.
+/// Options to write a file. If opening makes it, only its owner reads and writes it.
 pub(crate) fn owner_only() -> OpenOptions {
     let mut options = OpenOptions::new();
     options.write(true).mode(OWNER_ONLY);
     options
 }
 
-/// Gives the file the owner, the group and the mode of another. Where the system does not allow
+/// Gives the file the owner, the group and the mode of another. If the system does not allow
 /// that owner or group, the group has no access.
 pub(crate) fn take_access(file: &File, other: &Metadata) -> Result<(), FileFault> {
     let own = file.metadata()?;

@@ -7,7 +7,7 @@ use change_view::{
     AUDIT_BEGINNING, AuditLine, NewEntries, holds_line, push_start_line, read_audit_line,
 };
 use closure_core::Closure;
-use fedbundle::FileFault;
+use command_exits::FileFault;
 use memchr::memrchr;
 use replica_core::SyncError;
 use state_steps::{AppendStep, Appending, CutStep, Cutting, LastLine};
@@ -16,7 +16,7 @@ use std::fs::{File, Files};
 use std::io::Write;
 use std::os::unix::fs::FileExt;
 
-/// How many bytes of the end of the file are read at once. A line has fewer.
+/// How many bytes of the end of the file are read at a time. A line has fewer.
 const READ_BYTES: usize = 65_536;
 
 /// The system's number for a file that was replaced (`ESTALE`).
@@ -47,7 +47,7 @@ impl AuditFile {
     ///
     /// # Errors
     /// - [`SyncError::Io`]: the system refused a step, or something else than an audit file has the
-    ///   path, which stays as it is,
+    ///   path, which remains as it is,
     /// - [`SyncError::NoMemory`]: memory ran out.
     pub fn begin<C: Closure, R: Files<File = File>>(
         files: &R,
@@ -86,7 +86,7 @@ impl AuditFile {
 
     /// Does a step in which the lines are appended: they are written, or put on the disk, or it is
     /// looked whether the file still has its name. [`Keeping`](state_steps::Keeping) says which
-    /// step comes next. After a fault what the disk holds is not known.
+    /// step comes next. After an error what the disk holds is not known.
     ///
     /// # Errors
     /// `NoMemory` if the system says that memory ran out, and else `Io`; `Io` also if the name
@@ -123,7 +123,7 @@ fn open_audit<R: Files<File = File>>(files: &R, path: &str) -> Result<File, File
 
 fn start_text<C: Closure>(alloc: Global, closure: &C, moment: u64) -> Result<Vec<u8>, AllocError> {
     let mut line = Vec::new(alloc);
-    // What is lent tells the form of what is held.
+    // What is lent shows the form of what is held.
     let _config = closure.config();
     let held = NewEntries {
         receipts: closure.receipt_count() as u64,
@@ -201,7 +201,7 @@ fn is_torn(bytes: &[u8]) -> bool {
         || bytes.iter().all(|byte| *byte == 0)
 }
 
-// The last line of the first so many bytes of the file. One that is longer than any of an audit
+// The last line of the first `bytes` bytes of the file. One that is longer than any of an audit
 // file comes without its beginning.
 fn last_line(alloc: Global, file: &File, bytes: u64) -> Result<Option<FoundLine>, FileFault> {
     if bytes == 0 {
@@ -225,7 +225,7 @@ fn last_line(alloc: Global, file: &File, bytes: u64) -> Result<Option<FoundLine>
     }))
 }
 
-// What comes after the last line feed, or all where there is none.
+// What comes after the last line feed, or all if there is no line feed.
 fn after_line_feed(text: &[u8]) -> &[u8] {
     match memrchr(b'\n', text) {
         Some(end) => &text[end + 1..],

@@ -1,12 +1,12 @@
-//! What a replica that stays does first with its files.
+//! What a replica that keeps running does first with its files.
 use crate::journal::Journal;
 use crate::load::load_state;
 use crate::made_files::MadeFiles;
 use crate::resume::resume_journal;
 use crate::state::{SeenState, see_state};
 use closure_core::Closure;
+use command_exits::{CommandError, FileFault};
 use fed_config::Config;
-use fedbundle::{CommandError, FileFault};
 use progress_line::ProgressMode;
 use replica_core::SyncError;
 use state_steps::{BeginStep, Beginning, FileStep, FoldEnd, FoundFiles};
@@ -21,7 +21,7 @@ const SAVE_STEPS: u32 = 5;
 /// How many steps it takes to begin the journal.
 const JOURNAL_STEPS: u32 = 2;
 
-/// The beginning of a replica on its files: they are loaded, saved where that is due, and an empty
+/// The beginning of a replica on its files: they are loaded, saved if that is due, and an empty
 /// journal is begun, in this order. [`Beginning`] says which step comes next; a call for which
 /// another one is due does nothing but fail.
 #[derive(Drop)]
@@ -29,14 +29,14 @@ pub struct StateBeginning {
     beginning: Beginning,
     made: MadeFiles,
     has_journal: bool,
-    // Whether it goes on with the journal that was found, since the state could not be saved.
+    // Whether it continues with the journal that was found, since the state could not be saved.
     is_resumed: bool,
     mode: ProgressMode,
 }
 
 impl StateBeginning {
-    /// The beginning with the files that were found beside the path, or none where there is neither
-    /// a state nor a journal, and `may_be_new` does not allow that. The mode says whether lines say
+    /// The beginning with the files that were found next to the path, or none if there is neither a
+    /// state nor a journal, and `may_be_new` does not allow that. The mode says whether lines say
     /// how far the reading and the writing are.
     ///
     /// # Errors
@@ -83,12 +83,12 @@ impl StateBeginning {
         }
     }
 
-    /// Whether it goes on where the save failed: the journal that was found is as it was.
+    /// Whether it continues although the save failed: the journal that was found is as it was.
     pub fn is_resumed(&self) -> bool {
         self.is_resumed
     }
 
-    /// Saves what was loaded, where there was a journal or no state file.
+    /// Saves what was loaded, if there was a journal or no state file.
     ///
     /// # Errors
     /// - [`SyncError::Io`]: the system refused a step,
@@ -110,7 +110,7 @@ impl StateBeginning {
         Ok(())
     }
 
-    /// Begins an empty journal; or goes on with the journal that was found, where the state could
+    /// Begins an empty journal; or continues with the journal that was found, if the state could
     /// not be saved.
     ///
     /// # Errors
@@ -167,20 +167,20 @@ impl StateBeginning {
             }
             Err(fault) => {
                 let end = self.beginning.failed();
-                self.is_resumed = self.has_journal && end == FoldEnd::JournalGoesOn;
+                self.is_resumed = self.has_journal && end == FoldEnd::JournalContinues;
                 Err(fault)
             }
         }
     }
 }
 
-/// Begins anew while a replica runs: writes what it holds as the snapshot in the state file, and
+/// Begins again while a replica runs: writes what it holds as the snapshot in the state file, and
 /// begins an empty journal. Whatever the files were before, what is held is in them then.
 ///
 /// # Errors
 /// - [`SyncError::Io`]: the system refused a step,
 /// - [`SyncError::NoMemory`]: memory ran out.
-pub fn begin_anew<C: Closure, R: Files<File = File> + Clock + Eprint>(
+pub fn begin_again<C: Closure, R: Files<File = File> + Clock + Eprint>(
     files: &R,
     alloc: Global,
     closure: &C,

@@ -1,5 +1,5 @@
-//! The names of the files beside a state file, and the folder in which they lie.
-use fedbundle::FileFault;
+//! The names of the files next to a state file, and the folder in which they are.
+use command_exits::FileFault;
 use std::alloc::{AllocError, Global};
 use std::fs::{Files, OpenFile};
 use std::{fs, io};

@@ -1,8 +1,8 @@
-//! A fold: what is held takes the place of the state file, and the journal is begun anew.
+//! A fold: what is held takes the place of the state file, and the journal is begun again.
 use crate::journal::Journal;
 use crate::made_files::MadeFiles;
 use closure_core::Closure;
-use fedbundle::FileFault;
+use command_exits::FileFault;
 use progress_line::ProgressMode;
 use state_steps::{FoldEnd, Folding};
 use std::alloc::{AllocError, Global};
@@ -16,7 +16,7 @@ const STEPS: u32 = 6;
 /// Why a fold is over before its end.
 #[derive(Clone, Copy, Debug)]
 pub enum FoldFault {
-    /// The journal is as it was, and goes on.
+    /// The journal is as it was, and is still used.
     Kept(FileFault),
     /// It was being emptied: nothing may be appended to it. The snapshot has all that is held.
     Emptying(FileFault),
@@ -29,11 +29,11 @@ impl From<AllocError> for FoldFault {
 }
 
 /// Writes what is held as the snapshot in the state file, and begins an empty journal in the place
-/// of this one. Returns whether it did, and not where the journal goes on. Where the mode says so,
-/// it is said how far the writing is.
+/// of this one. Returns whether it did: if it did not, the journal is still used. If the mode says
+/// so, it is said how far the writing is.
 ///
 /// # Errors
-/// Where the system refused a step, or memory ran out.
+/// If the system refused a step, or memory ran out.
 pub fn fold_state<C: Closure, R: Files<File = File> + Clock + Eprint>(
     files: &R,
     alloc: Global,
@@ -50,7 +50,7 @@ pub fn fold_state<C: Closure, R: Files<File = File> + Clock + Eprint>(
         };
         if let Err(fault) = made.do_step(files, alloc, closure, path, step) {
             return Err(match folding.failed() {
-                FoldEnd::JournalGoesOn => FoldFault::Kept(fault),
+                FoldEnd::JournalContinues => FoldFault::Kept(fault),
                 FoldEnd::ReplicaEnds => FoldFault::Emptying(fault),
             });
         }

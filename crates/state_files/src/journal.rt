@@ -3,7 +3,7 @@ use crate::file_names::journal_path;
 use crate::lock::StateLock;
 use crate::named_files::is_named;
 use crate::state::SeenState;
-use fedbundle::FileFault;
+use command_exits::FileFault;
 use replica_core::SyncError;
 use state_steps::{AppendStep, Appending};
 use std::alloc::Global;
@@ -29,7 +29,7 @@ pub enum LostFile {
 }
 
 impl LostFile {
-    /// The fault by which a replica ends that has lost the file.
+    /// The error with which a replica ends that has lost the file.
     pub fn fault(self) -> FileFault {
         FileFault {
             why: SyncError::Io,
@@ -53,8 +53,8 @@ impl From<FileFault> for AppendFault {
     }
 }
 
-/// The journal's file, to which lines are appended, the state file beside it, and how many bytes
-/// the two have. [`Appending`] says what comes next: after a fault nothing is appended any more.
+/// The journal's file, to which lines are appended, the state file next to it, and how many bytes
+/// the two have. [`Appending`] says what comes next: after an error nothing is appended any more.
 #[derive(Drop)]
 pub struct Journal {
     file: File,
@@ -63,12 +63,12 @@ pub struct Journal {
     appending: Appending,
     state: SeenState,
     snapshot_bytes: u64,
-    // How long it is when it is folded next, where folding it was refused before.
+    // How long it is when it is folded next, if folding it was refused before.
     fold_at: u64,
 }
 
 impl Journal {
-    /// The journal whose file was begun beside a state file that has all that is held.
+    /// The journal whose file was begun next to a state file that has all that is held.
     pub(crate) fn of_file(
         alloc: Global,
         file: File,
@@ -92,7 +92,7 @@ impl Journal {
         self.state = SeenState::of_file(state);
     }
 
-    /// It was emptied: it goes on in this file.
+    /// It was emptied: it continues in this file.
     pub(crate) fn begin_with(&mut self, file: File) -> Result<(), FileFault> {
         self.snapshot_bytes = self.state.bytes()?;
         self.bytes = file.metadata()?.len();
@@ -102,10 +102,10 @@ impl Journal {
         Ok(())
     }
 
-    /// Appends the lines. After a fault what the disk holds is not known.
+    /// Appends the lines. After an error what the disk holds is not known.
     ///
     /// # Errors
-    /// `NoMemory` if the system says that memory ran out, and else `Io`; `Io` also where an earlier
+    /// `NoMemory` if the system says that memory ran out, and else `Io`; `Io` also if an earlier
     /// call failed.
     pub fn append(&mut self, lines: &[u8]) -> Result<(), FileFault> {
         if lines.is_empty() {
@@ -134,11 +134,11 @@ impl Journal {
 
     /// Has the system write to the disk what was appended, and looks whether the names of the lock,
     /// of the journal and of the state at the path lead to the same files as before. Only then the
-    /// lines may be acknowledged. After a fault what the disk holds is not known.
+    /// lines may be acknowledged. After an error what the disk holds is not known.
     ///
     /// # Errors
     /// - [`AppendFault::File`]: `NoMemory` if the system says that memory ran out, and else `Io`;
-    ///   `Io` also where an earlier call failed,
+    ///   `Io` also if an earlier call failed,
     /// - [`AppendFault::Lost`]: a name leads to another file.
     pub fn sync<R: Files>(
         &mut self,
@@ -194,7 +194,7 @@ impl Journal {
     /// none.
     ///
     /// # Errors
-    /// Where the system does not say: `NoMemory` if memory ran out, and else `Io`.
+    /// If the system does not say: `NoMemory` if memory ran out, and else `Io`.
     pub fn lost_file<R: Files>(
         &self,
         files: &R,
@@ -218,8 +218,8 @@ impl Journal {
         self.bytes > self.fold_at
     }
 
-    /// It could not be folded: it is tried again when the journal is longer by as much as a long
-    /// one has.
+    /// It could not be folded: it is tried again when the journal is longer by the bytes of a long
+    /// one.
     pub fn put_off(&mut self) {
         self.fold_at = self.bytes.saturating_add(LONG_JOURNAL);
     }

@@ -1,5 +1,5 @@
 //! The files of a state: the state file, which has a snapshot of what a replica holds, the journal
-//! of what came since, and the lock of both. Each call of the system stands here once, and
+//! of what came since, and the lock of both. Each call of the system is written here once, and
 //! `state_steps` says in which order they come.
 //!
 //! What a file holds is outside all contracts: these calls are proved only to be safe and to
@@ -8,11 +8,11 @@
 //!
 //! `lock` is the lock, `state` the state file, and `journal` the journal to which lines are
 //! appended. `load` reads both, `save` writes what is held and removes the journal, `begin` is what
-//! a replica that stays does first, and `fold` what it does where its journal is long. `made_files`
-//! does the steps of these three; a file that it makes is a `new_file`, whose mode and owner
-//! `access` gives. `resume` goes on with a journal where the state cannot be written. `file_names`
-//! has the files' names, `audit` is the file with a line for each change, and `named_files` what
-//! the system has under a name: what this program did not make is never changed.
+//! a replica that keeps running does first, and `fold` what it does when its journal is long.
+//! `made_files` does the steps of these three; a file that it makes is a `new_file`, whose mode and
+//! owner `access` gives. `resume` continues with a journal if the state cannot be written.
+//! `file_names` has the files' names, `audit` is the file with a line for each change, and
+//! `named_files` what the system has under a name: what this program did not make is never changed.
 #![tactic(auto)]
 
 mod access;
@@ -31,7 +31,7 @@ mod save;
 mod state;
 
 pub use audit::AuditFile;
-pub use begin::{StateBeginning, begin_anew};
+pub use begin::{StateBeginning, begin_again};
 pub use file_names::{has_journal, journal_path};
 pub use fold::{FoldFault, fold_state};
 pub use journal::{AppendFault, Journal, LostFile};

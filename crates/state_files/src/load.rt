@@ -3,8 +3,8 @@ use crate::file_names::journal_path;
 use crate::state::load_snapshot;
 use byte_lines::FromRead;
 use closure_core::Closure;
+use command_exits::{CommandError, FileFault};
 use fed_config::Config;
-use fedbundle::{CommandError, FileFault};
 use progress_line::{LongWork, ProgressMode, WatchedReader, WorkProgress};
 use replica_journal::read_journal;
 use std::alloc::Global;
@@ -14,18 +14,18 @@ use std::time::Clock;
 use std::{fs, io};
 
 /// The closure of what is held: what the snapshot in the state file says, and what the whole lines
-/// of its journal say. Where neither file is there it holds nothing.
+/// of its journal say. If neither file is there, it holds nothing.
 ///
 /// The journal is opened before the state file, so what another command folds into the state
-/// meanwhile is found in one of the two. Where the mode says so, it is said how far the reading is.
+/// meanwhile is found in one of the two. If the mode says so, it is said how far the reading is.
 ///
 /// # Errors
 /// - [`CommandError::Sync`]: the state file is refused, as by [`read_snapshot`], or cannot be
 ///   opened,
-/// - [`CommandError::Journal`]: the same of its journal, as by [`read_journal`],
+/// - [`CommandError::Journal`]: the same for its journal, as by [`read_journal`],
 /// - [`CommandError::NoMemory`]: memory ran out before either was opened.
 ///
-/// Of a file that is there and cannot be opened, the reason is `NoMemory` if the system says that
+/// The reason why a file that is there cannot be opened is `NoMemory` if the system says that
 /// memory ran out, and else `Io`.
 ///
 /// [`read_snapshot`]: replica_sync::read_snapshot

@@ -2,7 +2,7 @@
 use crate::access::owner_only;
 use crate::file_names::lock_path;
 use crate::named_files::{foreign_file, found, is_named, is_plain_file, may_be_left_of};
-use fedbundle::FileFault;
+use command_exits::FileFault;
 use replica_core::SyncError;
 use std::alloc::Global;
 use std::fs::{File, Files, TryLockError};
@@ -10,7 +10,7 @@ use std::io::{ErrorKind, Write};
 use std::os::unix::fs::FileExt;
 use std::{fs, io};
 
-/// How often the lock is taken anew because its file was removed or replaced meanwhile.
+/// How often the lock is taken again because its file was removed or replaced meanwhile.
 const MAX_LOCK_TRIES: u32 = 100;
 
 /// What a running replica writes into the lock's file: that it has bytes says so.
@@ -19,8 +19,8 @@ const MARK: &[u8] = b"a replica is running\n";
 const MARK_BYTES: usize = 21;
 
 /// Keeps other commands that write the same state file waiting, until it is dropped or the process
-/// ends. It is an exclusive lock of the file named like the state file with `.lock` after it,
-/// which stays where it is.
+/// ends. It is an exclusive lock of the file named like the state file with `.lock` after it, which
+/// is still there afterwards.
 #[derive(Drop)]
 pub struct StateLock {
     file: File,
@@ -31,7 +31,7 @@ impl StateLock {
     /// Whether the lock's name still leads to the file that is locked.
     ///
     /// # Errors
-    /// Where the system does not say: `NoMemory` if memory ran out, and else `Io`.
+    /// If the system does not say: `NoMemory` if memory ran out, and else `Io`.
     pub(crate) fn is_named<R: Files>(&self, files: &R) -> Result<bool, FileFault> {
         is_named(files, &self.file, self.name.as_str())
     }
@@ -53,24 +53,24 @@ impl StateLock {
     }
 }
 
-/// Whether a running replica has the lock of the state file, where the lock could not be taken.
-/// For a moment it may be said also of another command, where a replica was killed just before.
+/// Whether a running replica has the lock of the state file, if the lock could not be taken. For a
+/// short time it may be said also of another command, if a replica was killed just before.
 ///
 /// # Errors
-/// Where the system does not say: `NoMemory` if memory ran out, and else `Io`.
+/// If the system does not say: `NoMemory` if memory ran out, and else `Io`.
 pub fn is_marked<R: Files>(files: &R, alloc: Global, path: &str) -> Result<bool, FileFault> {
     let name = lock_path(alloc, path)?;
     Ok(found(fs::metadata(files, name.as_str()))?.is_some_and(|lock| lock.len() > 0))
 }
 
-/// Takes the lock, or returns `None` at once where another command that writes this state file is
+/// Takes the lock, or returns `None` immediately if another command that writes this state file is
 /// at work. A lock's file that is not there is made with the mode 0600, so that no other account
-/// can lock it. Where the file was removed or replaced meanwhile, the new one is locked. A file
-/// that this program did not write stays as it is.
+/// can lock it. If the file was removed or replaced meanwhile, the new one is locked. A file
+/// that this program did not write remains as it is.
 ///
 /// # Errors
 /// - [`SyncError::Io`]: the lock's file cannot be made or locked, or was replaced a hundred times,
-///   or what has its name is no file, or one with another text than a lock's,
+///   or what has its name is not a file, or one with another text than a lock's,
 /// - [`SyncError::NoMemory`]: memory ran out.
 pub fn try_lock_state<R: Files<File = File>>(
     files: &R,
@@ -92,7 +92,7 @@ pub fn try_lock_state<R: Files<File = File>>(
     Err(FileFault::from(SyncError::Io))
 }
 
-// The lock's file, without following a link; or `None` where it came or went meanwhile.
+// The lock's file, without following a link; or `None` if it came or went meanwhile.
 fn open_lock<R: Files<File = File>>(files: &R, name: &str) -> Result<Option<File>, FileFault> {
     let mut options = owner_only();
     options.read(true);

@@ -3,8 +3,8 @@ use crate::file_names::{journal_path, new_path, sync_folder};
 use crate::named_files::remove_own;
 use crate::new_file::{create_new, write_closure};
 use closure_core::Closure;
+use command_exits::FileFault;
 use fed_config::Config;
-use fedbundle::FileFault;
 use progress_line::ProgressMode;
 use replica_journal::begin_journal;
 use state_steps::FileStep;
@@ -14,7 +14,7 @@ use std::fs::{File, Files};
 use std::io::{Eprint, Write};
 use std::time::Clock;
 
-/// The names of the files beside a state file, and the files that are made, each from its writing
+/// The names of the files next to a state file, and the files that are made, each from its writing
 /// on: the new snapshot, which has its own name later, and the journal.
 #[derive(Drop)]
 pub(crate) struct MadeFiles {
@@ -55,7 +55,7 @@ impl MadeFiles {
         self.journal
     }
 
-    /// Does the step to the files of the state file at the path. Where it fails, no new snapshot is
+    /// Does the step to the files of the state file at the path. If it fails, no new snapshot is
     /// left that never gets its name.
     pub(crate) fn do_step<C: Closure, R: Files<File = File> + Clock + Eprint>(
         &mut self,
@@ -111,15 +111,15 @@ impl MadeFiles {
         write_closure(files, alloc, closure, file, self.mode)
     }
 
-    // Removes the new snapshot that was made here. That it stays changes nothing: nobody reads it,
-    // and the next one takes its place.
+    // Removes the new snapshot that was made here. If it is still there afterwards, no harm is
+    // done: nobody reads it, and the next one takes its place.
     fn remove_new<R: Files>(&mut self, files: &R) {
         if self.new.take().is_some() {
             let _ = fs::remove_file(files, self.new_name.as_str());
         }
     }
 
-    // A new journal with its first line alone.
+    // A new journal with only its first line.
     fn begin_journal<R: Files<File = File>>(
         &mut self,
         files: &R,

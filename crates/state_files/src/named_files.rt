@@ -1,5 +1,5 @@
 //! What the system has under a name, and whether this program made it.
-use fedbundle::FileFault;
+use command_exits::FileFault;
 use replica_core::SyncError;
 use std::fs::{File, Files};
 use std::io::Read;
@@ -11,13 +11,13 @@ const BEGINNING: &[u8] = b"{\"config\":\"";
 
 const BEGINNING_BYTES: usize = 11;
 
-/// What a file may have after a cut of power, where its blocks were not written.
+/// What a file may have after a cut of power, if its blocks were not written.
 const ZEROS: &[u8] = &[0; 32];
 
 /// The system's number for a file that is there already (`EEXIST`).
 const FILE_EXISTS: i32 = 17;
 
-/// What the system says of a name, or `None` where nothing has the name.
+/// What the system says of a name, or `None` if nothing has the name.
 pub(crate) fn found<T: Drop>(answer: io::Result<T>) -> Result<Option<T>, FileFault> {
     match answer {
         Ok(value) => Ok(Some(value)),
@@ -26,7 +26,7 @@ pub(crate) fn found<T: Drop>(answer: io::Result<T>) -> Result<Option<T>, FileFau
     }
 }
 
-/// The fault where the file under a name is not one that this program made.
+/// The error if the file under a name is not one that this program made.
 pub(crate) fn foreign_file() -> FileFault {
     FileFault {
         why: SyncError::Io,
@@ -44,8 +44,8 @@ pub(crate) fn is_plain_file<R: Files>(files: &R, name: &str) -> Result<bool, Fil
 }
 
 /// Removes the file that has the name, if there is one. What does not begin as a snapshot or a
-/// journal is refused, and stays as it is. A file without a byte is one that was just begun, and a
-/// cut of power leaves one of zeros.
+/// journal is refused, and remains as it is. A file without a byte is one that was just begun, and
+/// a cut of power leaves one of zeros.
 pub(crate) fn remove_own<R: Files>(files: &R, name: &str) -> Result<(), FileFault> {
     if is_plain_file(files, name)? {
         if !begins_as_own(files, name)? {

@@ -3,7 +3,7 @@ use crate::access::{owner_only, take_access};
 use crate::named_files::{found, remove_own};
 use byte_lines::FromWrite;
 use closure_core::Closure;
-use fedbundle::FileFault;
+use command_exits::FileFault;
 use progress_line::{LongWork, ProgressMode, WatchedWriter, WorkProgress};
 use replica_core::SyncError;
 use replica_sync::write_snapshot;
@@ -17,9 +17,9 @@ use std::{fs, io};
 const BUFFER_BYTES: usize = 65_536;
 
 /// Makes the file that has the name from now on. A file of this program that has it is removed
-/// first; anything else that has it is refused, and stays as it is. The new file has the mode and,
-/// where the system allows it, the owner and the group of the state file at the path; where it does
-/// not, the group has no access. Where there is no state file, the mode is 0600.
+/// first; anything else that has it is refused, and remains as it is. The new file has the mode
+/// and, if the system allows it, the owner and the group of the state file at the path; if it does
+/// not, the group has no access. If there is no state file, the mode is 0600.
 pub(crate) fn create_new<R: Files<File = File>>(
     files: &R,
     name: &str,
@@ -32,7 +32,7 @@ pub(crate) fn create_new<R: Files<File = File>>(
     match take_state_access(files, &file, path) {
         Ok(()) => Ok(file),
         Err(fault) => {
-            // That it stays changes nothing: the next one takes its place.
+            // If it is still there afterwards, no harm is done: the next one takes its place.
             let _ = fs::remove_file(files, name);
             Err(fault)
         }
@@ -46,7 +46,7 @@ fn take_state_access<R: Files>(files: &R, file: &File, path: &str) -> Result<(),
     }
 }
 
-/// Writes a snapshot of what is held into the file. Where the mode says so, it is said how far that
+/// Writes a snapshot of what is held into the file. If the mode says so, it is said how far that
 /// is.
 pub(crate) fn write_closure<C: Closure, R: Clock + Eprint>(
     rt: &R,
@@ -67,7 +67,7 @@ pub(crate) fn write_closure<C: Closure, R: Clock + Eprint>(
     }
 }
 
-// A file that keeps the system's number of the last fault of a write.
+// A file that keeps the system's number of the last error of a write.
 #[derive(Drop)]
 struct NotingFile<'a> {
     file: &'a File,

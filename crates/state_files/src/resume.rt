@@ -1,10 +1,10 @@
-//! A replica goes on with the journal that it found.
+//! A replica continues with the journal that it found.
 use crate::access::owner_only;
 use crate::file_names::{journal_path, sync_folder};
 use crate::journal::Journal;
 use crate::named_files::{foreign_file, is_plain_file};
 use crate::state::see_state;
-use fedbundle::FileFault;
+use command_exits::FileFault;
 use memchr::memrchr;
 use replica_core::SyncError;
 use state_steps::{ResumeStep, Resuming};
@@ -15,10 +15,10 @@ use std::os::unix::fs::FileExt;
 /// How many steps there are.
 const STEPS: u32 = 3;
 
-/// How many bytes of the journal are read at once.
+/// How many bytes of the journal are read at a time.
 const READ_BYTES: usize = 65_536;
 
-/// The journal beside the state file at the path, to which lines may be appended: it is on the
+/// The journal next to the state file at the path, to which lines may be appended: it is on the
 /// disk, without the part of a line that a kill may have left at its end.
 ///
 /// # Errors

@@ -1,7 +1,7 @@
 //! What a command does at its end: what is held takes the place of the state file.
 use crate::made_files::MadeFiles;
 use closure_core::Closure;
-use fedbundle::FileFault;
+use command_exits::FileFault;
 use progress_line::ProgressMode;
 use replica_core::SyncError;
 use state_steps::Saving;
@@ -18,16 +18,16 @@ const STEPS: u32 = 5;
 ///
 /// The snapshot is written to the file named like the state file with `.new` after it, the system
 /// puts that on the disk, it gets the state file's name, and the system puts the folder on the
-/// disk; [`Saving`] says so. So at any fault, and wherever the process is killed, the state file is
+/// disk; [`Saving`] says so. So at any error, and wherever the process is killed, the state file is
 /// as it was or as it is to be. A kill before the journal is removed leaves both, and they say the
 /// same.
 ///
-/// The new file has the mode and, where the system allows it, the owner and the group of the state
-/// file that it replaces; where it does not, the group has no access. Where there was no state
-/// file, the mode is 0600. Where `mode` says so, it is said how far the writing is.
+/// The new file has the mode and, if the system allows it, the owner and the group of the state
+/// file that it replaces; if it does not, the group has no access. If there was no state file, the
+/// mode is 0600. If `mode` says so, it is said how far the writing is.
 ///
 /// # Errors
-/// Where the journal is not removed, the state file is written.
+/// If the journal is not removed, the state file is written.
 /// - [`SyncError::Io`]: the system refused a step,
 /// - [`SyncError::NoMemory`]: memory ran out.
 pub fn save_state<C: Closure, R: Files<File = File> + Clock + Eprint>(
@@ -45,7 +45,7 @@ pub fn save_state<C: Closure, R: Files<File = File> + Clock + Eprint>(
     }
 }
 
-/// The same without its last step: what has the journal's name stays as it is.
+/// The same without its last step: what has the journal's name remains as it is.
 ///
 /// # Errors
 /// - [`SyncError::Io`]: the system refused a step,
@@ -61,7 +61,7 @@ pub fn save_snapshot<C: Closure, R: Files<File = File> + Clock + Eprint>(
     Ok(())
 }
 
-// A save that is over after so many steps.
+// A save that is over after `steps` steps.
 fn save_within<C: Closure, R: Files<File = File> + Clock + Eprint>(
     files: &R,
     alloc: Global,

@@ -2,8 +2,8 @@
 use crate::named_files::{found, is_named};
 use byte_lines::FromRead;
 use closure_core::Closure;
+use command_exits::FileFault;
 use fed_config::Config;
-use fedbundle::FileFault;
 use progress_line::{WatchedReader, WorkProgress};
 use replica_core::SyncError;
 use replica_sync::read_snapshot;
@@ -13,10 +13,10 @@ use std::io::Eprint;
 use std::time::Clock;
 use std::{fs, io};
 
-/// How many bytes the state file has, or `None` where there is none.
+/// How many bytes the state file has, or `None` if there is no state file.
 ///
 /// # Errors
-/// Where the system does not say: `NoMemory` if memory ran out, and else `Io`.
+/// If the system does not say: `NoMemory` if memory ran out, and else `Io`.
 pub fn state_bytes<R: Files>(files: &R, path: &str) -> Result<Option<u64>, FileFault> {
     Ok(found(fs::metadata(files, path))?.map(|state| state.len()))
 }
@@ -31,7 +31,7 @@ pub struct SeenState {
 /// Remembers which state file there is.
 ///
 /// # Errors
-/// Where the file is there and cannot be opened, `NoMemory` if the system says that memory ran out,
+/// If the file is there and cannot be opened, `NoMemory` if the system says that memory ran out,
 /// and else `Io`.
 pub fn see_state<R: Files<File = File>>(files: &R, path: &str) -> Result<SeenState, FileFault> {
     let file = found(fs::open(files, path))?;
@@ -44,7 +44,7 @@ impl SeenState {
         SeenState { file: Some(file) }
     }
 
-    /// How many bytes it has; none where there was no file.
+    /// How many bytes it has; none if there was no file.
     pub(crate) fn bytes(&self) -> Result<u64, FileFault> {
         match &self.file {
             Some(file) => Ok(file.metadata()?.len()),
@@ -55,7 +55,7 @@ impl SeenState {
     /// Whether no command has written the state file since: each gives it to a new file.
     ///
     /// # Errors
-    /// Where the system does not say: `NoMemory` if memory ran out, and else `Io`.
+    /// If the system does not say: `NoMemory` if memory ran out, and else `Io`.
     pub fn is_last<R: Files>(&self, files: &R, path: &str) -> Result<bool, FileFault> {
         match &self.file {
             Some(file) => is_named(files, file, path),
@@ -64,11 +64,10 @@ impl SeenState {
     }
 }
 
-/// The closure whose snapshot stands in the file. A file that is not there stands for one that
-/// holds nothing.
+/// The closure whose snapshot is in the file. If the file is not there, the closure holds nothing.
 ///
 /// # Errors
-/// Those of [`read_snapshot`]. Where the file is there and cannot be opened, `NoMemory` if the
+/// Those of [`read_snapshot`]. If the file is there and cannot be opened, `NoMemory` if the
 /// system says that memory ran out, and else `Io`.
 pub(crate) fn load_snapshot<C: Closure, R: Files + Clock + Eprint>(
     rt: &R,

@@ -31,7 +31,7 @@ begun_now texts Failed disk line due kept = kept
 
 -- ---- it begins
 
--- Where no journal was found, the snapshot alone keeps each line.
+-- If no journal was found, the snapshot alone keeps each line.
 pub loaded_alone : (found : FoundFiles) (disk : StateDisk) (line : List ℕ) → found.has_journal ≡ false → IsFoundOn found disk
     → KeepsLine disk line → SnapshotsKeep disk.snapshot line
 loaded_alone found disk line none found_on keeps = without_journal disk.snapshot disk.journal line (found_on none) keeps

@@ -22,7 +22,7 @@ use Rattle.state_steps.proofs.LineFacts.{lines_more}
 not_both : (held : Bool) → held ≡ true → held ≡ false → ⊥
 not_both held is isnt = true≢false (sym is ∙ isnt)
 
--- Not all lines are without what is held where the last of the first ones is.
+-- Not all lines are without what is held if the last of the first ones has it.
 last_unheld : (held : List ℕ → Bool) (line : List ℕ) (lines behind : List (List ℕ)) → IsLastAs held true (line ∷ lines)
     → AreUnheld held ((line ∷ lines) ++ behind) → ⊥
 last_unheld held line [] behind last none = not_both (held line) last (All-head (λ l. held l ≡ false) line behind none)

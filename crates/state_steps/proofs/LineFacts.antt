@@ -27,7 +27,7 @@ lines_more (b ∷ text) more =
     let rest = lines_more text more in
     byte_more b (b == 10) (lines_of text) (lines_of (text ++ more)) rest.0 rest.1
 
--- A whole line stays one as the text gets longer.
+-- A whole line is still one when the text gets longer.
 pub line_stays : (text more line : List ℕ) → HasWholeLine text line → HasWholeLine (text ++ more) line
 line_stays text more line has =
     let split = lines_more text more in
@@ -35,7 +35,8 @@ line_stays text more line has =
 
 -- ---- what a stop leaves
 
--- A file of which a stop leaves what the disk has, and any beginning of what came since, keeps what the disk has.
+-- If a crash leaves of a file what the disk has, and any beginning of what came since, the file
+-- keeps what the disk has.
 pub left_has : (file : FileText) (text line : List ℕ) (size : ℕ) → text ≡ file.kept ++ take size file.since
     → HasWholeLine file.kept line → HasWholeLine text line
 left_has file text line size is has =
@@ -67,7 +68,7 @@ found_settled (file ∷ files) text (inr none) = absurd none
 
 -- ---- journals that get longer
 
--- Where the journal is replaced by one that has all that the disk has of it, no line is lost.
+-- If the journal is replaced by one that has all that the disk has of it, no line is lost.
 pub keeping_longer : (snapshots : List FileText) (file longer : FileText) (more line : List ℕ) → longer.kept ≡ file.kept ++ more
     → AreKeeping snapshots (file ∷ []) line → AreKeeping snapshots (longer ∷ []) line
 keeping_longer snapshots file longer more line is keeping snapshot journal at_snapshot at_journal =

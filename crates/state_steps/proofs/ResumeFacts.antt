@@ -1,4 +1,4 @@
--- Lemmas on a replica that goes on with the journal that it found.
+-- Lemmas on a replica that continues with the journal that it found.
 use Rattle.std.proofs.Common.{◌≡◌, ℕ, ◌⊎◌, inl, inr, List, [], ◌∷◌, ◌++◌, take, length, sym, ap, subst, refl, ◌∙◌, append-nil}
 use Rattle.std.proofs.Common.{le_refl, take_all}
 use Rattle.std.specs.Prelude.{Contains}
@@ -46,7 +46,7 @@ keeping_settled_synced snapshots (file ∷ files) line keeping snapshot journal 
 cut_has : (texts : ResumeTexts) (line : List ℕ) → IsCutAtLine texts → HasWholeLine texts.found line → HasWholeLine texts.cut line
 cut_has texts line is has = subst (λ lines. Contains lines line) (sym is.whole) has
 
--- Of the text and of what is left of it each has all lines.
+-- The text and what is left of it each have all lines.
 keeping_cut : (snapshots journals : List FileText) (texts : ResumeTexts) (line : List ℕ) → IsCutAtLine texts
     → journals ≡ kept_file texts.found ∷ [] → AreKeeping snapshots journals line
     → AreKeeping snapshots (kept_file texts.cut ∷ journals) line

@@ -18,7 +18,7 @@ pub snapshots_keep : (snapshots : List FileText) (text line : List ℕ) → snap
     → HasWholeLine text line → SnapshotsKeep snapshots line
 snapshots_keep snapshots text line is has snapshot at_snapshot = kept_has snapshots text snapshot line is at_snapshot has
 
--- Where the snapshot keeps a line alone, it is kept whatever the journal is.
+-- If the snapshot alone keeps a line, the line is kept whatever the journal is.
 pub alone_keeps : (snapshots journals : List FileText) (line : List ℕ) → SnapshotsKeep snapshots line
     → AreKeeping snapshots journals line
 alone_keeps snapshots journals line keeps snapshot journal at_snapshot at_journal = inl (keeps snapshot at_snapshot)
@@ -27,7 +27,7 @@ alone_keeps snapshots journals line keeps snapshot journal at_snapshot at_journa
 none_whole : (line : List ℕ) → HasWholeLine [] line → ⊥
 none_whole line has = omega (arith, has.1)
 
--- Where nobody finds a journal, the snapshot alone keeps each line.
+-- If nobody finds a journal, the snapshot alone keeps each line.
 pub without_journal : (snapshots journals : List FileText) (line : List ℕ) → IsFirstFile (kept_file []) journals
     → AreKeeping snapshots journals line → SnapshotsKeep snapshots line
 without_journal snapshots [] line first keeping snapshot at_snapshot = absurd first

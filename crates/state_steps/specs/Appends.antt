@@ -18,13 +18,13 @@ append_step OnDisk = None
 append_step (Due step) = Some step
 append_step Failed = None
 
--- the stage where there are lines to append: after a fault none may be
+-- the stage when there are lines to append: after an error none may be
 abbrev pub with_lines : AppendStage → AppendStage
 with_lines OnDisk = Due WriteLines
 with_lines (Due step) = Due WriteLines
 with_lines Failed = Failed
 
--- the stage after this one, where the step that is due is done
+-- the stage after this one, when the step that is due is done
 abbrev pub following_append : AppendStage → AppendStage
 following_append OnDisk = OnDisk
 following_append (Due WriteLines) = Due SyncLines
@@ -48,7 +48,7 @@ abbrev pub written_after : List ℕ → AppendStage → List ℕ → List ℕ
 written_after bytes (Due WriteLines) written = written ++ bytes
 written_after bytes _ written = written
 
--- What a step that failed may leave: of the bytes any beginning is written; or the journal is as
+-- What a step that failed may leave: any beginning of the bytes is written; or the journal is as
 -- before, or on the disk.
 abbrev pub FailsAppend : List ℕ → AppendStage → StateDisk → StateDisk → Type 0
 FailsAppend bytes (Due WriteLines) disk left = (size : ℕ)
@@ -72,7 +72,7 @@ IsAppendedOn written (Due SeeNames) disk = disk.journal ≡ kept_file written �
 IsAppendedOn written (Due step) disk = IsWrittenTo written disk.journal
 IsAppendedOn written Failed disk = Unit {0}
 
--- The journal, of which this text was written, has come to its next step with these files, and the
+-- The journal, of which this text was written, has reached its next step with these files, and the
 -- line is not lost.
 pub record AppendKeeps (written : List ℕ) (journal : Appending) (disk : StateDisk)
     (line : List ℕ) : Type 0 where

@@ -20,14 +20,14 @@ keep_step Kept = None
 keep_step (Due step) = Some step
 keep_step Failed = None
 
--- the stage where a turn has lines for the audit file, or none: after a fault none may be appended
+-- the stage when a turn has lines for the audit file, or none: after an error none may be appended
 abbrev pub with_changes : Bool → KeepStage → KeepStage
 with_changes true Kept = Due (Audit WriteLines)
 with_changes false Kept = Due State
 with_changes has_lines (Due step) = Failed
 with_changes has_lines Failed = Failed
 
--- the stage after this one, where the step that is due is done
+-- the stage after this one, when the step that is due is done
 abbrev pub following_keep : KeepStage → KeepStage
 following_keep Kept = Kept
 following_keep (Due (Audit WriteLines)) = Due (Audit SyncLines)
@@ -94,7 +94,7 @@ FailsKeep texts (Due (Audit SyncLines)) audit left = (left ≡ audit)
     ⊎ (left ≡ kept_file (texts.earlier ++ texts.turn))
 FailsKeep texts _ audit left = left ≡ audit
 
--- ---- which change is where
+-- ---- which file has which change
 
 -- The state's files, of which a stop left these texts, have the line.
 abbrev pub IsHeldIn : List ℕ → List ℕ → List ℕ → Type 0
@@ -117,7 +117,7 @@ abbrev pub IsEarlierOrAbsent : AuditTexts → StateDisk → Change → Type 0
 IsEarlierOrAbsent texts disk change = HasWholeLine texts.earlier change.report
     ⊎ (HasNoTrace disk change.last × HasWholeLine (texts.earlier ++ texts.turn) change.report)
 
--- where the change is at this stage
+-- what has the change at this stage
 abbrev pub IsChangeOn : AuditTexts → KeepStage → StateDisk → Change → Type 0
 IsChangeOn texts Kept disk change = HasWholeLine texts.earlier change.report
 IsChangeOn texts (Due (Audit step)) disk change = IsEarlierOrAbsent texts disk change

@@ -1,5 +1,5 @@
--- The beginning of a replica that stays: what the files have is read, and where there was a journal
--- or no state it is saved; then an empty journal is begun.
+-- The beginning of a replica that keeps running: what the files have is read, and if there was a
+-- journal or no state it is saved; then an empty journal is begun.
 use Rattle.std.specs.Prelude.{◌≡◌, ℕ, Bool, true, false, List, [], ◌∷◌, Option, None, Some}
 use Rattle.state_steps.specs.Files.{IsFirstFile, KeepsLine, SnapshotsKeep, StateDisk, kept_file}
 use Rattle.state_steps.specs.Files.{unkept_file}
@@ -13,7 +13,7 @@ use Rattle.state_steps.specs.declared.beginning.BeginStage.{BeginStage}
 use Rattle.state_steps.specs.declared.beginning.BeginStage.TheVariants.{LoadAndSave, Load, Change}
 use Rattle.state_steps.specs.declared.beginning.BeginStage.TheVariants.{Done, Failed}
 use Rattle.state_steps.specs.declared.folding.FoldEnd.{FoldEnd}
-use Rattle.state_steps.specs.declared.folding.FoldEnd.TheVariants.{JournalGoesOn, ReplicaEnds}
+use Rattle.state_steps.specs.declared.folding.FoldEnd.TheVariants.{JournalContinues, ReplicaEnds}
 use Rattle.state_steps.specs.declared.saving.SaveStage.TheVariants.{Due}
 use Rattle.state_steps.specs.declared.file_step.FileStep.{FileStep}
 use Rattle.state_steps.specs.declared.file_step.FileStep.TheVariants.{WriteSnapshot, SyncSnapshot}
@@ -29,11 +29,11 @@ pub record IsWithoutState (found : FoundFiles) (may_be_new : Bool) : Type 0 wher
   pub journal : found.has_journal ≡ false
   pub new : may_be_new ≡ false
 
--- It was looked right: where no journal was found, there is none now.
+-- What was found is right: if no journal was found, none is there now.
 abbrev pub IsFoundOn : FoundFiles → StateDisk → Type 0
 IsFoundOn found disk = found.has_journal ≡ false → IsFirstFile (kept_file []) disk.journal
 
--- What was found is saved where there was a journal, or no state.
+-- What was found is saved if there was a journal, or no state.
 abbrev pub first_stage : FoundFiles → BeginStage
 first_stage found = stage_of found.has_state found.has_journal
   where
@@ -57,7 +57,7 @@ abbrev pub begin_change : BeginStage → Option FileStep
 begin_change (Change change) = Some change
 begin_change _ = None
 
--- the stage after this one, where the step that is due is done
+-- the stage after this one, when the step that is due is done
 abbrev pub following_begin : BeginStage → BeginStage
 following_begin LoadAndSave = Change WriteSnapshot
 following_begin Load = Change BeginJournal
@@ -96,7 +96,7 @@ IsBeginDueOn texts (Change change) disk = IsSaveDueOn texts (Due change) disk
 IsBeginDueOn texts Done disk = disk.journal ≡ kept_file texts.first_line ∷ []
 IsBeginDueOn texts _ disk = Unit {0}
 
--- where the line is at this stage: where the journal is begun, the snapshot alone keeps it
+-- what has the line at this stage: when the journal is begun, the snapshot alone keeps it
 abbrev pub IsBeginKeptOn : StateTexts → BeginStage → StateDisk → List ℕ → Type 0
 IsBeginKeptOn texts LoadAndSave disk line = KeepsLine disk line
 IsBeginKeptOn texts Load disk line = SnapshotsKeep disk.snapshot line
@@ -106,24 +106,24 @@ IsBeginKeptOn texts (Change change) disk line = IsSaveKeptOn texts (Due change) 
 IsBeginKeptOn texts Done disk line = SnapshotsKeep disk.snapshot line
 IsBeginKeptOn texts Failed disk line = KeepsLine disk line
 
--- The beginning that writes these texts has come to its next step with these files, and the line is
+-- The beginning that writes these texts has reached its next step with these files, and the line is
 -- not lost.
 pub record BeginKeeps (texts : StateTexts) (begin : Beginning) (disk : StateDisk)
     (line : List ℕ) : Type 0 where
   pub due : IsBeginDueOn texts begin.stage disk
   pub kept : IsBeginKeptOn texts begin.stage disk line
 
--- The journal is begun: it has its first line alone, and is on the disk under its name.
+-- The journal is begun: it has only its first line, and is on the disk under its name.
 pub record HasBegun (texts : StateTexts) (begin : Beginning) (disk : StateDisk) : Type 0 where
   pub done : begin.stage ≡ Done
   pub journal : disk.journal ≡ kept_file texts.first_line ∷ []
 
 -- ---- a beginning that failed
 
--- what is to be done where the step failed: before the journal is removed, it is as it was found
+-- what is to be done if the step failed: before the journal is removed, it is as it was found
 abbrev pub begin_end : BeginStage → FoldEnd
-begin_end (Change WriteSnapshot) = JournalGoesOn
-begin_end (Change SyncSnapshot) = JournalGoesOn
-begin_end (Change ReplaceSnapshot) = JournalGoesOn
-begin_end (Change SyncFolder) = JournalGoesOn
+begin_end (Change WriteSnapshot) = JournalContinues
+begin_end (Change SyncSnapshot) = JournalContinues
+begin_end (Change ReplaceSnapshot) = JournalContinues
+begin_end (Change SyncFolder) = JournalContinues
 begin_end _ = ReplicaEnds

@@ -19,7 +19,7 @@ cut_step (Due step) = Some step
 cut_step Done = None
 cut_step Refused = None
 
--- the stage after this one, where the step that is due is done
+-- the stage after this one, when the step that is due is done
 abbrev pub following_cut : CutStage → CutStage
 following_cut (Due ReadLine) = Refused
 following_cut (Due CutLines) = Due SyncCut
@@ -27,12 +27,12 @@ following_cut (Due SyncCut) = Done
 following_cut Done = Done
 following_cut Refused = Refused
 
--- the stage where all lines that are to be cut off were read, and there are this many
+-- the stage when all lines that are to be cut off were read, and there are this many
 abbrev pub with_cut : ℕ → CutStage
 with_cut zero = Done
 with_cut (suc more) = Due CutLines
 
--- the stage after this line, where this many were to be cut off before it
+-- the stage after this line, when this many were to be cut off before it
 abbrev pub with_read_line : LastLine → ℕ → CutStage → CutStage
 with_read_line Missing cut (Due ReadLine) = with_cut cut
 with_read_line Held cut (Due ReadLine) = with_cut cut

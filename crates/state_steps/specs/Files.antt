@@ -22,7 +22,7 @@ unkept_file text = record { kept = []; since = text }
 abbrev pub synced_file : FileText → FileText
 synced_file file = kept_file (file.kept ++ file.since)
 
--- Of what was written since, a stop leaves any beginning.
+-- After a crash any beginning of what was written since may be left.
 abbrev pub IsLeftOf : FileText → List ℕ → Type 0
 IsLeftOf file text = (size : ℕ) × (text ≡ file.kept ++ take size file.since)
 
@@ -35,7 +35,7 @@ IsFoundAt (file ∷ files) text = IsLeftOf file text ⊎ IsFoundAt files text
 abbrev pub text_now : FileText → List ℕ
 text_now file = file.kept ++ file.since
 
--- The system has put the folder on the disk: the name has its first file alone.
+-- The system has put the folder on the disk: the name has only its first file.
 abbrev pub settled_name : List FileText → List FileText
 settled_name [] = []
 settled_name (file ∷ files) = file ∷ []

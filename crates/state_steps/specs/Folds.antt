@@ -5,7 +5,7 @@ use Rattle.state_steps.specs.Files.{HasOneFile, HasWholeLine, IsFirstFile, IsJou
 use Rattle.state_steps.specs.Files.{KeepsLine, StateDisk, kept_file, unkept_file}
 use Rattle.state_steps.specs.Steps.{StateTexts}
 use Rattle.state_steps.specs.declared.folding.FoldEnd.{FoldEnd}
-use Rattle.state_steps.specs.declared.folding.FoldEnd.TheVariants.{JournalGoesOn, ReplicaEnds}
+use Rattle.state_steps.specs.declared.folding.FoldEnd.TheVariants.{JournalContinues, ReplicaEnds}
 use Rattle.state_steps.specs.declared.folding.Folding.{Folding}
 use Rattle.state_steps.specs.declared.file_step.FileStep.{FileStep}
 use Rattle.state_steps.specs.declared.file_step.FileStep.TheVariants.{WriteSnapshot, SyncSnapshot}
@@ -15,7 +15,7 @@ use Rattle.state_steps.specs.declared.file_step.FileStep.TheVariants.{SyncJourna
 
 -- ---- the order of the steps
 
--- the step after this one: the journal is emptied only where the new snapshot has all of it
+-- the step after this one: the journal is emptied only if the new snapshot has all of it
 abbrev pub following_step : Bool → Option FileStep → Option FileStep
 following_step whole (Some WriteSnapshot) = Some SyncSnapshot
 following_step whole (Some SyncSnapshot) = Some ReplaceSnapshot
@@ -40,8 +40,7 @@ steps_left None = 0
 
 -- ---- how far a fold has come
 
--- the files, where this step is due
--- (no fold removes the journal)
+-- the files, when this step is due (no fold removes the journal)
 abbrev pub IsDueOn : StateTexts → Option FileStep → StateDisk → Type 0
 IsDueOn texts (Some WriteSnapshot) disk = HasOneFile disk.journal
 IsDueOn texts (Some SyncSnapshot) disk = HasOneFile disk.journal
@@ -57,13 +56,13 @@ IsDueOn texts (Some SyncJournal) disk = (disk.snapshot ≡ kept_file texts.snaps
 IsDueOn texts (Some RemoveJournal) disk = ⊥
 IsDueOn texts None disk = HasOneFile disk.journal
 
--- The new snapshot has the line; or where lines came since it was begun, the journal has it.
+-- The new snapshot has the line; or if lines came since it was begun, the journal has it.
 abbrev pub IsTakenOver : Bool → StateTexts → StateDisk → List ℕ → Type 0
 IsTakenOver true texts disk line = HasWholeLine texts.snapshot line
 IsTakenOver false texts disk line = HasWholeLine texts.snapshot line
     ⊎ IsJournalled disk.journal line
 
--- where the line is, where this step is due
+-- what has the line, when this step is due
 abbrev pub IsKeptOn : StateTexts → Option FileStep → Bool → StateDisk → List ℕ → Type 0
 IsKeptOn texts (Some WriteSnapshot) whole disk line = KeepsLine disk line
 IsKeptOn texts (Some BeginJournal) whole disk line = HasWholeLine texts.snapshot line
@@ -71,7 +70,7 @@ IsKeptOn texts (Some SyncJournal) whole disk line = HasWholeLine texts.snapshot 
 IsKeptOn texts (Some _) whole disk line = KeepsLine disk line × IsTakenOver whole texts disk line
 IsKeptOn texts None whole disk line = KeepsLine disk line
 
--- The fold that writes these texts has come to its next step with these files, and the line is not
+-- The fold that writes these texts has reached its next step with these files, and the line is not
 -- lost.
 pub record FoldKeeps (texts : StateTexts) (fold : Folding) (disk : StateDisk)
     (line : List ℕ) : Type 0 where
@@ -85,9 +84,9 @@ pub record IsFolded (texts : StateTexts) (disk : StateDisk) : Type 0 where
 
 -- ---- a fold that failed
 
--- what is to be done where the step failed: while the journal is being emptied, what the disk has
+-- what is to be done if the step failed: while the journal is being emptied, what the disk has
 -- of it is not known
 abbrev pub fold_end : Option FileStep → FoldEnd
 fold_end (Some BeginJournal) = ReplicaEnds
 fold_end (Some SyncJournal) = ReplicaEnds
-fold_end _ = JournalGoesOn
+fold_end _ = JournalContinues

@@ -1,4 +1,4 @@
--- A replica goes on with the journal that it found: the journal is put on the disk, the part of a
+-- A replica continues with the journal that it found: the journal is put on the disk, the part of a
 -- line at its end is cut off, and that is put on the disk too.
 use Rattle.std.specs.Prelude.{◌≡◌, ℕ, ◌⊎◌, List, [], ◌∷◌, Option, None, Some}
 use Rattle.byte_lines.specs.Lines.{lines_of}
@@ -18,7 +18,7 @@ resume_step (Due step) = Some step
 resume_step Done = None
 resume_step Failed = None
 
--- the stage after this one, where the step that is due is done
+-- the stage after this one, when the step that is due is done
 abbrev pub following_resume : ResumeStage → ResumeStage
 following_resume (Due SyncFound) = Due CutLine
 following_resume (Due CutLine) = Due SyncCut
@@ -80,7 +80,7 @@ IsResumedOn texts (Due SyncCut) disk = IsFirstFile (kept_file texts.cut) disk.jo
 IsResumedOn texts Done disk = disk.journal ≡ kept_file texts.cut ∷ []
 IsResumedOn texts Failed disk = Unit {0}
 
--- The journal has come to its next step with these files, and the line is not lost.
+-- The journal has reached its next step with these files, and the line is not lost.
 pub record ResumeKeeps (texts : ResumeTexts) (resuming : Resuming) (disk : StateDisk)
     (line : List ℕ) : Type 0 where
   pub due : IsResumedOn texts resuming.stage disk

@@ -20,7 +20,7 @@ save_step (Due step) = Some step
 save_step Done = None
 save_step Failed = None
 
--- the stage after this one, where the step that is due is done
+-- the stage after this one, when the step that is due is done
 abbrev pub following_save : SaveStage → SaveStage
 following_save (Due WriteSnapshot) = Due SyncSnapshot
 following_save (Due SyncSnapshot) = Due ReplaceSnapshot
@@ -54,7 +54,7 @@ IsSaveDueOn texts Done disk = (disk.snapshot ≡ kept_file texts.snapshot ∷ []
     × IsFirstFile (kept_file []) disk.journal
 IsSaveDueOn texts Failed disk = Unit {0}
 
--- where the line is at this stage: from the first step on the new snapshot has it
+-- what has the line at this stage: from the first step on the new snapshot has it
 abbrev pub IsSaveKeptOn : StateTexts → SaveStage → StateDisk → List ℕ → Type 0
 IsSaveKeptOn texts (Due WriteSnapshot) disk line = KeepsLine disk line
 IsSaveKeptOn texts (Due RemoveJournal) disk line = HasWholeLine texts.snapshot line
@@ -62,7 +62,7 @@ IsSaveKeptOn texts (Due _) disk line = KeepsLine disk line × HasWholeLine texts
 IsSaveKeptOn texts Done disk line = HasWholeLine texts.snapshot line
 IsSaveKeptOn texts Failed disk line = KeepsLine disk line
 
--- The save that writes this snapshot has come to its next step with these files, and the line is
+-- The save that writes this snapshot has reached its next step with these files, and the line is
 -- not lost.
 pub record SaveKeeps (texts : StateTexts) (save : Saving) (disk : StateDisk)
     (line : List ℕ) : Type 0 where

@@ -34,7 +34,7 @@ abbrev pub after_due : StateTexts → Option FileStep → StateDisk → StateDis
 after_due texts None disk = disk
 after_due texts (Some step) disk = after_step texts step disk
 
--- Where the step writes the snapshot, that has the line.
+-- If the step writes the snapshot, the snapshot has the line.
 abbrev pub WritesLine : StateTexts → Option FileStep → List ℕ → Type 0
 WritesLine texts (Some WriteSnapshot) line = HasWholeLine texts.snapshot line
 WritesLine texts _ line = Unit {0}
@@ -46,7 +46,7 @@ abbrev pub IsDoneOrNot : StateTexts → FileStep → StateDisk → StateDisk →
 IsDoneOrNot texts step disk left = (left ≡ disk) ⊎ (left ≡ after_step texts step disk)
 
 -- The name of the journal has a new file with any beginning of the first line: with nothing of it
--- also where the old file is removed and the new one is not made.
+-- also if the old file is removed and the new one is not made.
 abbrev pub IsPartlyBegun : StateTexts → StateDisk → StateDisk → Type 0
 IsPartlyBegun texts disk left = (size : ℕ)
     × (left ≡ record disk { journal = unkept_file (take size texts.first_line) ∷ disk.journal })
@@ -71,7 +71,7 @@ FailsDue texts (Some step) disk left = FailsTo texts step disk left
 
 -- ---- what is left under the name that nobody reads
 
--- Where this step failed, a new snapshot may be left that never gets its name.
+-- If this step failed, a new snapshot may be left that never gets its name.
 abbrev pub leaves_new : FileStep → Bool
 leaves_new WriteSnapshot = true
 leaves_new SyncSnapshot = true

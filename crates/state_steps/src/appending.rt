@@ -43,7 +43,7 @@ pub struct Appending {
 impl Appending {
     /// A journal all of which is on the disk.
     ///
-    /// - `keeps`: each line that is kept goes on being kept.
+    /// - `keeps`: each line that is kept is still kept.
     pub fn begin() -> Appending
         ensures keeps { (written : List ℕ) (disk : StateDisk) (line : List ℕ)
             → disk.journal ≡ kept_file written ∷ [] → KeepsLine disk line
@@ -126,7 +126,7 @@ impl Appending {
     }
 }
 
-// The stage after this one, where the step that is due is done.
+// The stage after this one, when the step that is due is done.
 fn stage_after(stage: AppendStage) -> AppendStage
     ensures { result ≡ following_append stage }
 {

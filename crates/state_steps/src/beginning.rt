@@ -7,7 +7,7 @@ ghost use Rattle.state_steps.specs.Begins.{following_begin};
 ghost use Rattle.state_steps.specs.Files.{KeepsLine, SnapshotsKeep, StateDisk};
 ghost use Rattle.state_steps.specs.Steps.{FailsDue, StateTexts, WritesLine, after_due};
 ghost use Rattle.state_steps.specs.declared.beginning.BeginStage.TheVariants.{Done, Failed};
-ghost use Rattle.state_steps.specs.declared.folding.FoldEnd.TheVariants.{JournalGoesOn};
+ghost use Rattle.state_steps.specs.declared.folding.FoldEnd.TheVariants.{JournalContinues};
 
 use crate::file_step::FileStep;
 use crate::folding::FoldEnd;
@@ -60,7 +60,7 @@ impl Beginning {
     /// The beginning with these files, or none if there is neither and the caller does not say that
     /// it may begin without them.
     ///
-    /// - `refused`: when there is none.
+    /// - `refused`: when it returns none.
     /// - `keeps`: unless there is a journal now and none was found, each line that is kept is still
     ///   kept.
     /// - `stage`: what is read is saved if there is a journal, or no state.
@@ -137,7 +137,7 @@ impl Beginning {
     /// It returns what is to be done.
     ///
     /// - `keeps`: no line is lost.
-    /// - `goes_on`: if the journal is continued, it is as it was found.
+    /// - `continues`: if the journal is continued, it is as it was found.
     /// - `ends`: it is continued if the state was to be written.
     /// - `over`: the beginning is over, and not done.
     pub fn failed(&mut self) -> FoldEnd
@@ -145,7 +145,7 @@ impl Beginning {
             → BeginKeeps texts self.old disk line
             → FailsDue texts (begin_change self.old.stage) disk left
             → BeginKeeps texts self.new left line }
-        ensures goes_on { (texts : StateTexts) (disk left : StateDisk) → result ≡ JournalGoesOn
+        ensures continues { (texts : StateTexts) (disk left : StateDisk) → result ≡ JournalContinues
             → FailsDue texts (begin_change self.old.stage) disk left
             → left.journal ≡ disk.journal }
         ensures ends { result ≡ begin_end self.old.stage }
@@ -157,7 +157,7 @@ impl Beginning {
                 | FileStep::SyncSnapshot
                 | FileStep::ReplaceSnapshot
                 | FileStep::SyncFolder,
-            ) => FoldEnd::JournalGoesOn,
+            ) => FoldEnd::JournalContinues,
             _ => FoldEnd::ReplicaEnds,
         };
         self.stage = BeginStage::Failed;
@@ -165,7 +165,7 @@ impl Beginning {
     }
 }
 
-// The stage after this one, where the step that is due is done.
+// The stage after this one, when the step that is due is done.
 fn stage_after(stage: BeginStage) -> BeginStage
     ensures { result ≡ following_begin stage }
 {

@@ -21,7 +21,7 @@ pub enum CutStep {
 /// What the last line is that was not read yet.
 #[derive(Clone, Copy, Debug, PartialEq, Eq)]
 pub enum LastLine {
-    /// There is none.
+    /// There is no such line.
     Missing,
     /// It is of a change that is held, or it says what is held at a start.
     Held,
@@ -72,7 +72,7 @@ impl Cutting {
         }
     }
 
-    /// The step that is due; none where all are done, or the file is refused.
+    /// The step that is due; none when all are done, or the file is refused.
     pub fn next(&self) -> Option<CutStep>
         ensures { result ≡ cut_step self.now.stage }
     {
@@ -147,7 +147,7 @@ impl Cutting {
     }
 }
 
-// The stage after this line, where this many were to be cut off before it.
+// The stage after this line, when this many were to be cut off before it.
 fn stage_with(line: LastLine, cut: u64, stage: CutStage) -> CutStage
     ensures { result ≡ with_read_line line cut stage }
 {
@@ -159,7 +159,7 @@ fn stage_with(line: LastLine, cut: u64, stage: CutStage) -> CutStage
     }
 }
 
-// The stage where this many lines are to be cut off.
+// The stage when this many lines are to be cut off.
 fn stage_of_cut(cut: u64) -> CutStage
     ensures { result ≡ with_cut cut }
 {
@@ -170,7 +170,7 @@ fn stage_of_cut(cut: u64) -> CutStage
     }
 }
 
-// The stage after this one, where the step that is due is done.
+// The stage after this one, when the step that is due is done.
 fn stage_after(stage: CutStage) -> CutStage
     ensures { result ≡ following_cut stage }
 {

@@ -6,7 +6,7 @@ ghost use Rattle.state_steps.specs.Files.{StateDisk, appended, appending};
 ghost use Rattle.state_steps.specs.Folds.{FoldKeeps, IsDueOn, IsFolded, fold_end};
 ghost use Rattle.state_steps.specs.Folds.{following_step, steps_left};
 ghost use Rattle.state_steps.specs.Steps.{FailsDue, StateTexts, WritesLine, after_due};
-ghost use Rattle.state_steps.specs.declared.folding.FoldEnd.TheVariants.{JournalGoesOn};
+ghost use Rattle.state_steps.specs.declared.folding.FoldEnd.TheVariants.{JournalContinues};
 
 use crate::file_step::FileStep;
 
@@ -14,7 +14,7 @@ use crate::file_step::FileStep;
 #[derive(Clone, Copy, Debug, PartialEq, Eq)]
 pub enum FoldEnd {
     /// The journal is as it was, and lines are appended to it as before.
-    JournalGoesOn,
+    JournalContinues,
     /// The journal was being removed or emptied: what the disk has of it is not known. Nothing may
     /// be appended to it before a new journal is begun.
     ReplicaEnds,
@@ -36,7 +36,7 @@ impl Folding {
     /// The beginning of a fold.
     ///
     /// - `due`: it may begin whatever was written under the name of the new file.
-    /// - `keeps`: each line that is kept then goes on being kept.
+    /// - `keeps`: each line that is kept then is still kept.
     pub fn begin() -> Folding
         ensures due { (texts : StateTexts) (disk : StateDisk)
             → HasOneFile disk.journal → IsDueOn texts result.next disk }
@@ -104,14 +104,14 @@ impl Folding {
     /// It returns what is to be done.
     ///
     /// - `keeps`: no line is lost.
-    /// - `goes_on`: if the journal is continued, it is as it was.
+    /// - `continues`: if the journal is continued, it is as it was.
     /// - `ends`: the replica ends if the journal was being emptied.
     /// - `over`: the fold is over, and not done.
     pub fn failed(&mut self) -> FoldEnd
         ensures keeps { (texts : StateTexts) (disk left : StateDisk) (line : List ℕ)
             → FoldKeeps texts self.old disk line → FailsDue texts self.old.next disk left
             → KeepsLine left line }
-        ensures goes_on { (texts : StateTexts) (disk left : StateDisk) → result ≡ JournalGoesOn
+        ensures continues { (texts : StateTexts) (disk left : StateDisk) → result ≡ JournalContinues
             → IsDueOn texts self.old.next disk → FailsDue texts self.old.next disk left
             → (left.journal ≡ disk.journal) × IsDueOn texts self.new.next left }
         ensures ends { result ≡ fold_end self.old.next }
@@ -119,7 +119,7 @@ impl Folding {
     {
         let end = match self.next {
             Some(FileStep::BeginJournal | FileStep::SyncJournal) => FoldEnd::ReplicaEnds,
-            _ => FoldEnd::JournalGoesOn,
+            _ => FoldEnd::JournalContinues,
         };
         self.next = None;
         self.is_whole = false;
@@ -133,8 +133,8 @@ impl Folding {
     /// - `meanwhile`: before the lines are on the disk no other line is lost.
     /// - `keeps`: nor after that.
     /// - `new_lines`: what is a line of the journal now is not lost from now on.
-    /// - `goes_on`: a fold whose snapshot is not begun has the lines in it; if the journal would be
-    ///   emptied next, the fold is over; and else it continues.
+    /// - `continues`: a fold whose snapshot is not begun has the lines in it; if the journal would
+    ///   be emptied next, the fold is over; and else it continues.
     pub fn append(&mut self)
         requires { steps_left self.old.next ≢ 1 }
         ensures due { (texts : StateTexts) (disk : StateDisk) (bytes : List ℕ)
@@ -149,7 +149,7 @@ impl Folding {
             → IsDueOn texts self.old.next disk
             → IsJournalled (appended bytes disk).journal line
             → FoldKeeps texts self.new (appended bytes disk) line }
-        ensures goes_on { steps_left self.old.next ≢ 2 → self.new.next ≡ self.old.next }
+        ensures continues { steps_left self.old.next ≢ 2 → self.new.next ≡ self.old.next }
         ensures fresh { steps_left self.old.next ≡ 6 → self.new ≡ self.old }
     {
         match self.next {

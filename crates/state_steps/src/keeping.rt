@@ -1,4 +1,4 @@
-//! The steps in which the changes of a turn are put on the disk where there is an audit file, in
+//! The steps in which the changes of a turn are put on the disk if there is an audit file, in
 //! their order.
 ghost use Rattle.std.specs.Prelude.{◌≡◌, ◌++◌, [], ◌↔◌, Bool, IsTrue, false, List, ℕ};
 ghost use Rattle.state_steps.specs.Audits.{AuditedFiles, AuditKeeps, AuditTexts, Change};
@@ -36,8 +36,8 @@ enum KeepStage {
 /// a turn has changes, when the step is done, or that it failed.
 ///
 /// The state's files get nothing of a change before its line of the audit file is on the disk. So
-/// whatever a stop leaves, each change that is held has its line. After a fault nothing more is put
-/// on the disk.
+/// whatever a stop leaves, each change that is held has its line. After an error nothing more is
+/// put on the disk.
 #[derive(Clone, Copy, Debug)]
 pub struct Keeping {
     stage: KeepStage,
@@ -58,7 +58,7 @@ impl Keeping {
         }
     }
 
-    /// The step that is due; none where all is on the disk, or after a fault.
+    /// The step that is due; none when all is on the disk, or after an error.
     pub fn next(&self) -> Option<KeepStep>
         ensures { result ≡ keep_step self.now.stage }
     {
@@ -126,7 +126,7 @@ impl Keeping {
     }
 
     /// Says that the step that was due failed: what it left is its work, or none or a part of it.
-    /// So it is also where the name of the audit file leads to another one.
+    /// It is the same if the name of the audit file leads to another one.
     ///
     /// - `keeps`: no change is without its line.
     /// - `over`: nothing is acknowledged, and no file gets anything more.
@@ -142,7 +142,7 @@ impl Keeping {
     }
 }
 
-// The stage after this one, where the step that is due is done.
+// The stage after this one, when the step that is due is done.
 fn stage_after(stage: KeepStage) -> KeepStage
     ensures { result ≡ following_keep stage }
 {

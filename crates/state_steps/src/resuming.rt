@@ -1,4 +1,4 @@
-//! The steps in which a replica goes on with the journal that it found, in their order.
+//! The steps in which a replica continues with the journal that it found, in their order.
 ghost use Rattle.std.specs.Prelude.{◌≡◌, ◌-◌, ◌∷◌, [], ◌↔◌, IsTrue, List, ℕ};
 ghost use Rattle.state_steps.specs.Files.{KeepsLine, StateDisk, kept_file};
 ghost use Rattle.state_steps.specs.Resumes.{FailsResume, IsCutAtLine, IsReadNow, IsResumedOn};
@@ -7,7 +7,7 @@ ghost use Rattle.state_steps.specs.Resumes.{following_resume};
 ghost use Rattle.state_steps.specs.Resumes.{resume_step, resume_steps_left};
 ghost use Rattle.state_steps.specs.declared.resuming.ResumeStage.TheVariants.{Done, Failed};
 
-/// A step in which a replica goes on with a journal.
+/// A step in which a replica continues with a journal.
 #[derive(Clone, Copy, Debug, PartialEq, Eq)]
 pub enum ResumeStep {
     /// The system puts the journal as it was found, and the folder, on the disk.
@@ -29,7 +29,7 @@ enum ResumeStage {
     Failed,
 }
 
-/// A replica could not write the state at its beginning, and goes on with the journal that it
+/// A replica could not write the state at its beginning, and continues with the journal that it
 /// found. A kill may have left a part of a line at its end, after which no line may be appended. It
 /// says which step is due. Its caller says when the step is done, or that it failed.
 ///
@@ -43,7 +43,7 @@ pub struct Resuming {
 impl Resuming {
     /// The beginning, whatever the journal that was found has.
     ///
-    /// - `keeps`: each line that is kept goes on being kept.
+    /// - `keeps`: each line that is kept is still kept.
     /// - `steps`: it has three steps.
     pub fn begin() -> Resuming
         ensures keeps { (texts : ResumeTexts) (disk : StateDisk) (line : List ℕ)
@@ -110,7 +110,7 @@ impl Resuming {
     }
 }
 
-// The stage after this one, where the step that is due is done.
+// The stage after this one, when the step that is due is done.
 fn stage_after(stage: ResumeStage) -> ResumeStage
     ensures { result ≡ following_resume stage }
 {

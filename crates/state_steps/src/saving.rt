@@ -33,7 +33,7 @@ impl Saving {
     /// The beginning of a save.
     ///
     /// - `keeps`: it may begin at any time, whatever was written under the name of the new file.
-    ///   Each line that is kept then goes on being kept.
+    ///   Each line that is kept then is still kept.
     /// - `steps`: it has five steps.
     pub fn begin() -> Saving
         ensures keeps { (texts : StateTexts) (disk : StateDisk) (line : List ℕ)
@@ -109,7 +109,7 @@ impl Saving {
     }
 }
 
-// The stage after this one, where the step that is due is done. No save begins a journal.
+// The stage after this one, when the step that is due is done. No save begins a journal.
 fn stage_after(stage: SaveStage) -> SaveStage
     ensures { result ≡ following_save stage }
 {

@@ -1,4 +1,4 @@
--- The status of a replica: what an operator looks at to see whether it is well
+-- The status of a replica, for operators: what it holds, and the current bundle of each domain
 use Rattle.std.specs.Prelude.{◌≡◌, ℕ, ◌*◌, Bool, false, ◌&&◌, ◌||◌, not, nat_lt}
 use Rattle.std.specs.Prelude.{List, map, filter, length, Contains}
 use Rattle.std.specs.Prelude.{Option, Some, None}

@@ -4,7 +4,7 @@ ghost use Rattle.status_warnings.specs.WarningLines.{kind_of_fault, kind_name, s
 
 use crate::warning_kinds::{DomainFault, Stock, Warning};
 
-/// The kind of a warning, as a word.
+/// The name of a warning's kind.
 pub(crate) fn kind_name(warning: &Warning) -> &'static str
     ensures { result.now ≡ kind_name warning.now }
 {
@@ -29,7 +29,7 @@ fn kind_of_fault(fault: DomainFault) -> &'static str
     }
 }
 
-/// What is held, as a word.
+/// The name of what is held.
 pub(crate) fn stock_name(stock: Stock) -> &'static str
     ensures { result.now ≡ stock_name stock }
 {

@@ -14,9 +14,10 @@ mod serve;
 mod state_readers;
 mod state_writers;
 
+use command_exits::Exit;
+use command_line::{Call, CommandName, OptionName, given, is_flag_given};
 use command_streams::options::config_of;
 use fed_config::Config;
-use fedbundle::{Call, CommandName, Exit, OptionName, given, is_flag_given};
 
 /// Carries out the command, which is any but `replica`, with files and streams of this process.
 /// Returns the exit status: 0, or 1 if an input was refused and the rest is done.

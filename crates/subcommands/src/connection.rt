@@ -1,5 +1,5 @@
 //! Connections with other replicas, and how long they may keep this one.
-use fedbundle::{CommandError, Exit, Step, SystemFault};
+use command_exits::{CommandError, Exit, Step, SystemFault};
 use replica_core::SyncError;
 use std::io::{ErrorKind, Read, Write};
 use std::net::{SocketAddr, TcpListener, TcpStream};
@@ -14,7 +14,7 @@ const MAX_IDLE_SECONDS: u64 = 30;
 const MAX_SESSION_SECONDS: u64 = 600;
 
 /// How often one read or write is begun again after a signal, as when the process was stopped and
-/// goes on, or a debugger was attached.
+/// continued, or a debugger was attached.
 const MAX_INTERRUPTIONS: u32 = 1_000_000;
 
 /// How long a failed accept waits, so that errors that come one after another take no processor.
@@ -142,7 +142,7 @@ fn fault_at(step: Step, error: &io::Error) -> Exit {
     })
 }
 
-// Of all errors of the system, only lack of memory has a name of its own.
+// Among all errors of the system, only lack of memory has a name of its own.
 fn fault_of(error: &io::Error) -> CommandError {
     match error.kind() {
         ErrorKind::OutOfMemory => CommandError::Sync(SyncError::NoMemory),

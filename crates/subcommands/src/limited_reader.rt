@@ -8,7 +8,6 @@ use std::io::{ErrorKind, Read};
 pub(crate) struct LimitedReader<R> {
     reader: R,
     left: u64,
-    has_given: bool,
     has_passed: bool,
 }
 
@@ -17,14 +16,8 @@ impl<R: Read> LimitedReader<R> {
         LimitedReader {
             reader,
             left: most,
-            has_given: false,
             has_passed: false,
         }
-    }
-
-    /// Whether it gave a byte.
-    pub(crate) fn has_given(&self) -> bool {
-        self.has_given
     }
 
     /// Whether it failed because there were more bytes.
@@ -53,7 +46,6 @@ impl<R: Read> Read for LimitedReader<R> {
         let room = left.min(buffer.len());
         let read = self.reader.read(&mut buffer[..room])?;
         self.left = self.left.saturating_sub(read as u64);
-        self.has_given |= read > 0;
         Ok(read)
     }
 }

@@ -1,11 +1,11 @@
 //! The state file as the commands use it: its lock, which is waited for within a limit, what it
-//! holds, and how much may come to that.
+//! holds, and how much may be added to that.
+use command_exits::{CommandError, Exit, Step};
+use command_line::{
+    Call, CommandName, Manner, OptionName, given, is_flag_given, manner_of, wanted,
+};
 use command_streams::{error_lines, is_verbose_unasked, progress_mode};
 use fed_config::Config;
-use fedbundle::{
-    Call, CommandError, CommandName, Exit, Manner, OptionName, Step, given, is_flag_given,
-    manner_of, wanted,
-};
 use state_files::{
     StateLock, has_journal, is_marked, load_state, save_state, state_bytes, try_lock_state,
 };
@@ -46,7 +46,7 @@ pub(crate) fn state_access_of<'a>(call: &Call<'a>) -> Result<StateAccess<'a>, Ex
     })
 }
 
-// A command that only looks at what a state holds is mistaken if there is none, unless its
+// A command that only looks at what a state holds is mistaken if there is no state, unless its
 // arguments say that there may be none. The commands of the exchange format take it for one that
 // holds nothing (D-439).
 fn missing_of(call: &Call<'_>) -> MissingState {
@@ -130,7 +130,7 @@ fn try_lock(rt: &HostRuntime, path: &str) -> Result<Option<StateLock>, Exit> {
     }
 }
 
-/// What the state file holds. If there is none, the command refuses it, or says so if more is
+/// What the state file holds. If the file is missing, the command refuses it, or says so if more is
 /// wanted.
 pub(crate) fn load<C: Closure>(
     rt: &HostRuntime,
@@ -175,8 +175,8 @@ pub(crate) fn save<C: Closure>(rt: &HostRuntime, closure: &C, path: &str) -> Res
     }
 }
 
-/// How many bytes may come to those that the state file has. If the system does not say how many
-/// these are, the command finds out when it loads them.
+/// How many bytes may be added to those that the state file has. If the system does not say how
+/// many these are, the command finds out when it loads them.
 pub(crate) fn room_left(rt: &HostRuntime, state: StateAccess<'_>) -> u64 {
     match state_bytes(rt, state.path) {
         Ok(Some(bytes)) => state.manner.most_bytes.saturating_sub(bytes),

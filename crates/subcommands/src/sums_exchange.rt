@@ -1,7 +1,7 @@
-//! The question about sums with which a session begins, and its answer. Haves follow it, by the
-//! functions of `fedbundle`.
+//! The question about sums with which a served session may begin, and its answer. Haves follow it,
+//! by the functions of `fedbundle`.
 use crate::peeked_reader::PeekedReader;
-use bucket_sums::{KeptSums, SumsAsking, SumsServing, sums_held, sums_question};
+use bucket_sums::{KeptSums, SumsServing};
 use closure_core::Closure;
 use replica_core::SyncError;
 use replica_sync::read_first_line;
@@ -11,39 +11,6 @@ use trust_closure::ExchangeClosure;
 
 /// The most bytes that the first line of a question may have, without its line feed.
 const LONGEST_FIRST_LINE: usize = 512;
-
-/// Asks which parts of what the other side holds differ from those of the closure, and returns
-/// about which buckets haves are to be asked then: none if nothing differs.
-///
-/// # Errors
-/// The first that holds:
-/// - those of [`SumsAsking::read`],
-/// - [`SyncError::Truncated`]: the answer ends too early,
-/// - [`SyncError::Io`]: the reader or the writer failed,
-/// - [`SyncError::NoMemory`]: memory ran out.
-pub(crate) fn ask_for_sums<R: Read, W: Write>(
-    alloc: Global,
-    closure: &ExchangeClosure,
-    reader: &mut PeekedReader<R>,
-    writer: &mut W,
-) -> Result<Vec<u8>, SyncError> {
-    let config = closure.config();
-    let question = sums_question(alloc, config, &sums_held(alloc, closure)?)?;
-    write(writer, question.as_slice())?;
-    let mut asking = SumsAsking::new(alloc);
-    for _ in 0..u64::MAX {
-        let used = asking.read(alloc, config, reader.ahead())?;
-        reader.take(used);
-        if let Some(marks) = asking.marks() {
-            let buckets = marks.asked(alloc)?;
-            return Ok(buckets);
-        }
-        if reader.ahead().is_empty() && !reader.read_ahead()? {
-            break;
-        }
-    }
-    Err(SyncError::Truncated)
-}
 
 /// Answers the question about sums, if that is what comes first. Otherwise nothing is taken. `sums`
 /// are those of the closure, as they were last asked for.

@@ -1,4 +1,4 @@
--- The flags of an indexed closure tell what is accepted
+-- The flags of an indexed closure show what is accepted
 use Rattle.std.proofs.Common.{◌≡◌, ℕ, zero, suc, ◌+◌, ◌-◌, ◌^◌, ◌<◌, ◌≤◌, ◌⊎◌, inl, inr, true, false, List}
 use Rattle.std.proofs.Common.{[], ◌∷◌, ◌++◌, length, get_or, map, Some, None, arith, refl, sym, ap, ◌∙◌, subst}
 use Rattle.std.specs.Prelude.{Contains, slice_get, ◌↔◌, ◌≢◌, AllPairs}
@@ -11,7 +11,7 @@ use Rattle.std.proofs.lemmas.Option.{slice_get_within, same_Some, slice_get-get_
 use Rattle.fed_config.specs.declared.seed.Seed.{Seed}
 use Rattle.fed_config.specs.Configuration.{Configuration, HasDomain, AreDomains, domain_cmp}
 use Rattle.wait_index.specs.Index.{Index, Last}
-use Rattle.wait_index.specs.Net.{Net, IsReached, root, ListsReached, TellsFallen, visits_of, ClosesIn}
+use Rattle.wait_index.specs.Net.{Net, IsReached, root, ListsReached, ReportsFallen, visits_of, ClosesIn}
 use Rattle.std.specs.List.Sorted.{IsStrictlySortedBy}
 use Rattle.std.proofs.Common.{cond}
 use Rattle.receipt_core.specs.declared.distrust.Distrust.{Distrust}
@@ -30,7 +30,7 @@ use Rattle.closure_parts.proofs.PlaceFacts.{slice_get-left, slice_get-map_cases,
 use Rattle.trust_closure.proofs.EdgeFacts.{root-of_spot}
 use Rattle.trust_closure.proofs.RepresentFacts.{Represents-shut}
 use Rattle.closure_core.specs.Inside.Nodes.{pairs_of, is_raised, flags_of, count_at}
-use Rattle.closure_core.specs.Inside.Flags.{raised_count, TellsMembers}
+use Rattle.closure_core.specs.Inside.Flags.{raised_count, ReportsMembers}
 use Rattle.closure_parts.specs.NodeCounts.{AreCounts, AddsNodes}
 use Rattle.closure_parts.specs.Held.{HeldReceipts, meaning_of}
 use Rattle.trust_closure.specs.Inside.NetOf.{node_specs_of, seed_node, receipt_node, IsNetOf, IsLabelIndexOf, triple_by}
@@ -95,10 +95,10 @@ module _ (h : HeldReceipts) (p : DocumentTableView) (w : LabelIndexView) (b : Is
       )
 
   -- If the raised flags are those of marked nodes, they say what is accepted.
-  tells-flags : ((number : ℕ) → (is_raised (flags_of p.counts) number ≡ true) ↔ IsFirstOf p.heads
-      w.marked number) → TellsMembers (meaning_of h) (pairs_of h.config.seeds h.arrived) p.numbers
+  reports-flags : ((number : ℕ) → (is_raised (flags_of p.counts) number ≡ true) ↔ IsFirstOf p.heads
+      w.marked number) → ReportsMembers (meaning_of h) (pairs_of h.config.seeds h.arrived) p.numbers
       (flags_of p.counts)
-  tells-flags flags = record {
+  reports-flags flags = record {
     size = length-flags p.counts ∙ b.pairing.counted;
     sound = λ n q e at.
         let f = (flags n).0 e in
@@ -116,16 +116,16 @@ module _ (h : HeldReceipts) (p : DocumentTableView) (w : LabelIndexView) (b : Is
   }
 
   -- If the counts are those of marked nodes, their flags say what is accepted.
-  pub tells : AreCounts p.heads w.marked p.counts
-      → TellsMembers (meaning_of h) (pairs_of h.config.seeds h.arrived) p.numbers
+  pub reports : AreCounts p.heads w.marked p.counts
+      → ReportsMembers (meaning_of h) (pairs_of h.config.seeds h.arrived) p.numbers
       (flags_of p.counts)
-  tells are = tells-flags (flags-counted p.heads w.marked p.counts marked-within are)
+  reports are = reports-flags (flags-counted p.heads w.marked p.counts marked-within are)
 
 -- A pair's flag is raised exactly if its document is accepted.
 pub raised-member : (h : HeldReceipts) (p : DocumentTableView) (w : LabelIndexView) → IsIndexed h p w → (q : Pair)
     → HasRaised (pairs_of h.config.seeds h.arrived) p q ↔ IsMember (meaning_of h) q
 raised-member h p w i q =
-    let t = tells h p w i.built i.counts in (
+    let t = reports h p w i.built i.counts in (
       λ r. t.sound r.number q r.raised r.at,
       λ a. let f = t.all q a in record { number = f.0; has = t.listed f.0 f.1; at = f.2; raised = f.1 },
     )
@@ -160,7 +160,7 @@ built-more h new p q w v r b form unheld is valid wired reached pairing =
       pairing = subst (λ ps. IsDocumentTable ps q) (sym (pairs-push h.config.seeds h.arrived r)) pairing;
     })
 
--- Other counts, as many, leave it built.
+-- The same number of other counts leaves it built.
 pub built-counts : (h : HeldReceipts) (p q : DocumentTableView) (w : LabelIndexView) → IsBuilt h p w → q.numbers ≡ p.numbers
     → q.heads ≡ p.heads → length q.counts ≡ length p.counts → IsBuilt h q w
 built-counts h p q w b numbers heads counts = record {
@@ -186,7 +186,7 @@ gain-more h new p q w v r nodes n i j is adds count =
     gain-from_flags no_documents (meaning_of h) (meaning_of new) (pairs_of h.config.seeds h.arrived)
     (pairs_of new.config.seeds new.arrived) p.numbers q.numbers (flags_of p.counts)
     (flags_of q.counts)
-    (tells h p w i.built i.counts) (tells new q v j.built j.counts)
+    (reports h p w i.built i.counts) (reports new q v j.built j.counts)
     (flags-kept p.counts q.counts (λ k. omega (arith, adds.each k, count_at-push p.counts k)))
     (λ k x e f at. ap (λ ps. slice_get ps k) prefix ∙ slice_get-left (pairs_of h.config.seeds h.arrived) (pair_of r ∷ []) k x at)
     n (count ∙ ap (λ m. m + n) (ap raised_count (flags-push p.counts (p.counts ++ 0 ∷ []) refl)
@@ -338,8 +338,8 @@ was-counted h p w v i IsMeant work is c marked last = record {
   closing = c.numbers;
   reached = is.built.reached;
   within = marked-within h p w is.built;
-  fell = subst (λ (l : Last). TellsFallen w.net c.numbers l.fallen l.kept i.marked) (sym last)
-      (subst (TellsFallen w.net c.numbers v.last.fallen v.last.kept) (sym marked) c.fallen);
+  fell = subst (λ (l : Last). ReportsFallen w.net c.numbers l.fallen l.kept i.marked) (sym last)
+      (subst (ReportsFallen w.net c.numbers v.last.fallen v.last.kept) (sym marked) c.fallen);
   many = subst (λ (l : Last). length l.fallen + l.kept ≡ length w.marked) (sym last) c.many;
   counts = is.counts;
 }
@@ -381,8 +381,8 @@ kept-closed old new xs p q w v i j before numbers k e =
     let is = hoard-before old new xs before in
     let same : pairs_of new.config.seeds new.arrived ≡ pairs_of old.config.seeds old.arrived =
     ap (λ (h : HeldReceipts). pairs_of h.config.seeds h.arrived) is in
-    let fewer = tells new q v j.built j.counts in
-    let more = tells old p w i.built i.counts in
+    let fewer = reports new q v j.built j.counts in
+    let more = reports old p w i.built i.counts in
     let l : k < length (pairs_of new.config.seeds new.arrived) = omega (arith, within, fewer.size) in
     let at = slice_get-get_or (pairs_of new.config.seeds new.arrived) k no_documents l in
     let m = fewer.sound k (get_or (pairs_of new.config.seeds new.arrived) k no_documents) e at in
@@ -417,7 +417,7 @@ loss-closed old new xs p q w v n i j before size numbers count =
     gain-from_flags no_documents (meaning_of new) (meaning_of old)
     (pairs_of new.config.seeds new.arrived) (pairs_of old.config.seeds old.arrived) q.numbers
     p.numbers (flags_of q.counts) (flags_of p.counts)
-    (tells new q v j.built j.counts) (tells old p w i.built i.counts)
+    (reports new q v j.built j.counts) (reports old p w i.built i.counts)
     (kept-closed old new xs p q w v i j before numbers)
     (λ k y e f at. ap (λ ps. slice_get ps k) (sym same) ∙ at)
     n count (omega (arith, size, length-flags p.counts, length-flags q.counts))

@@ -1,4 +1,4 @@
--- A label index goes on mirroring spots
+-- A label index continues to mirror spots
 use Rattle.std.proofs.Common.{◌≡◌, ℕ, zero, suc, ◌+◌, ◌<◌, ◌≤◌, inl, inr, Bool, true, List, [], ◌∷◌, ◌++◌, length}
 use Rattle.std.proofs.Common.{get_or, take, map, Some, None, arith, refl, sym, ap, ◌∙◌, subst}
 use Rattle.std.specs.Prelude.{Contains, slice_get, ◌↔◌}
@@ -263,9 +263,9 @@ module _ (domains : List (List ℕ)) (records : List Distrust) (spots : List (No
       → IsLabelIndexOf domains records (spots ++ record spot { offers = spot.offers ++ triples } ∷ []) w
   offers-all k l h = other-offers (spot.offers ++ take k triples) (spot.offers ++ triples) (ap (λ ts. spot.offers ++ ts) (take_all k triples l)) h
 
--- ---- marked nodes stay in their places
+-- ---- marked nodes remain in their places
 
--- What stays at the front twice stays there.
+-- What remains at the front twice remains there.
 pub front-trans : {A : Type 0} (xs ys zs : List A) → take (length xs) ys ≡ xs → take (length ys) zs ≡ ys → take (length xs) zs ≡ xs
 front-trans xs ys zs a b =
     let few : length xs ≤ length ys = omega (arith, ap length (sym a), length-take (length xs) ys) in

@@ -6,7 +6,7 @@ use Rattle.std.proofs.lemmas.Bool.{cases_Bool, both_ways}
 use Rattle.std.proofs.lemmas.List.{length-append, length-take, take-append-drop}
 use Rattle.std.proofs.lemmas.List.Elements.{Contains-append_left, Contains-append_right, Contains-append_cases, Contains-get_or, All-contains}
 use Rattle.std.proofs.lemmas.List.Sums.{sum_by-append}
-use Rattle.wait_index.specs.Net.{Net, IsReached, step, IsOpen, ListsReached, IsTakenBack, itself, beyond, IsFallen, TellsFallen, is_among}
+use Rattle.wait_index.specs.Net.{Net, IsReached, step, IsOpen, ListsReached, IsTakenBack, itself, beyond, IsFallen, ReportsFallen, is_among}
 use Rattle.closure_core.specs.Count.{AreDifferent}
 use Rattle.closure_parts.specs.NodeCounts.{first_of_node, nodes_with}
 use Rattle.closure_core.proofs.ContainsFacts.{contains_first, contains_later}
@@ -55,10 +55,10 @@ different-back : {T : Type 0} (xs ys : List T) → AreDifferent (xs ++ ys) → A
 different-back [] ys d = d
 different-back (x ∷ xs) ys d = different-back xs ys d.1
 
--- ---- the nodes that were marked are those that stay marked and those that fell
+-- ---- the nodes that were marked are those that remain marked and those that fell
 
 module _ (net : Net) (old closing fallen : List ℕ) (kept : ℕ) (marked : List ℕ)
-    (r : ListsReached net old) (t : TellsFallen net closing fallen kept marked)
+    (r : ListsReached net old) (t : ReportsFallen net closing fallen kept marked)
     (once : AllPairs ◌≢◌ marked) where
   -- The nodes that are marked now are different.
   different : AreDifferent (take kept marked ++ drop kept marked)
@@ -79,8 +79,8 @@ module _ (net : Net) (old closing fallen : List ℕ) (kept : ℕ) (marked : List
   ]
 
   -- What was marked stayed or fell.
-  stands : (n : ℕ) → Contains old n → Contains (take kept marked ++ fallen) n
-  stands n c = elim (cases_Bool (is_among fallen n)) [
+  placed : (n : ℕ) → Contains old n → Contains (take kept marked ++ fallen) n
+  placed n c = elim (cases_Bool (is_among fallen n)) [
     | inl a ↦ Contains-append_right (take kept marked) fallen n (among-to fallen n a)
     | inr a ↦ Contains-append_left (take kept marked) fallen n
         ((t.front n).1 (
@@ -94,7 +94,8 @@ module _ (net : Net) (old closing fallen : List ℕ) (kept : ℕ) (marked : List
   again : (n : ℕ) → Contains (drop kept marked) n → Contains fallen n
   again n c = (t.fell n).1 ((t.again n).0 c).0
 
-  -- Each document had as many of the marked nodes as of those that stayed and of those that fell.
+  -- Each document had, of the marked nodes, the number of those that remained and of those that
+  -- fell.
   pub nodes-before : (heads : List ℕ) (n : ℕ)
       → nodes_with heads old n ≡ nodes_with heads (take kept marked) n + nodes_with heads fallen
       n
@@ -102,12 +103,12 @@ module _ (net : Net) (old closing fallen : List ℕ) (kept : ℕ) (marked : List
       let f : ℕ → ℕ = λ node. cond (first_of_node heads node == n) 1 0 in
       omega (
         arith,
-        no_more f old (take kept marked ++ fallen) (different-from_pairs old r.once) stands,
+        no_more f old (take kept marked ++ fallen) (different-from_pairs old r.once) placed,
         no_more f (take kept marked ++ fallen) old whole was,
         sum_by-append f (take kept marked) fallen,
       )
 
-  -- Each document has as many of the marked nodes as of those that stayed and of those marked
+  -- Each document has, of the marked nodes, the number of those that remained and of those marked
   -- again.
   pub nodes-now : (heads : List ℕ) (n : ℕ)
       → nodes_with heads marked n ≡ nodes_with heads (take kept marked) n + nodes_with heads
@@ -122,11 +123,11 @@ module _ (net : Net) (old closing fallen : List ℕ) (kept : ℕ) (marked : List
       (drop kept marked) fallen (different-back (take kept marked) (drop kept marked) different)
       again
 
-  -- As many nodes were marked as stayed and fell.
+  -- The number of nodes that were marked is that of those that remained and of those that fell.
   lengths : length old ≡ length (take kept marked) + length fallen
   lengths = omega (
     arith,
-    no_longer old (take kept marked ++ fallen) (different-from_pairs old r.once) stands,
+    no_longer old (take kept marked ++ fallen) (different-from_pairs old r.once) placed,
     no_longer (take kept marked ++ fallen) old whole was,
     length-append (take kept marked) fallen,
   )

@@ -1,4 +1,4 @@
--- A net stays a mirror
+-- A net remains a mirror
 use Rattle.std.proofs.Common.{◌≡◌, ◌≢◌, ℕ, ◌+◌, ◌<◌, ◌⊎◌, inl, inr, Bool, true, false, List, [], ◌∷◌, ◌++◌}
 use Rattle.std.proofs.Common.{length, get_or, set, map, Option, Some, None, arith, refl, sym, ap, ◌∙◌, subst}
 use Rattle.std.specs.Prelude.{AllPairs, Contains, slice_get, ◌↔◌}
@@ -65,7 +65,7 @@ IsUsed-push : {A : Type 0} (spots : List (NodeSpec A)) (spot : NodeSpec A) (labe
     → IsUsed (spots ++ spot ∷ []) label
 IsUsed-push spots spot label h = record {
   spot = h.spot;
-  stands = Contains-append_left spots (spot ∷ []) h.spot h.stands;
+  placed = Contains-append_left spots (spot ∷ []) h.spot h.placed;
   uses = h.uses;
 }
 
@@ -74,19 +74,19 @@ IsUsed-last : {A : Type 0} (spots : List (NodeSpec A)) (spot : NodeSpec A) (labe
     → Contains spot.offers label ⊎ (spot.awaits ≡ Some label) → IsUsed (spots ++ spot ∷ []) label
 IsUsed-last spots spot label uses = record {
   spot = spot;
-  stands = Contains-push spots spot;
+  placed = Contains-push spots spot;
   uses = uses;
 }
 
--- What is used stays so if the last spot is replaced by one that uses what it does.
+-- What is used is still used if the last spot is replaced by one that uses what it does.
 IsUsed-other : {A : Type 0} (spots : List (NodeSpec A)) (spot other : NodeSpec A) (label : A)
     → (Contains spot.offers label → Contains other.offers label)
     → (spot.awaits ≡ Some label → other.awaits ≡ Some label)
     → IsUsed (spots ++ spot ∷ []) label → IsUsed (spots ++ other ∷ []) label
 IsUsed-other {A = A} spots spot other label offers awaits h =
-    elim (Contains-push_cases spots spot h.spot h.stands) [
+    elim (Contains-push_cases spots spot h.spot h.placed) [
       | inl c ↦
-          IsUsed-push spots other label (record { spot = h.spot; stands = c; uses = h.uses })
+          IsUsed-push spots other label (record { spot = h.spot; placed = c; uses = h.uses })
       | inr e ↦
           let uses : Contains spot.offers label ⊎ (spot.awaits ≡ Some label) =
           subst (λ (s : NodeSpec A). Contains s.offers label ⊎ (s.awaits ≡ Some label)) (sym e) h.uses

@@ -100,8 +100,8 @@ impl IndexedClosure {
     }
 
     /// Takes a receipt: it is held from now on, whether or not an accepted document vouches for it.
-    /// A receipt that was not held comes last, and what was marked stays marked, in its place: the
-    /// index is not rebuilt.
+    /// A receipt that was not held comes last, and what was marked remains marked, in its place:
+    /// the index is not rebuilt.
     pub fn take(&mut self, receipt: Receipt) -> Result<Taken, Refused>
         ensures takes { Takes self.old.state receipt self.new.state result }
         ensures grows { GrowsAtItsEnd self.old receipt self.new result }

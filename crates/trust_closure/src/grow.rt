@@ -119,7 +119,7 @@ struct Fall {
 /// looked at.
 ///
 /// # Errors
-/// The domain is not one of the configuration, or there are as many records as there may be.
+/// The domain is not one of the configuration, or there may be no more records.
 pub(crate) fn retract(
     held: &mut Held,
     pairs: &mut Pairs,
@@ -186,7 +186,7 @@ fn close(
     Fall { lost, work }
 }
 
-/// Distrusts keys in domains of the configuration, as many as there may be. It takes no memory. If
+/// Distrusts keys in domains of the configuration, no more than may be held. It takes no memory. If
 /// one of the records is new, all their labels are closed together, and the work is noted.
 pub(crate) fn retract_all(
     held: &mut Held,

@@ -8,7 +8,7 @@ use std::alloc::{AllocError, Global};
 /// More bytes than what any row prints has.
 pub(crate) const AMPLE_ROOM: usize = 100_000;
 
-/// Tells what is printed of the configuration, or why the bytes are not one.
+/// Reports what is printed of the configuration, or why the bytes are not one.
 pub(crate) fn print(
     alloc: Global,
     script: &Script,
@@ -34,7 +34,7 @@ fn print_read(
     }
 }
 
-/// Tells the lines in which the configuration differs from the one of this name.
+/// Reports the lines in which the configuration differs from the one of this name.
 pub(crate) fn compare(
     alloc: Global,
     script: &Script,

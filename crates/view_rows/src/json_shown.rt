@@ -17,7 +17,7 @@ use row_script::Script;
 use spiffe_name::TrustDomain;
 use std::alloc::{AllocError, Global};
 
-/// Tells what is printed of the configuration, or why the bytes are not one.
+/// Reports what is printed of the configuration, or why the bytes are not one.
 pub(crate) fn config(
     alloc: Global,
     script: &Script,
@@ -33,7 +33,7 @@ pub(crate) fn config(
     show(script, written, &sink, answer)
 }
 
-/// Tells what is printed of the document, as one of this domain, or why the bytes are not one.
+/// Reports what is printed of the document, as one of this domain, or why the bytes are not one.
 pub(crate) fn document(
     alloc: Global,
     script: &Script,
@@ -53,7 +53,7 @@ pub(crate) fn document(
     }
 }
 
-/// Tells what is printed of what a replica holds: `CONFIG`, or `CONFIG DOMAIN`.
+/// Reports what is printed of what a replica holds: `CONFIG`, or `CONFIG DOMAIN`.
 pub(crate) fn held<C: Closure>(
     alloc: Global,
     script: &Script,
@@ -71,7 +71,7 @@ pub(crate) fn held<C: Closure>(
     show(script, written, &sink, answer)
 }
 
-/// Tells which graph is printed of it.
+/// Reports which graph is printed of it.
 pub(crate) fn graph<C: Closure>(
     alloc: Global,
     script: &Script,
@@ -89,7 +89,7 @@ pub(crate) fn graph<C: Closure>(
     show(script, written, &sink, answer)
 }
 
-/// Tells what is printed of what it accepts: `CONFIG`.
+/// Reports what is printed of what it accepts: `CONFIG`.
 pub(crate) fn report<C: Closure>(
     alloc: Global,
     script: &Script,
@@ -105,7 +105,7 @@ pub(crate) fn report<C: Closure>(
     show(script, written, &sink, answer)
 }
 
-/// Tells why it accepts a document: `CONFIG DOMAIN NAME`; the text of the name is the document.
+/// Reports why it accepts a document: `CONFIG DOMAIN NAME`; the text of the name is the document.
 pub(crate) fn chain<C: Closure>(
     alloc: Global,
     script: &Script,
@@ -147,7 +147,7 @@ fn show_chain<C: Closure>(
     }
 }
 
-/// Tells what is printed of its next polls: `CONFIG SECONDS NAME`; the text of the name has the
+/// Reports what is printed of its next polls: `CONFIG SECONDS NAME`; the text of the name has the
 /// polls that were made.
 pub(crate) fn polls<C: Closure>(
     alloc: Global,

@@ -11,11 +11,11 @@
 //!   and another that was given the text of this name.
 //! - `status CONFIG FORMAT = LINES`: what is printed of that replica's status, in one of the
 //!   formats `text`, `json` and `prometheus`, and whether there is a warning.
-//! - `running CONFIG FORMAT SNAPSHOT JOURNAL PEER.. = LINES`: the same of a running replica, whose
+//! - `running CONFIG FORMAT SNAPSHOT JOURNAL PEER.. = LINES`: the same for a running replica, whose
 //!   files have this many bytes; a peer is `ADDRESS,ENDED,FAULT,RECEIPTS`, with a hyphen for what
 //!   is absent.
-//! - `warned CONFIG FORMAT MOMENT BEGAN WORD.. = LINES`: the same of one with empty files, and its
-//!   warnings at that Unix second. A word is a peer, or `DOMAIN@FETCHED@WAIT`: when a domain was
+//! - `warned CONFIG FORMAT MOMENT BEGAN WORD.. = LINES`: the same for one with empty files, and its
+//!   warnings at that Unix second. A `WORD` is a peer, or `DOMAIN@FETCHED@WAIT`: when a domain was
 //!   last fetched, with a hyphen for never, and its wait.
 //! - `fetched CONFIG NAME = LINES`: when each domain was last fetched, and its wait, by the polls
 //!   of the text of NAME.

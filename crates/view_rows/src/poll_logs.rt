@@ -25,7 +25,7 @@ pub(crate) fn log_of(
     read_polls(alloc, config, &mut source)
 }
 
-/// Tells how its domains are fetched: `CONFIG NAME`; the text of the name has the polls that were
+/// Reports how its domains are fetched: `CONFIG NAME`; the text of the name has the polls that were
 /// made.
 pub(crate) fn fetched<C: Closure>(
     alloc: Global,

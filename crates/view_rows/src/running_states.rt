@@ -8,7 +8,7 @@ use row_script::Script;
 use status_view::{PeerFault, PeerStatus, RunningStatus, StatusFormat, write_running_status};
 use std::alloc::{AllocError, Global};
 
-/// Tells the status of a running replica that was given these lines: `CONFIG FORMAT SNAPSHOT
+/// Reports the status of a running replica that was given these lines: `CONFIG FORMAT SNAPSHOT
 /// JOURNAL` and peers, each as `ADDRESS,ENDED,FAULT,RECEIPTS`, with a hyphen for what is absent.
 pub(crate) fn stand<C: Closure>(
     alloc: Global,

@@ -11,7 +11,7 @@ use spiffe_name::TrustDomain;
 use status_view::{StatusFormat, write_status};
 use std::alloc::{AllocError, Global};
 
-/// Tells what is printed of what a replica holds that was given these lines: `CONFIG`, or `CONFIG
+/// Reports what is printed of what a replica holds that was given these lines: `CONFIG`, or `CONFIG
 /// DOMAIN`.
 pub(crate) fn list<C: Closure>(
     alloc: Global,
@@ -44,8 +44,8 @@ fn show_list<C: Closure>(
     }
 }
 
-/// Tells what only one of two replicas holds: `CONFIG NAME`; the text of the name has the lines of
-/// the other one.
+/// Reports what only one of two replicas holds: `CONFIG NAME`; the text of the name has the lines
+/// of the other one.
 pub(crate) fn compare<C: Closure>(
     alloc: Global,
     script: &Script,
@@ -79,7 +79,7 @@ fn show_difference<C: Closure>(
     script.show_lines(sink.as_bytes(), answer)
 }
 
-/// Tells the status of a replica that was given these lines: `CONFIG FORMAT`.
+/// Reports the status of a replica that was given these lines: `CONFIG FORMAT`.
 pub(crate) fn stand<C: Closure>(
     alloc: Global,
     script: &Script,

@@ -10,14 +10,14 @@ use status_view::{PeerStatus, RunningStatus, StatusFormat};
 use status_warnings::{Fetch, WarnLimits, Watch, write_warned_status};
 use std::alloc::{AllocError, Global};
 
-// The peers and the fetches that the words say.
+// The peers and the fetches that the arguments say.
 #[derive(Drop)]
 struct Said {
     peers: Vec<PeerStatus>,
     fetches: Vec<Fetch>,
 }
 
-/// Tells the status of a running replica that was given these lines, with its warnings: `CONFIG
+/// Reports the status of a running replica that was given these lines, with its warnings: `CONFIG
 /// FORMAT MOMENT BEGAN`, and then peers, and fetches as `DOMAIN@FETCHED@WAIT`.
 pub(crate) fn stand<C: Closure>(
     alloc: Global,

@@ -54,7 +54,7 @@ taken-open net closing l (beyond {here = here} {node = node} {i = i} {j = j} b w
 pub taken-near : (net : Net) (closing : List ℕ) (labels : ℕ → Bool) → HasReachOf net closing labels → (l : ℕ) → IsTakenBack net closing l → labels l ≡ true
 taken-near net closing labels h l (itself c o) = h.has l c o
 taken-near net closing labels h l (beyond {here = here} {node = node} {i = i} {j = j} b w r e c) =
-    h.goes_on here node l i j (taken-near net closing labels h here b) w e
+    h.continues here node l i j (taken-near net closing labels h here b) w e
 
 -- With more labels no fewer are taken back.
 pub taken-more : (net : Net) (closing more : List ℕ) → ((l : ℕ) → Contains closing l → IsOpen net l → Contains more l)
@@ -79,7 +79,7 @@ taken-few net closing taken labels a h =
           let c = Any-from_list_any (λ (w : Edge). eqb w.to (from_at net.offers i) && taken w.from) net.waits parts.1 in
           let tests = and_parts (eqb c.1.to (from_at net.offers i)) (taken c.1.from) c.4 in
           let item : edge_at net.waits c.0 ≡ c.1 = get_or_default net.waits c.0 (record { from = 0; to = 0 }) c.1 c.2 ∙ c.3 in
-          h.goes_on c.1.from (from_at net.offers i) (to_at net.offers i) c.0 i (taken-near net closing labels h c.1.from (a.only c.1.from tests.1))
+          h.continues c.1.from (from_at net.offers i) (to_at net.offers i) c.0 i (taken-near net closing labels h c.1.from (a.only c.1.from tests.1))
           (record { within = c.2; from = ap (λ (x : Edge). x.from) item; to = ap (λ (x : Edge). x.to) item ∙ eqb-true c.1.to (from_at net.offers i) tests.0 })
           (record { within = b; from = refl; to = refl })),
       count_below-mono (λ i. taken (from_at net.waits i)) (λ i. labels (from_at net.waits i)) (length net.waits)
@@ -573,7 +573,8 @@ module _ (net : Net) (once : WaitsOnce net) (closing : List ℕ) (now : Tally) (
             ]
       ]
 
-  -- The marks fit the net with the labels closed, so the following of edges can go on from there.
+  -- The marks fit the net with the labels closed, so the following of edges can continue from
+  -- there.
   pub Follows-fallen : Follows (with_all_closed net closing) now (length now.marked) 0 0
   Follows-fallen =
       let size = length-all_set closing net.closed in

@@ -100,7 +100,7 @@ module _ (net : Net) (closing : List ℕ) (t : Tally) (index label link : ℕ) (
         | inr s ↦ omega (arith, ap bit (shut_other (from_at net.waits i) s), bit-false (eqb (from_at net.waits i) label) (ne_eqb (from_at net.waits i) label s))
       ])
 
-  -- The fall goes on, with all wait edges of this label left to be taken back.
+  -- The fall continues, with all wait edges of this label left to be taken back.
   pub IsFalling-start : IsFalling net closing (record t { opened = set t.opened label false }) (index + 1) label link
   IsFalling-start = record {
     sizes = record { places = h.sizes.places; support = h.sizes.support; opened = length-set t.opened label false ∙ h.sizes.opened; touched = h.sizes.touched };
@@ -269,7 +269,7 @@ module _ (net : Net) (once : WaitsOnce net) (closing : List ℕ) (index label ed
   node_can = CanFall-marked net closing now (index + 1) label link (to_at net.waits edge) h.falling node_marked
       (now.visits - 1) visits_some (omega (arith, one_less))
 
-  -- A root is still marked, and the fall goes on.
+  -- A root is still marked, and the fall continues.
   falling_root : is_root net (to_at net.waits edge) ≡ true → IsFalling net closing (record now { visits = now.visits - 1 }) (index + 1) label next
   falling_root r =
       let f = h.falling in
@@ -430,7 +430,7 @@ module _ (net : Net) (once : WaitsOnce net) (closing : List ℕ) (index label ed
               ]
         ]
 
-    -- The fall goes on after a node that is not a root.
+    -- The fall continues after a node that is not a root.
     falling_node : IsFalling net closing new (index + 1) label next
     falling_node =
         let f = h.falling in
@@ -551,7 +551,7 @@ module _ (net : Net) (once : WaitsOnce net) (closing : List ℕ) (index label ed
               | inr a ↦ absurd (both_ways (is_open_in now l) (get_or_past now.opened l false a) o)
             ]
 
-  -- The fall goes on after each wait edge, whether its node falls or is a root.
+  -- The fall continues after each wait edge, whether its node falls or is a root.
   pub TakesBackFrom-step : (new : Tally) → Falls net (to_at net.waits edge) (record now { visits = now.visits - 1 }) new
       → IsListing new.marked new.places → IsListing new.touched new.touched_places
       → TakesBackFrom net closing index label next old new

@@ -9,7 +9,7 @@ use Rattle.std.proofs.lemmas.List.Elements.{Contains-push, Contains-push_cases, 
 use Rattle.wait_index.specs.Inside.Count.{count_below}
 use Rattle.wait_index.specs.Inside.Listing.{holds, IsListing}
 use Rattle.wait_index.specs.Edge.{from_at, to_at}
-use Rattle.wait_index.specs.Net.{Net, is_root, IsReached, step, IsFallen, TellsFallen}
+use Rattle.wait_index.specs.Net.{Net, is_root, IsReached, step, IsFallen, ReportsFallen}
 use Rattle.wait_index.specs.Inside.Tally.{Tally, is_marked_in, is_open_in, UnmarksNode, WithdrawsAll, Falls}
 use Rattle.wait_index.specs.Inside.Fall.{HasFallen, IsSettled, ListsFallen, with_fallen}
 use Rattle.wait_index.proofs.CountBelowFacts.{count_below-change}
@@ -193,8 +193,8 @@ module _ (net : Net) (t : Tally) (h : IsSettled net t) (queue : IsListing t.touc
 
     -- The list, and the number of nodes that were kept, say what fell, as the index promises after
     -- a close.
-    pub TellsFallen-listed : TellsFallen net closing fallen kept marked
-    TellsFallen-listed = record {
+    pub ReportsFallen-listed : ReportsFallen net closing fallen kept marked
+    ReportsFallen-listed = record {
       fell = λ n. (falls-from_listed n, listed-from_falls n);
       once = listed.once;
       front = λ n. (

@@ -44,7 +44,7 @@ module _ (net : Net) (node : ℕ) (l : node < length net.roots) where
     waits = λ i k n e. (i, record { within = e.within; from = e.from; to = e.to });
   }
 
-  -- The node's mark fits the net with the root, so the following of edges can go on from it.
+  -- The node's mark fits the net with the root, so the following of edges can continue from it.
   pub Follows-root : (t new : Tally) → IsSettled net t → MarksNode node t new → IsListing new.marked new.places
       → Follows (with_root net node) new (length t.marked) 0 0
   Follows-root t new h m listing =
@@ -139,7 +139,7 @@ module _ (net : Net) (label node : ℕ) where
       (length_push net.waits (record { from = label; to = node }))
       ∙ omega (arith, test, same, ap bit last)
 
-  -- The marks fit the net with the wait edge, so the following of edges can go on from there.
+  -- The marks fit the net with the wait edge, so the following of edges can continue from there.
   pub Follows-wait : (t new : Tally) → label < length net.closed → IsSettled net t → FollowsWait label node t new
       → IsListing new.marked new.places → Follows (with_wait net label node) new (length t.marked) 0 0
   Follows-wait t new l h f listing =
@@ -326,7 +326,7 @@ module _ (net : Net) (node label : ℕ) where
     open_supported = steady.open_supported;
   }
 
-  -- The marks fit the net with the offer edge, so the following of edges can go on from there.
+  -- The marks fit the net with the offer edge, so the following of edges can continue from there.
   pub Follows-offer : (t new : Tally) → label < length net.closed → IsSettled net t
       → ((is_marked_in t node ≡ true) × Supports (with_offer net node label) label t new)
       ⊎ ((is_marked_in t node ≡ false) × (new ≡ t)) → IsListing new.marked new.places

@@ -57,15 +57,15 @@ module _ (es : List Edge) (e : Edge) where
   edge_at-new : edge_at (es ++ e ∷ []) (length es) ≡ e
   edge_at-new = get_or_push es e (record { from = 0; to = 0 }) (length es) refl
 
-  -- An old edge still leads from where it did, and `to_at-old` says the same of where it leads to.
+  -- An old edge still has its start, and `to_at-old` says the same for its end.
   pub from_at-old : (i : ℕ) → i < length es → from_at (es ++ e ∷ []) i ≡ from_at es i
   from_at-old i l = ap (λ (x : Edge). x.from) (edge_at-old i l)
 
-  -- An old edge still leads to where it did.
+  -- An old edge still has its end.
   pub to_at-old : (i : ℕ) → i < length es → to_at (es ++ e ∷ []) i ≡ to_at es i
   to_at-old i l = ap (λ (x : Edge). x.to) (edge_at-old i l)
 
-  -- The new edge leads from its start, and `to_at-new` says the same of its end.
+  -- The new edge leads from its start, and `to_at-new` says the same for its end.
   pub from_at-new : from_at (es ++ e ∷ []) (length es) ≡ e.from
   from_at-new = ap (λ (x : Edge). x.from) edge_at-new
 
@@ -177,7 +177,7 @@ module _ (es : List Edge) (e : Edge) where
 
 -- what is read of the lists of edges
 
--- Where an edge that was read leads to, in terms of the net.
+-- The end of an edge that was read, in terms of the net.
 pub read_to : (es : List Edge) (i : ℕ) (e : Edge) → i < length es → e ≡ get_or es i e → e.to ≡ to_at es i
 read_to es i e l r = ap (λ (x : Edge). x.to) (get_or_read es i e l r (record { from = 0; to = 0 }))
 
@@ -187,7 +187,7 @@ pub first_link : (es : List Edge) (newest earlier : List ℕ) (owner link : ℕ)
 first_link es newest earlier owner link h l r =
     subst (λ k. IsLast es owner (length es) k) (sym (get_or_read newest owner link l r 0)) (h.last owner l)
 
--- The link read for an edge is that of the owner's edge before it: so the loop goes on there.
+-- The link read for an edge is that of the owner's edge before it: so the loop continues there.
 pub next_link : (es : List Edge) (newest earlier : List ℕ) (owner edge link next : ℕ) → AreLinked es newest earlier
     → IsLink es owner link → link ≡ edge + 1 → next ≡ get_or earlier edge next → IsLast es owner edge next
 next_link es newest earlier owner edge link next h k e r =

@@ -5,7 +5,7 @@ use Rattle.std.specs.Prelude.{◌||◌}
 use Rattle.std.proofs.lemmas.Bool.{both_ways, or_cases, eqb-true}
 use Rattle.wait_index.specs.Edge.{IsEdge}
 use Rattle.wait_index.specs.Net.{Net, is_root, is_closed, IsReached, root, step, IsOpen, IsClosedUnder, IsTakenBack}
-use Rattle.wait_index.specs.Net.{itself, beyond, AreTakenBack, ClosesIn, HasReachOf, IsFallen, TellsFallen, has_wait}
+use Rattle.wait_index.specs.Net.{itself, beyond, AreTakenBack, ClosesIn, HasReachOf, IsFallen, ReportsFallen, has_wait}
 use Rattle.wait_index.specs.Net.{visits_of, edges_taken_back, edges_at, with_closed, with_all_closed}
 use Rattle.wait_index.proofs.NetLawFacts.{reached-least, contains-cons}
 use Rattle.wait_index.proofs.CloseFacts.{taken-near, ClosesIn-one}
@@ -136,7 +136,7 @@ lost l = eqb l 0 || eqb l 2
 lost-reach : HasReachOf net (0 ∷ []) lost
 lost-reach = record {
   has = λ l c o. elim (contains-cons 0 [] l c) [ inl a ↦ ap lost a | inr a ↦ absurd (omega (arith, a.1)) ];
-  goes_on = λ here node there i j o w e.
+  continues = λ here node there i j o w e.
       elim (offer j node there e) [
         | inl a ↦ absurd (omega (arith, wait i here node w, a.0))
         | inr a ↦
@@ -213,15 +213,15 @@ not_fallen_2 x =
     both_ways false refl (ap lost (sym at) ∙ taken.all x.awaits.1 x.awaits.3)
 
 -- A list of what fell that leaves out node 3, which is marked again, is refused.
-pub not_told : (kept : ℕ) (marked : List ℕ) → TellsFallen net (0 ∷ []) (1 ∷ []) kept marked → ⊥
-not_told kept marked h =
+pub not_stated : (kept : ℕ) (marked : List ℕ) → ReportsFallen net (0 ∷ []) (1 ∷ []) kept marked → ⊥
+not_stated kept marked h =
     elim (contains-cons 1 [] 3 ((h.fell 3).1 fallen_3)) [
       | inl a ↦ omega (arith, a)
       | inr a ↦ omega (arith, a.1)
     ]
 
 -- To report node 3 as kept is refused.
-pub not_kept : (fallen : List ℕ) → TellsFallen net (0 ∷ []) fallen 3 (0 ∷ 2 ∷ 3 ∷ []) → ⊥
+pub not_kept : (fallen : List ℕ) → ReportsFallen net (0 ∷ []) fallen 3 (0 ∷ 2 ∷ 3 ∷ []) → ⊥
 not_kept fallen h = ((h.front 3).0 (2, omega arith, refl)).1 fallen_3
 
 -- What closing the labels 0 and 1 together takes back: the three wait edges, and the offer edges of
@@ -240,7 +240,7 @@ all_lost-reach = record {
         | inl a ↦ ap all_lost a
         | inr a ↦ elim (contains-cons 1 [] l a) [ inl b ↦ ap all_lost b | inr b ↦ absurd (omega (arith, b.1)) ]
       ];
-  goes_on = λ here node there i j o w e.
+  continues = λ here node there i j o w e.
       elim (offer j node there e) [
         | inl a ↦ ap all_lost a.1
         | inr a ↦
@@ -255,7 +255,7 @@ all_lost-reach = record {
 open_1 : IsOpen net 1
 open_1 = record { not_closed = refl; offered = (1, 0, record { within = omega arith; from = refl; to = refl }, root refl) }
 
--- Label 0 is taken back with itself, and `both_1` says the same of label 1.
+-- Label 0 is taken back with itself, and `both_1` says the same for label 1.
 both_0 : IsTakenBack net (0 ∷ 1 ∷ []) 0
 both_0 = itself (0, omega arith, refl) open_0
 

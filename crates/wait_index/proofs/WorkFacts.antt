@@ -78,7 +78,7 @@ work-unopened old new labels work is none =
       arith,
       work-near old new labels work is (λ l. false) (record {
         has = λ l c o. absurd (none l c o);
-        goes_on = λ here node there i j h w o. h;
+        continues = λ here node there i j h w o. h;
       }),
       count_by-count_below (λ (e : Edge). false) old.net.offers (record { from = 0; to = 0 }),
       count_by-count_below (λ (e : Edge). false) old.net.waits (record { from = 0; to = 0 }),

@@ -2,7 +2,7 @@
 use Rattle.std.specs.Prelude.{◌≡◌, ℕ, ◌+◌, ◌≤◌, List, length, Contains}
 use Rattle.wait_index.specs.Index.{Index}
 use Rattle.wait_index.specs.Net.{IsOpen, ListsReached, visits_of, with_all_closed, ClosesIn}
-use Rattle.wait_index.specs.Net.{TellsFallen}
+use Rattle.wait_index.specs.Net.{ReportsFallen}
 
 -- None of the labels is open.
 abbrev pub AreUnopened : Index → List ℕ → Type 0
@@ -19,5 +19,5 @@ pub record ClosesWithWork (old : Index) (labels : List ℕ) (new : Index) (work 
   pub work_is : ClosesIn old.net labels (visits_of old.net old.marked)
       (visits_of new.net new.marked) work
   pub fewer : visits_of new.net new.marked ≤ visits_of old.net old.marked
-  pub fallen : TellsFallen old.net labels new.last.fallen new.last.kept new.marked
+  pub fallen : ReportsFallen old.net labels new.last.fallen new.last.kept new.marked
   pub many : length new.last.fallen + new.last.kept ≡ length old.marked

@@ -141,7 +141,7 @@ pub record ClosesIn (net : Net) (closing : List ℕ) (before after count : ℕ) 
 -- offered by a node that awaits it.
 pub record HasReachOf (net : Net) (closing : List ℕ) (labels : ℕ → Bool) : Type 0 where
   pub has : (label : ℕ) → Contains closing label → IsOpen net label → labels label ≡ true
-  pub goes_on : (here node there i j : ℕ) → labels here ≡ true → IsEdge net.waits i here node
+  pub continues : (here node there i j : ℕ) → labels here ≡ true → IsEdge net.waits i here node
       → IsEdge net.offers j node there → labels there ≡ true
 
 -- how many offer edges lead to labels of the set, and how many wait edges from them
@@ -159,7 +159,7 @@ pub record IsFallen (net : Net) (closing : List ℕ) (node : ℕ) : Type 0 where
 
 -- The list has each node that falls once. The first `kept` marked nodes are the reached ones that
 -- do not fall, and after them come those that fell and were marked again.
-pub record TellsFallen (net : Net) (closing fallen : List ℕ) (kept : ℕ)
+pub record ReportsFallen (net : Net) (closing fallen : List ℕ) (kept : ℕ)
     (marked : List ℕ) : Type 0 where
   pub fell : (node : ℕ) → Contains fallen node ↔ IsFallen net closing node
   pub once : AllPairs ◌≢◌ fallen

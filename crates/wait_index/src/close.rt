@@ -5,7 +5,7 @@ ghost use Rattle.std.specs.Prelude.{length, slice_index, take, vec_capacity, All
 ghost use Rattle.wait_index.specs.Inside.Capacity.{graph_capacity};
 ghost use Rattle.wait_index.specs.Inside.Fall.{CanFall, HasFallen, IsFalling, IsSettled};
 ghost use Rattle.wait_index.specs.Inside.Fall.{ListsFallen, with_fallen};
-ghost use Rattle.wait_index.specs.Net.{with_all_closed, ClosesIn, TellsFallen};
+ghost use Rattle.wait_index.specs.Net.{with_all_closed, ClosesIn, ReportsFallen};
 ghost use Rattle.wait_index.specs.Inside.Step.{Follows};
 ghost use Rattle.wait_index.specs.Inside.Tally.{net_of, tally_of, marks_capacity, HasSizes};
 ghost use Rattle.wait_index.specs.Inside.Tally.{is_marked_in, is_open_in, Falls, Touches};
@@ -37,7 +37,7 @@ impl Marks {
         ensures shut { ((label : ℕ) → Contains labels.now label
             → is_open_in (tally_of self.old) label ≡ false)
             → (result ≡ 0) × (tally_of self.new ≡ tally_of self.old) }
-        ensures fallen { TellsFallen (net_of graph.old) labels.now last.new.fallen.items
+        ensures fallen { ReportsFallen (net_of graph.old) labels.now last.new.fallen.items
             last.new.kept self.new.marked.items.items }
         ensures many { length last.new.fallen.items + last.new.kept
             ≡ length self.old.marked.items.items }

@@ -62,7 +62,7 @@ pub fn no_edge_twice()
 ///
 /// - `near`: it looks only at edges at labels to which the closed ones lead, and at each at most
 ///   twice.
-/// - `unopened`: there is none if no label was open.
+/// - `unopened`: there is no work if no label was open.
 /// - `one`: it is one number, whatever way the close took, and however its labels are listed.
 pub fn work_of_a_close()
     ensures near { (old new : Index) (labels : List ℕ) (work : ℕ)

@@ -5,7 +5,7 @@ use Rattle.byte_lines.specs.Lines.{HasNoFeed}
 use Rattle.replica_core.specs.declared.error.SyncError.{SyncError}
 use Rattle.replica_core.specs.declared.error.SyncError.TheVariants.{NoMemory}
 use Rattle.replica_texts.specs.SoleLines.{written_header}
-use Rattle.replica_sync.specs.Pieces.{EndsLine, GoesOn, kept_part, piece_run}
+use Rattle.replica_sync.specs.Pieces.{EndsLine, Continues, kept_part, piece_run}
 use Rattle.bucket_sums.specs.Lines.{IsMarksLine}
 use Rattle.bucket_sums.specs.Questions.{RefusesLineOf, RefusesText, longest_line}
 use Rattle.bucket_sums.specs.Asking.{IsLineOfMarks}
@@ -39,9 +39,9 @@ RefusesLineOfAnswer config answer text e = (e ≡ NoMemory)
     ⊎ RefusesLineOf IsLineOfMarks config answer.is_begun 0 text e
 
 -- No line ended.
-pub record GoesOnInAnswer (old : SumsAsking) (piece : List ℕ) (used : ℕ)
+pub record ContinuesInAnswer (old : SumsAsking) (piece : List ℕ) (used : ℕ)
     (new : SumsAsking) : Type 0 where
-  pub goes : GoesOn (piece_run longest_line (kept_part old.part) piece) (kept_part new.part)
+  pub goes : Continues (piece_run longest_line (kept_part old.part) piece) (kept_part new.part)
   pub all : used ≡ length piece
   pub same : new.answer ≡ old.answer
 
@@ -54,10 +54,10 @@ pub record EndsLineOfAnswer (config : Configuration) (old : SumsAsking) (piece :
   pub takes : TakesLineOfAnswer config old.answer text new.answer
 
 abbrev pub StepsAnswer : Configuration → SumsAsking → List ℕ → ℕ → SumsAsking → Type 0
-StepsAnswer config old piece used new = GoesOnInAnswer old piece used new
+StepsAnswer config old piece used new = ContinuesInAnswer old piece used new
     ⊎ EndsLineOfAnswer config old piece used new
 
--- A line is not taken: this text has the fault, or a beginning of one.
+-- A line is not taken: this text, the line or a beginning of it, has the error.
 pub record FailsAnswer (config : Configuration) (old : SumsAsking) (piece : List ℕ)
     (e : SyncError) : Type 0 where
   pub text : List ℕ

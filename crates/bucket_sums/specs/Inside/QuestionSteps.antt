@@ -5,7 +5,7 @@ use Rattle.byte_lines.specs.Lines.{HasNoFeed}
 use Rattle.replica_core.specs.declared.error.SyncError.{SyncError}
 use Rattle.replica_core.specs.declared.error.SyncError.TheVariants.{NoMemory}
 use Rattle.replica_texts.specs.SoleLines.{written_header}
-use Rattle.replica_sync.specs.Pieces.{EndsLine, GoesOn, kept_part, piece_run}
+use Rattle.replica_sync.specs.Pieces.{EndsLine, Continues, kept_part, piece_run}
 use Rattle.bucket_sums.specs.Lines.{IsSumLine}
 use Rattle.bucket_sums.specs.Questions.{RefusesLineOf, RefusesText, longest_line}
 use Rattle.bucket_sums.specs.Inside.Comparing.{IsCompared, marks_so_far}
@@ -38,9 +38,9 @@ RefusesQuestionLine config lines text e = (e ≡ NoMemory)
     ⊎ RefusesLineOf IsSumLine config lines.is_begun (length (marks_so_far lines.sums)) text e
 
 -- No line ended.
-pub record GoesOnInQuestion (old : SumsServing) (piece : List ℕ) (used : ℕ)
+pub record ContinuesInQuestion (old : SumsServing) (piece : List ℕ) (used : ℕ)
     (new : SumsServing) : Type 0 where
-  pub goes : GoesOn (piece_run longest_line (kept_part old.part) piece) (kept_part new.part)
+  pub goes : Continues (piece_run longest_line (kept_part old.part) piece) (kept_part new.part)
   pub all : used ≡ length piece
   pub same : new.question ≡ old.question
 
@@ -53,10 +53,10 @@ pub record EndsQuestionLine (config : Configuration) (old : SumsServing) (piece 
   pub takes : TakesQuestionLine config old.question text new.question
 
 abbrev pub StepsQuestion : Configuration → SumsServing → List ℕ → ℕ → SumsServing → Type 0
-StepsQuestion config old piece used new = GoesOnInQuestion old piece used new
+StepsQuestion config old piece used new = ContinuesInQuestion old piece used new
     ⊎ EndsQuestionLine config old piece used new
 
--- A line is not taken: this text has the fault, or a beginning of one.
+-- A line is not taken: this text, the line or a beginning of it, has the error.
 pub record FailsQuestion (config : Configuration) (old : SumsServing) (piece : List ℕ)
     (e : SyncError) : Type 0 where
   pub text : List ℕ

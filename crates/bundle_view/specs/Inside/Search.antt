@@ -57,7 +57,7 @@ pub record AreStrides (seeds : List Seed) (waiting : List Receipt)
     (strides : List Stride) : Type 0 where
   pub waits : (place : ℕ) (s : Stride) → slice_get strides place ≡ Some s
       → Contains waiting s.receipt
-  pub stands : (place : ℕ) (s : Stride) → slice_get strides place ≡ Some s
+  pub placed : (place : ℕ) (s : Stride) → slice_get strides place ≡ Some s
       → IsStride seeds strides s s.before
 
 -- The receipt was visited by a chain of at most this many.
@@ -73,7 +73,7 @@ abbrev pub AreFollowed : List Receipt → List Stride → List Triple → ℕ �
 AreFollowed waiting strides offers most = (r : Receipt) → Contains waiting r
     → Contains offers (need_of r) → HasStride strides r most
 
--- The flags tell which receipts were visited, and the lengths of their chains rise, up to at most
+-- The flags say which receipts were visited, and the lengths of their chains rise, up to at most
 -- this.
 pub record AreMarked (waiting : List Receipt) (visited : List Bool) (strides : List Stride)
     (most : ℕ) : Type 0 where

@@ -4,7 +4,7 @@ use Rattle.std.specs.Prelude.{Result, Ok, Err, IfOk, IsErrOf}
 use Rattle.std.specs.Io.KnownBytes.{Keeps, IsAtEnd}
 use Rattle.std.specs.declared.alloc.AllocError.{AllocError}
 use Rattle.byte_lines.specs.Lines.{HasNoFeed, HasLine, HasNoLine, HasMore}
-use Rattle.byte_lines.specs.Inside.Ahead.{ahead_of}
+use Rattle.byte_lines.specs.Ahead.{ahead_of}
 use Rattle.byte_lines.specs.Streams.{kept, StreamState}
 use Rattle.byte_lines.specs.declared.line_buf.LineBuf.{LineBuf}
 use Rattle.byte_lines.specs.declared.line_buf.Found.{Found}

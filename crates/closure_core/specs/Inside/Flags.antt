@@ -10,7 +10,7 @@ raised_count flags = count_by (λ flag. flag) flags
 
 -- Each accepted document has one number among these, whose flag is raised, and each raised flag is
 -- that of an accepted document.
-pub record TellsMembers (m : Meaning) (pairs : List Pair) (numbers : List ℕ)
+pub record ReportsMembers (m : Meaning) (pairs : List Pair) (numbers : List ℕ)
     (flags : List Bool) : Type 0 where
   pub size : length flags ≡ length pairs
   pub sound : (number : ℕ) (p : Pair) → is_raised flags number ≡ true

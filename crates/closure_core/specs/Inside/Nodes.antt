@@ -16,7 +16,7 @@ pairs_of seeds receipts = map pair_of_seed seeds ++ map pair_of receipts
 abbrev pub is_raised : List Bool → ℕ → Bool
 is_raised flags number = slice_index_or flags number false
 
--- the document with the number, where its flag is raised
+-- the document with the number, if its flag is raised
 abbrev pub raised_document : List Pair → List Bool → ℕ → Option Bundle
 raised_document pairs flags number = cond (is_raised flags number)
     (option_map (λ p. p.document) (slice_get pairs number)) None
@@ -32,7 +32,7 @@ pub record AreNumbers (pairs : List Pair) (flags : List Bool) (numbers : List �
 
 -- ---- counts in the place of flags
 
--- a document's flag is raised where its count is not 0
+-- a document's flag is raised if its count is not 0
 abbrev pub flags_of : List ℕ → List Bool
 flags_of counts = map (λ count. not (count == 0)) counts
 

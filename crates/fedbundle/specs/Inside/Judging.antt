@@ -11,13 +11,14 @@ use Rattle.receipt_core.specs.Receipt.{Receipt}
 use Rattle.closure_core.specs.Changes.{HeldAndRoom, TakesOk}
 use Rattle.closure_core.specs.Refusals.{IsOneTooMany}
 use Rattle.closure_core.specs.declared.outcome.Taken.{Taken}
-use Rattle.fedbundle.specs.Stream.{AreTaken, OverfillStore, IsRefusedLine, Complaint, AreComplaints}
-use Rattle.fedbundle.specs.Stream.{complaint_text}
+use Rattle.fedbundle.specs.Stream.{AreTaken, OverfillStore, IsRefusedLine, NumberedError}
+use Rattle.fedbundle.specs.Stream.{AreLineErrors}
+use Rattle.fedbundle.specs.Stream.{line_error_text}
 use Rattle.receipt_core.specs.Limits.{receipt_limit}
-use Rattle.fedbundle.specs.Report.{BeginsTelling}
-use Rattle.fedbundle.specs.declared.complaint.LineFault.{LineFault}
-use Rattle.fedbundle.specs.declared.run_error.RunError.{RunError}
-use Rattle.fedbundle.specs.declared.run_error.RunError.TheVariants.{Full, NoMemory, Io}
+use Rattle.fedbundle.specs.Report.{BeginsReporting}
+use Rattle.fedbundle.specs.declared.line_fault.LineFault.{LineFault}
+use Rattle.command_exits.specs.declared.run_error.RunError.{RunError}
+use Rattle.command_exits.specs.declared.run_error.RunError.TheVariants.{Full, NoMemory, Io}
 
 -- ---- one line
 
@@ -49,47 +50,51 @@ FailsText old text Full = IsTextTooMany old text
 FailsText old text NoMemory = Unit {0}
 FailsText old text Io = ⊥
 
--- The complaint was written, and nothing is taken.
-pub record ComplainsOf (old : HeldAndRoom) (text : List ℕ) (number : ℕ) (new : HeldAndRoom)
-    (told tells : Option (List ℕ)) : Type 0 where
+-- The line error was written, and nothing is taken.
+pub record NamesLineErrors (old : HeldAndRoom) (text : List ℕ) (number : ℕ) (new : HeldAndRoom)
+    (stated reports : Option (List ℕ)) : Type 0 where
   pub why : LineFault
   pub refuses : RefusesReceiptText old text new why
-  pub now : Appends told tells (complaint_text (record { number = number; why = why }))
+  pub now : Appends stated reports (line_error_text (record { number = number; why = why }))
 
--- A beginning of the complaint was written.
-pub record BeginsTellingOf (old : HeldAndRoom) (text : List ℕ) (number : ℕ)
-    (told tells : Option (List ℕ)) : Type 0 where
+-- A beginning of the line error was written.
+pub record BeginsReportingOf (old : HeldAndRoom) (text : List ℕ) (number : ℕ)
+    (stated reports : Option (List ℕ)) : Type 0 where
   pub why : LineFault
   pub refused : IsRefusedLine old.meaning.config text why
-  pub begun : AppendsBeginning told tells (complaint_text (record { number = number; why = why }))
+  pub begun : AppendsBeginning stated reports (line_error_text (record {
+    number = number;
+    why = why;
+  }))
 
 abbrev pub TriesText : HeldAndRoom → List ℕ → ℕ → HeldAndRoom → Option (List ℕ) → Option (List ℕ)
     → Bool → Result ℕ RunError → Type 0
-TriesText old text number new told tells failed
-    (Ok n) = (TakesReceiptText old text new × (tells ≡ told) × (n ≡ 0))
-    ⊎ (ComplainsOf old text number new told tells × (n ≡ 1))
-TriesText old text number new told tells failed (Err Full) = IsTextTooMany old text × (tells ≡ told)
-TriesText old text number new told tells failed (Err NoMemory) = (tells ≡ told)
-TriesText old text number new told tells failed (Err Io) = (failed ≡ true)
-    × BeginsTellingOf old text number told tells
+TriesText old text number new stated reports failed
+    (Ok n) = (TakesReceiptText old text new × (reports ≡ stated) × (n ≡ 0))
+    ⊎ (NamesLineErrors old text number new stated reports × (n ≡ 1))
+TriesText old text number new stated reports failed (Err Full) = IsTextTooMany old text
+    × (reports ≡ stated)
+TriesText old text number new stated reports failed (Err NoMemory) = (reports ≡ stated)
+TriesText old text number new stated reports failed (Err Io) = (failed ≡ true)
+    × BeginsReportingOf old text number stated reports
 
 -- ---- all lines
 
--- What is held is what is taken of the lines, and all complaints were written, n of them.
+-- What is held is what is taken of the lines, and all line errors were written, n of them.
 pub record HasJudged (c : Configuration) (lines : Lines) (m : Meaning)
-    (told tells : Option (List ℕ)) (n : ℕ) : Type 0 where
+    (stated reports : Option (List ℕ)) (n : ℕ) : Type 0 where
   pub config : m.config ≡ c
   pub records : m.records ≡ []
   pub taken : AreTaken c lines.whole m.held
   pub few : length m.held ≤ receipt_limit
-  pub complaints : List Complaint
-  pub all : AreComplaints c lines complaints
-  pub telling : Appends told tells (flat_map complaint_text complaints)
-  pub counted : n ≡ length complaints
+  pub line_errors : List NumberedError
+  pub all : AreLineErrors c lines line_errors
+  pub stating : Appends stated reports (flat_map line_error_text line_errors)
+  pub counted : n ≡ length line_errors
 
 abbrev pub StopsJudging : Configuration → Lines → Option (List ℕ) → Option (List ℕ) → RunError
     → Type 0
-StopsJudging c lines told tells Full = OverfillStore c lines.whole
-    × BeginsTelling c lines told tells
-StopsJudging c lines told tells NoMemory = BeginsTelling c lines told tells
-StopsJudging c lines told tells Io = BeginsTelling c lines told tells
+StopsJudging c lines stated reports Full = OverfillStore c lines.whole
+    × BeginsReporting c lines stated reports
+StopsJudging c lines stated reports NoMemory = BeginsReporting c lines stated reports
+StopsJudging c lines stated reports Io = BeginsReporting c lines stated reports

@@ -1,4 +1,4 @@
--- Where the bytes of a text lie.
+-- The place of a text's bytes.
 use Rattle.std.specs.Prelude.{ℕ, List, string_bytes}
 use Rattle.jwk_set.specs.declared.kept_text.KeptText.{KeptText}
 use Rattle.jwk_set.specs.declared.kept_text.KeptText.TheVariants.{Short, Long}

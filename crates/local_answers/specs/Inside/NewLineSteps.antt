@@ -11,7 +11,7 @@ use Rattle.closure_core.specs.Refusals.{all_receipts, all_records}
 use Rattle.replica_core.specs.Absorbing.{of_receipts, of_records}
 use Rattle.replica_journal.specs.Journal.{entry_text}
 
--- Of all items these are new to the set, and the rest is still to be looked at.
+-- From all items, these are new to the set, and the rest is still to be looked at.
 pub record IsSifted {X : Type 0} (P : X → Type 0) (cmp : X → X → Ordering)
     (set all rest new : List X) : Type 0 where
   pub joined : with_items cmp (new ++ rest) set ≡ with_items cmp all set
@@ -28,13 +28,13 @@ pub record SiftsReceipts (m : Meaning) (all rest : List Receipt) (text : List �
   pub counted : count ≡ length new
   pub few : count + length rest ≤ 65536
 
--- the same of records
+-- the same for records
 pub record SiftsRecords (m : Meaning) (all rest : List Distrust) (text : List ℕ) : Type 0 where
   pub new : List Distrust
   pub sifted : IsSifted IsDistrust distrust_cmp m.records all rest new
   pub spelt : text ≡ flat_map entry_text (of_records new)
 
--- The text is the lines of the other's receipts that are not held, so many.
+-- The text is the lines of the other's receipts that are not held, and this is their number.
 pub record AreReceiptLines (m other : Meaning) (text : List ℕ) (count : ℕ) : Type 0 where
   pub new : List Receipt
   pub form : AllByRecursion IsReceipt new
@@ -43,7 +43,7 @@ pub record AreReceiptLines (m other : Meaning) (text : List ℕ) (count : ℕ) :
   pub all : with_items receipt_cmp new m.held ≡ all_receipts m other
   pub counted : length (all_receipts m other) ≡ length m.held + count
 
--- the same of records
+-- the same for records
 pub record AreRecordLines (m other : Meaning) (text : List ℕ) : Type 0 where
   pub new : List Distrust
   pub form : AllByRecursion IsDistrust new

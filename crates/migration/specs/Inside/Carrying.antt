@@ -21,7 +21,7 @@ pub record GoesAlong {A : Type 0} (goes : A → Type 0) (item : A) (old new : Li
   pub few : length new ≤ length old + 1
   pub unwritten : sink.after ≡ sink.before
 
--- The item stays behind, and its line was written.
+-- The item is left out, and its line was written.
 pub record StaysBehind {A : Type 0} (goes : A → Type 0) (reports : A → List ℕ → Type 0) (item : A)
     (old new : List A) (sink : SinkRun) : Type 0 where
   pub stays : goes item → ⊥
@@ -41,7 +41,7 @@ abbrev pub StopsAtItem : {A : Type 0} → (A → List ℕ → Type 0) → A → 
 StopsAtItem reports item sink = (sink.after ≡ sink.before)
     ⊎ ((line : List ℕ) × reports item line × AppendsBeginning sink.before sink.after line)
 
--- Of these items exactly those that go along are kept, and the lines of the others were written, n
+-- Exactly those of these items that go along are kept, and the lines of the others were written, n
 -- of them.
 pub record HasSorted {A : Type 0} (goes : A → Type 0) (reports : A → List ℕ → Type 0)
     (items kept : List A) (sink : SinkRun) (n : ℕ) : Type 0 where

@@ -13,7 +13,7 @@ use Rattle.poll_log.specs.declared.error.PollError.TheVariants.{BadLine, BadMome
 abbrev pub is_no_space : ℕ → Bool
 is_no_space b = not (b == 32)
 
--- the word comes before the first space of the text, and the rest after it
+-- `word` comes before the first space of the text, and `rest` after it
 pub record IsWord (text word rest : List ℕ) : Type 0 where
   pub whole : text ≡ word ++ (32 ∷ rest)
   pub plain : AllPass is_no_space word

@@ -15,7 +15,7 @@ use Rattle.replica_texts.specs.Gives.{Heads}
 use Rattle.replica_texts.specs.Messages.{have_text}
 use Rattle.replica_sync.specs.Inside.NextLines.{IsNextOf, RefusesHere}
 use Rattle.replica_texts.specs.declared.entry_line.Wanted.{Wanted}
-use Rattle.replica_sync.specs.Pieces.{EndsLine, GoesOn, IsOverlong, piece_run}
+use Rattle.replica_sync.specs.Pieces.{EndsLine, Continues, IsOverlong, piece_run}
 use Rattle.replica_sync.specs.Plans.{answered_of, bucket_at, asked_count, plan_of}
 use Rattle.replica_sync.specs.declared.answer_lines.AnswerLines.{AnswerLines}
 use Rattle.replica_sync.specs.declared.bucket_plan.BucketPlan.{BucketPlan}
@@ -130,7 +130,7 @@ pub record PullState : Type 0 where
 -- No line ended.
 pub record StaysWithin (old : PullState) (piece : List ℕ) (used : ℕ) (new : PullState)
     (due : List ℕ) : Type 0 where
-  pub goes : GoesOn (piece_run line_limit old.kept piece) new.kept
+  pub goes : Continues (piece_run line_limit old.kept piece) new.kept
   pub all : used ≡ length piece
   pub held : new.held ≡ old.held
   pub lines : new.lines ≡ old.lines
@@ -151,11 +151,11 @@ pub record PassesOn (old : PullState) (lines : AnswerLines) (new : PullState) : 
   pub next : IsNextAt (plan_of new.asked) (answered_of new.asked) new.lines
 
 -- what is next after a line, which left the lines like this
-abbrev pub GoesOnAfter : Bool → PullState → AnswerLines → PullState → Type 0
-GoesOnAfter false old lines new = (new.lines ≡ lines) × (new.asked ≡ old.asked)
-GoesOnAfter true old lines new = PassesOn old lines new
+abbrev pub ContinuesAfter : Bool → PullState → AnswerLines → PullState → Type 0
+ContinuesAfter false old lines new = (new.lines ≡ lines) × (new.asked ≡ old.asked)
+ContinuesAfter true old lines new = PassesOn old lines new
 
--- what is asked after the line: about the next bucket where an answer ended that is not the last
+-- what is asked after the line: about the next bucket if an answer ended that is not the last
 abbrev pub Asks : Meaning → AnswerLines → Bool → List ℕ → Type 0
 Asks m lines false due = due ≡ []
 Asks m lines true due = ((lines.bucket ≡ 256) × (due ≡ []))
@@ -170,14 +170,14 @@ pub record EndsAnswerLine (old : PullState) (piece : List ℕ) (used : ℕ) (new
   pub whole : Bool
   pub lines : AnswerLines
   pub takes : TakesAnswerLine old.held old.lines text new.held lines whole
-  pub passes : GoesOnAfter whole old lines new
+  pub passes : ContinuesAfter whole old lines new
   pub asks : Asks new.held new.lines whole due
 
 abbrev pub TakesPulled : PullState → List ℕ → ℕ → PullState → List ℕ → Type 0
 TakesPulled old piece used new due = StaysWithin old piece used new due
     ⊎ EndsAnswerLine old piece used new due
 
--- the fault of a line that is too long
+-- the error of a line that is too long
 abbrev pub IsLongFault : AnswerLines → SyncError → Type 0
 IsLongFault lines e = ((lines.is_begun ≡ false) × (e ≡ BadHeader))
     ⊎ ((lines.is_begun ≡ true) × ((e ≡ NotCanonical (lines.read + 1)) ⊎ (e ≡ NoMemory)))
@@ -187,7 +187,7 @@ pub record RefusesLong (old : PullState) (piece : List ℕ) (e : SyncError) : Ty
   pub over : IsOverlong line_limit (old.kept ++ piece)
   pub cause : IsLongFault old.lines e
 
--- A line ended, and has this fault.
+-- A line ended, and has this error.
 pub record RefusesEnded (old : PullState) (piece : List ℕ) (e : SyncError) : Type 0 where
   pub used : ℕ
   pub text : List ℕ

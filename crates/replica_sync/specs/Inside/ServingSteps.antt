@@ -7,7 +7,7 @@ use Rattle.replica_core.specs.declared.error.SyncError.{SyncError}
 use Rattle.replica_texts.specs.Messages.{as_any_have, any_have_text, give_text}
 use Rattle.replica_texts.specs.Haves.{IsHaveOf, RefusesFurther}
 use Rattle.replica_texts.specs.SoleLines.{IsHaveLine}
-use Rattle.replica_sync.specs.Pieces.{EndsLine, GoesOn, piece_run}
+use Rattle.replica_sync.specs.Pieces.{EndsLine, Continues, piece_run}
 use Rattle.replica_sync.specs.declared.text_sink.TextSink.{TextSink}
 
 abbrev pub text_in : TextSink → List ℕ
@@ -20,8 +20,8 @@ pub record AnswersLine (m : Meaning) (text answer : List ℕ) : Type 0 where
   pub is : answer ≡ give_text (give_of m have)
 
 -- No have ended, and nothing is to be written.
-pub record GoesOnWithHave (old piece : List ℕ) (used : ℕ) (new answer : List ℕ) : Type 0 where
-  pub goes : GoesOn (piece_run line_limit old piece) new
+pub record ContinuesWithHave (old piece : List ℕ) (used : ℕ) (new answer : List ℕ) : Type 0 where
+  pub goes : Continues (piece_run line_limit old piece) new
   pub all : used ≡ length piece
   pub none : answer ≡ []
 
@@ -36,7 +36,7 @@ pub record EndsHave (m : Meaning) (old piece : List ℕ) (used : ℕ)
 
 -- what is taken of a piece after `old` was kept
 abbrev pub TakesHave : Meaning → List ℕ → List ℕ → ℕ → List ℕ → List ℕ → Type 0
-TakesHave m old piece used new answer = GoesOnWithHave old piece used new answer
+TakesHave m old piece used new answer = ContinuesWithHave old piece used new answer
     ⊎ EndsHave m old piece used new answer
 
 -- why the have that it continues is not answered

@@ -57,7 +57,7 @@ pub record HasHaveLine (old new : Option (List ℕ)) (a : VersionedHave) : Type 
   pub line : IsAnyHaveLine text (versioned_have_says a)
   pub short : length text ≤ line_limit
 
--- there is one, or the stream has come to its end
+-- there is one, or the stream is at its end
 abbrev pub FindsHaveLine : Option (List ℕ) → Option (List ℕ) → Option VersionedHave → Type 0
 FindsHaveLine old new None = IsAtEnd old × IsAtEnd new
 FindsHaveLine old new (Some a) = HasHaveLine old new a
@@ -87,7 +87,7 @@ RefusesVersionedHave config a VersionDiffers = (a.have.config ≡ config_id_of c
     × (IsSupportedVersion a.format a.buckets → ⊥)
 RefusesVersionedHave config a _ = ⊥
 
--- there is a have of the configuration, or the stream has come to its end
+-- there is a have of the configuration, or the stream is at its end
 abbrev pub FindsOwn : Configuration → Option (List ℕ) → Option (List ℕ) → Option HaveMessage
     → Type 0
 FindsOwn config old new None = IsAtEnd old × IsAtEnd new

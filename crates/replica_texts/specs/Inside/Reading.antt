@@ -65,7 +65,7 @@ pub record FailsAfter (config : Configuration) (stream : Option (List ℕ)) (for
   pub valid : IsMeaning m
   pub cause : RefusesNext format m left e
 
--- a byte follows where the stream should end
+-- a byte follows although the stream should end
 abbrev pub RefusesEnd : ℕ → Option (List ℕ) → SyncError → Type 0
 RefusesEnd number stream (NotCanonical n) = (n ≡ number) × HasMore stream
 RefusesEnd number stream Io = Unit {0}

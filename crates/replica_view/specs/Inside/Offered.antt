@@ -28,7 +28,7 @@ pub record AddsOffersOf (m : Meaning) (domain : List ℕ) (old new : List Triple
   pub are : IsAcceptedList m domain documents
   pub now : new ≡ old ++ flat_map (λ d. offers_of (document_of domain d)) documents
 
--- the same of all domains of the configuration
+-- the same for all domains of the configuration
 pub record AreAllOffers (m : Meaning) (offers : List Triple) : Type 0 where
   pub sound : (t : Triple) → Contains offers t → HasOfferer m t
   pub complete : (p : Pair) (t : Triple) → HasDomain m.config p.domain → IsMember m p

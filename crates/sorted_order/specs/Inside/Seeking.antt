@@ -11,7 +11,7 @@ pub record IsFirstFound (compared : ℕ → Ordering) (numbers : List ℕ) (numb
   pub found : IsFound compared numbers place
   pub numbered : slice_index numbers place ≡ number
 
--- what a search answers among numbers: the first in its place, or the place where it would be
+-- what a search answers among numbers: the first in its place, or the place that it would have
 abbrev pub FindsFirst : (ℕ → Ordering) → List ℕ → Result ℕ ℕ → Type 0
 FindsFirst compared numbers result =
     MatchResult result (IsFirstFound compared numbers) (IsMissing compared numbers)

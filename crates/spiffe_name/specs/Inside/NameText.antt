@@ -1,4 +1,4 @@
--- Where the bytes of a name lie.
+-- The place of a name's bytes.
 use Rattle.std.specs.Prelude.{ℕ, List, string_bytes}
 use Rattle.spiffe_name.specs.declared.domain.NameText.{NameText}
 use Rattle.spiffe_name.specs.declared.domain.NameText.TheVariants.{Short, Long}

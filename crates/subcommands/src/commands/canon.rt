@@ -1,11 +1,10 @@
 //! `canon`: a bundle in its canonical form.
 use crate::commands::observe::read_bundle;
+use command_exits::Exit;
 use command_faults::status_of_bundle;
+use command_line::{Call, OptionName, OutputForm, given, read_output_form, wanted};
 use command_streams::output;
-use fedbundle::{
-    Call, Exit, OptionName, OutputForm, given, read_domain, read_output_form, run_canon_bytes,
-    wanted,
-};
+use fedbundle::{read_domain, run_canon_bytes};
 use spiffe_name::TrustDomain;
 
 /// Prints the bundle that standard input has in its canonical form.

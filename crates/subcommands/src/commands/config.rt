@@ -1,9 +1,11 @@
-//! `config`: what a configuration says, or where two differ.
+//! `config`: what a configuration says, or in what two differ.
+use command_exits::Exit;
+use command_line::{Call, OptionName, given};
 use command_streams::{input, options, output};
 use fed_config::Config;
-use fedbundle::{Call, Exit, OptionName, given, run_config};
+use fedbundle::run_config;
 
-/// Prints what the configuration says, or where it differs from another one. The latter is only
+/// Prints what the configuration says, or in what it differs from another one. The latter is only
 /// text.
 pub(crate) fn run(rt: &HostRuntime, config: &Config, call: &Call<'_>) -> Result<u8, Exit> {
     match given(call, OptionName::With) {

@@ -1,8 +1,10 @@
 //! `diff`: what only one of two state files holds, printed.
 use crate::state_access::{StateAccess, leave, load, state_access_of};
+use command_exits::Exit;
+use command_line::{Call, OptionName, wanted};
 use command_streams::output;
 use fed_config::Config;
-use fedbundle::{Call, Exit, OptionName, run_diff, wanted};
+use fedbundle::run_diff;
 use trust_closure::IndexedClosure;
 
 /// Prints what only one of two state files holds. If they hold different things, the exit status is

@@ -2,12 +2,11 @@
 use crate::commands::state_writers::{Coming, change};
 use byte_lines::{Sink, write_all};
 use closure_core::Closure;
-use command_streams::{complaints, output};
+use command_exits::{CommandError, Exit};
+use command_line::{Call, OptionName, given, manner_of, read_key, wanted};
+use command_streams::{line_errors, output};
 use fed_config::Config;
-use fedbundle::{
-    Call, CommandError, Exit, OptionName, given, manner_of, read_domain, read_key, read_record,
-    run_distrust, show_distrust, wanted,
-};
+use fedbundle::{read_domain, read_record, run_distrust, show_distrust};
 use jwk_set::KeyId;
 use key_view::{keys_with, same_keys_text};
 use receipt_core::Distrust;
@@ -31,31 +30,31 @@ pub(crate) fn make(
     for record in records.as_slice() {
         if is_verbose {
             // That it cannot be said keeps no key from being distrusted.
-            let _ = show_distrust(rt.alloc(), closure, record, &mut complaints(rt));
+            let _ = show_distrust(rt.alloc(), closure, record, &mut line_errors(rt));
         }
         run_distrust(closure, &record.domain, record.key)?;
     }
     if is_verbose {
-        let _ = print_same_keys(rt, closure, call, &mut complaints(rt));
+        let _ = print_same_keys(rt, closure, call, &mut line_errors(rt));
     }
     Ok(())
 }
 
 /// Says which records were made, if the options do not name the key.
-pub(crate) fn tell(
+pub(crate) fn print_out(
     rt: &HostRuntime,
     closure: &IndexedClosure,
     call: &Call<'_>,
 ) -> Result<(), Exit> {
     if given(call, OptionName::PublicKey).is_some() {
         for record in records_of(rt, closure, call)? {
-            tell_key(rt, &record.key)?;
+            print_key(rt, &record.key)?;
         }
     }
     Ok(())
 }
 
-fn tell_key(rt: &HostRuntime, key: &KeyId) -> Result<(), Exit> {
+fn print_key(rt: &HostRuntime, key: &KeyId) -> Result<(), Exit> {
     let line = format!(in rt.alloc(); "distrusted {key}\n")?;
     write_all(&mut output(rt), line.as_bytes()).map_err(|_| CommandError::Io)?;
     Ok(())

@@ -1,7 +1,8 @@
 //! `new`: the state file of a replica that holds nothing, written.
 use crate::state_access::{has_state, leave, lock, save, state_access_of};
+use command_exits::{CommandError, Exit};
+use command_line::Call;
 use fed_config::Config;
-use fedbundle::{Call, CommandError, Exit};
 use trust_closure::{Closure, IndexedClosure};
 
 /// Writes the state file, with its lock. If there is a state file or a journal, nothing is written.

@@ -2,12 +2,12 @@
 use crate::commands::state_writers::{Coming, change};
 use bundle_doc::MAX_DOCUMENT_BYTES;
 use byte_lines::{FromRead, read_up_to};
+use command_exits::{CommandError, Exit};
 use command_faults::status_of_bundle;
+use command_line::{Call, OptionName, wanted};
 use command_streams::{input, output};
 use fed_config::Config;
-use fedbundle::{
-    Call, CommandError, Exit, OptionName, read_domain, read_verdict, run_observe, wanted,
-};
+use fedbundle::{read_domain, read_verdict, run_observe};
 use trust_closure::IndexedClosure;
 
 /// Takes the bundle that standard input has.

@@ -1,17 +1,17 @@
 //! `pull`: the end of a session that asks, over a socket. It loads the state, reads the address,
-//! and connects before a session begins; it saves the state at the end. A session begins with sums:
-//! if none differs it is over, and otherwise all buckets are asked about. At a peer that does not
-//! know sums it continues without them.
-use crate::connection::{Connection, Direction, connect};
+//! and connects before a session begins; it saves the state at the end. A session begins with sums,
+//! and asks about the buckets that differ. A peer that does not know sums is asked about all.
+use crate::connection::{Connection, connect};
 use crate::limited_reader::LimitedReader;
-use crate::peeked_reader::PeekedReader;
 use crate::state_access::{StateAccess, leave, load, lock, room_left, save, state_access_of};
-use crate::sums_exchange::ask_for_sums;
+use bucket_sums::{KeptSums, QuietPulling, pull_quietly};
 use byte_lines::{FromRead, FromWrite};
+use command_exits::{CommandError, Exit, Step};
 use command_faults::status_of;
+use command_line::{Call, OptionName, wanted};
 use command_streams::{options, output_line, progress_mode};
 use fed_config::Config;
-use fedbundle::{Call, CommandError, Exit, OptionName, Step, run_pull, wanted, write_counted};
+use fedbundle::{run_pull, write_counted};
 use progress_line::{LongWork, WatchedReader, WorkProgress};
 use replica_core::SyncError;
 use replica_sync::PullFault;
@@ -26,15 +26,6 @@ struct Begun {
     file: SeenState,
 }
 
-/// With what a session begins.
-#[derive(Clone, Copy)]
-enum FirstQuestion {
-    /// The sums of what is held. If some differ, haves follow.
-    Sums,
-    /// The have about the first of all buckets.
-    Have,
-}
-
 /// What came of a session that begins with sums.
 #[derive(Drop)]
 enum SumsSession {
@@ -44,9 +35,9 @@ enum SumsSession {
     Unanswered,
 }
 
-/// Takes what the replica at the address has, and writes the state, also where the session ends
-/// with a fault. Where there is no connection the state file stays as it is. The state is locked
-/// while it is loaded and while it is written, and not while the other replica answers.
+/// Takes what the replica at the address has, and writes the state, also if the session ends with
+/// an error. Without a connection the state file is unchanged. The state is locked while it is
+/// loaded and while it is written, and not while the other replica answers.
 pub(crate) fn run(rt: &HostRuntime, config: &Config, call: &Call<'_>) -> Result<u8, Exit> {
     let state = state_access_of(call)?;
     let mut begun = begin(rt, config, state)?;
@@ -57,8 +48,8 @@ pub(crate) fn run(rt: &HostRuntime, config: &Config, call: &Call<'_>) -> Result<
     Ok(end_pull(rt, call, pulled, saved))
 }
 
-// How the session ended. Without a connection there was none. A peer that may not know sums
-// is asked without them, on another connection.
+// How the session ended, or why there was no connection. A peer that may not know sums is asked
+// without them, on another connection.
 fn pull_from(
     rt: &HostRuntime,
     closure: &mut ExchangeClosure,
@@ -66,8 +57,7 @@ fn pull_from(
     most_bytes: u64,
 ) -> Result<Result<(), Exit>, Exit> {
     let address = options::known_address(peer)?;
-    let connection = connect(rt, address)?;
-    match pull_with_sums(rt, closure, &connection, most_bytes) {
+    match pull_with_sums(rt, closure, connect(rt, address)?, most_bytes) {
         SumsSession::Ended(ended) => Ok(ended),
         SumsSession::Unanswered => {
             let connection = connect(rt, address)?;
@@ -85,23 +75,55 @@ fn begin(rt: &HostRuntime, config: &Config, state: StateAccess<'_>) -> Result<Be
     }
 }
 
+// The connection is closed at the end. A peer that answers one connection after another then
+// takes the next one.
 fn pull_with_sums(
     rt: &HostRuntime,
     closure: &mut ExchangeClosure,
-    connection: &Connection,
+    connection: Connection,
     most_bytes: u64,
 ) -> SumsSession {
     let mut answers = LimitedReader::new(connection.direction(rt), most_bytes);
-    let pulled = pull_watched(rt, closure, &mut answers, connection, FirstQuestion::Sums);
+    let mut sums = KeptSums::new(rt.alloc());
+    let mut session = match QuietPulling::new(rt.alloc(), &*closure, &mut sums) {
+        Ok(session) => session,
+        Err(why) => return SumsSession::Ended(Err(Exit::Refused(pull_error(why, 0)))),
+    };
+    let pulled = pull_quietly_on(rt, closure, &mut session, &mut answers, &connection);
     let is_unanswered = match &pulled {
         Ok(()) => false,
-        Err(error) => { is_of_connection(error) && !answers.has_given() && connection.is_young(rt) }
+        Err(error) => {
+            is_of_connection(error) && session.is_unanswered() && connection.is_young(rt)
+        }
     };
     if is_unanswered {
         SumsSession::Unanswered
     } else {
         SumsSession::Ended(end_session(pulled, answers.has_passed()))
     }
+}
+
+fn pull_quietly_on<R: Read>(
+    rt: &HostRuntime,
+    closure: &mut ExchangeClosure,
+    session: &mut QuietPulling,
+    answers: &mut R,
+    connection: &Connection,
+) -> Result<(), CommandError> {
+    let mut progress = WorkProgress::begin(rt, rt.alloc(), LongWork::Pulling, progress_mode(rt));
+    let mut source = FromRead::new(WatchedReader::new(answers, &mut progress));
+    let mut peer = FromWrite::new(connection.direction(rt));
+    match pull_quietly(rt.alloc(), closure, session, &mut source, &mut peer) {
+        Ok(()) => {
+            write_counted(b"new ", session.taken(), &mut output_line(rt))?;
+            Ok(())
+        }
+        Err(why) => Err(pull_error(why, session.taken())),
+    }
+}
+
+fn pull_error(why: SyncError, taken: u64) -> CommandError {
+    CommandError::Pull(PullFault { why, taken })
 }
 
 fn pull_with_haves(
@@ -111,8 +133,26 @@ fn pull_with_haves(
     most_bytes: u64,
 ) -> Result<(), Exit> {
     let mut answers = LimitedReader::new(connection.direction(rt), most_bytes);
-    let pulled = pull_watched(rt, closure, &mut answers, connection, FirstQuestion::Have);
+    let pulled = pull_haves_on(rt, closure, &mut answers, connection);
     end_session(pulled, answers.has_passed())
+}
+
+fn pull_haves_on<R: Read>(
+    rt: &HostRuntime,
+    closure: &mut ExchangeClosure,
+    answers: &mut R,
+    connection: &Connection,
+) -> Result<(), CommandError> {
+    let mut progress = WorkProgress::begin(rt, rt.alloc(), LongWork::Pulling, progress_mode(rt));
+    let mut source = FromRead::new(WatchedReader::new(answers, &mut progress));
+    let mut peer = FromWrite::new(connection.direction(rt));
+    run_pull(
+        rt.alloc(),
+        closure,
+        &mut source,
+        &mut peer,
+        &mut output_line(rt),
+    )
 }
 
 fn end_session(pulled: Result<(), CommandError>, has_passed: bool) -> Result<(), Exit> {
@@ -128,54 +168,6 @@ fn is_of_connection(error: &CommandError) -> bool {
     match error {
         CommandError::Pull(fault) => matches!(fault.why, SyncError::Truncated | SyncError::Io),
         _ => false,
-    }
-}
-
-fn pull_watched<R: Read>(
-    rt: &HostRuntime,
-    closure: &mut ExchangeClosure,
-    answers: &mut R,
-    connection: &Connection,
-    first: FirstQuestion,
-) -> Result<(), CommandError> {
-    let mut progress = WorkProgress::begin(rt, rt.alloc(), LongWork::Pulling, progress_mode(rt));
-    let mut watched = WatchedReader::new(answers, &mut progress);
-    pull_on(rt, closure, &mut watched, connection, first)
-}
-
-fn pull_on<R: Read>(
-    rt: &HostRuntime,
-    closure: &mut ExchangeClosure,
-    answers: &mut R,
-    connection: &Connection,
-    first: FirstQuestion,
-) -> Result<(), CommandError> {
-    let mut answers = PeekedReader::new(rt.alloc(), answers);
-    let mut questions = connection.direction(rt);
-    let mut output = output_line(rt);
-    let may_lack = match first {
-        FirstQuestion::Sums => differs(rt, closure, &mut answers, &mut questions)?,
-        FirstQuestion::Have => true,
-    };
-    if !may_lack {
-        write_counted(b"new ", 0, &mut output)?;
-        return Ok(());
-    }
-    let mut source = FromRead::new(answers);
-    let mut peer = FromWrite::new(questions);
-    run_pull(rt.alloc(), closure, &mut source, &mut peer, &mut output)
-}
-
-// Whether the sums of the other side differ.
-fn differs<R: Read>(
-    rt: &HostRuntime,
-    closure: &ExchangeClosure,
-    answers: &mut PeekedReader<R>,
-    questions: &mut Direction<'_>,
-) -> Result<bool, PullFault> {
-    match ask_for_sums(rt.alloc(), closure, answers, questions) {
-        Ok(buckets) => Ok(!buckets.is_empty()),
-        Err(why) => Err(PullFault { why, taken: 0 }),
     }
 }
 

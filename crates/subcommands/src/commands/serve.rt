@@ -6,12 +6,14 @@ use crate::state_access::{load, state_access_of};
 use crate::sums_exchange::answer_sums;
 use bucket_sums::KeptSums;
 use byte_lines::{FromRead, FromWrite};
+use command_exits::{CommandError, Exit};
+use command_line::{Call, OptionName, wanted};
 use command_streams::options::config_of;
 use command_streams::{
     error_lines, options, output_line, print_exit, progress_mode, warn_of_anywhere,
 };
 use fed_config::Config;
-use fedbundle::{Call, CommandError, Exit, OptionName, run_serve, wanted, write_served};
+use fedbundle::{run_serve, write_served};
 use progress_line::{LongWork, WatchedWriter, WorkProgress};
 use std::io::Write;
 use std::net::{SocketAddr, TcpListener};
@@ -24,8 +26,8 @@ struct Service {
     is_verbose: bool,
 }
 
-/// Serves as many sessions as the arguments say. The error of a session is reported at its end, and
-/// the greatest exit status of all is returned.
+/// Serves the number of sessions that the arguments say. The error of a session is reported at its
+/// end, and the greatest exit status of all is returned.
 pub(crate) fn run(rt: &HostRuntime, call: &Call<'_>) -> Result<u8, Exit> {
     let sessions = options::session_count(wanted(call, OptionName::Sessions)?)?;
     let config = config_of(rt, call)?;

@@ -3,9 +3,11 @@
 use crate::commands::{diff, distrust};
 use crate::state_access::{leave, load, state_access_of};
 use byte_lines::{FromWrite, Source};
-use command_streams::{complaints, input, options, output_progress_mode};
+use command_exits::Exit;
+use command_line::{Call, CommandName, OptionName, given};
+use command_streams::{input, line_errors, options, output_progress_mode};
 use fed_config::Config;
-use fedbundle::{Call, CommandName, Exit, OptionName, Shown, given, run_shown};
+use fedbundle::{Shown, run_shown};
 use progress_line::{LongWork, ProgressMode, WatchedWriter, WorkProgress};
 use std::rt::Clock;
 use trust_closure::IndexedClosure;
@@ -64,7 +66,7 @@ fn show_from<R: Source>(
         shown,
         source,
         &mut FromWrite::new(output),
-        &mut complaints(rt),
+        &mut line_errors(rt),
     )
 }
 

@@ -3,15 +3,17 @@
 //! options. The replica is made and given back in one place, and each command only borrows it.
 use crate::commands::{distrust, observe};
 use crate::state_access::{leave, load, lock, save, state_access_of};
+use command_exits::{CommandError, Exit};
+use command_line::Call;
 use command_streams::output_line;
 use fed_config::Config;
-use fedbundle::{Call, CommandError, Exit, take_other};
+use fedbundle::take_other;
 use trust_closure::IndexedClosure;
 
-/// What comes to what is held.
+/// What is added to what is held.
 #[derive(Clone, Copy)]
 pub(crate) enum Coming<'a> {
-    /// The bytes of a bundle, or why there are none.
+    /// The bytes of a bundle, or why there are no bytes.
     Bundle(&'a Result<Vec<u8>, CommandError>),
     /// What another replica holds, or why that is not known.
     Replica(&'a Result<IndexedClosure, Exit>),
@@ -44,7 +46,7 @@ fn take_and_save(
     take(rt, closure, call, coming)?;
     save(rt, closure, path)?;
     if let Coming::Record = coming {
-        distrust::tell(rt, closure, call)?;
+        distrust::print_out(rt, closure, call)?;
     }
     Ok(0)
 }

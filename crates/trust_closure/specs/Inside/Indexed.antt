@@ -9,7 +9,7 @@ use Rattle.receipt_core.specs.Receipt.{Receipt}
 use Rattle.receipt_core.specs.declared.triple.Triple.{Triple}
 use Rattle.receipt_core.specs.Acceptance.{IsMeaning, IsReleased}
 use Rattle.wait_index.specs.Index.{Index}
-use Rattle.wait_index.specs.Net.{Net, ListsReached, TellsFallen}
+use Rattle.wait_index.specs.Net.{Net, ListsReached, ReportsFallen}
 use Rattle.label_index.specs.Labels.{LabelIndexView}
 use Rattle.closure_core.specs.Inside.Nodes.{pairs_of, count_at}
 use Rattle.closure_parts.specs.NodeCounts.{AreCounts}
@@ -52,7 +52,7 @@ pub record WasCounted (p : DocumentTableView) (i : Index) : Type 0 where
   pub closing : List ℕ
   pub reached : ListsReached net marked
   pub within : All (λ node. node < length p.heads) marked
-  pub fell : TellsFallen net closing i.last.fallen i.last.kept i.marked
+  pub fell : ReportsFallen net closing i.last.fallen i.last.kept i.marked
   pub many : length i.last.fallen + i.last.kept ≡ length marked
   pub counts : AreCounts p.heads marked p.counts
 
@@ -115,7 +115,7 @@ indexed_of h w s work = record {
 }
 
 -- The index has one node for each configured document, which is marked, and one for each receipt,
--- in order of arrival; for each receipt one wait edge, for each node as many offer edges as it has
+-- in order of arrival; for each receipt one wait edge, for each node one offer edge for each of its
 -- offers, and no other edge; and one label for each triple that is offered or awaited, and no other
 -- label. The labels of distrusted keys are closed. A receipt's node is marked exactly if an
 -- accepted document vouches for it.
@@ -151,7 +151,7 @@ abbrev pub ArrivesLast : List Receipt → Receipt → List Receipt → Result Ta
 ArrivesLast old r new result =
     MatchResult result (λ taken. new ≡ arrived_with old r taken) (λ refused. new ≡ old)
 
--- A receipt that was not held arrives last. Each node that was marked stays marked, in its place.
+-- A receipt that was not held arrives last. Each node that was marked remains marked, in its place.
 pub record GrowsAtItsEnd (old : Indexed) (r : Receipt) (new : Indexed)
     (result : Result Taken Refused) : Type 0 where
   pub arrived : ArrivesLast old.arrived r new.arrived result

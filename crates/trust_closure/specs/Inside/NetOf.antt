@@ -58,8 +58,8 @@ pub record IsLabelIndexOf (domains : List (List ℕ)) (records : List Distrust)
   pub within : All (λ label. label.domain < length domains) w.labels
   pub mirrors : Represents spots (map (triple_by domains) w.labels) (IsShutBy records) w.net
 
--- Edges are added at a node: what was marked stays in its place, and this many edges have taken
--- room.
+-- Edges are added at a node: what was marked remains in its place, and this many edges have
+-- taken room.
 pub record Widens (edges : ℕ) (old new : LabelIndexView) : Type 0 where
   pub roots : length new.net.roots ≡ length old.net.roots
   pub front : take (length old.marked) new.marked ≡ old.marked

@@ -43,11 +43,11 @@ wait_edge labels edge = record { node = edge.to; label = slice_get labels edge.f
 -- Some spot offers the label or awaits it.
 pub record IsUsed {A : Type 0} (spots : List (NodeSpec A)) (label : A) : Type 0 where
   pub spot : NodeSpec A
-  pub stands : Contains spots spot
+  pub placed : Contains spots spot
   pub uses : Contains spot.offers label ⊎ (spot.awaits ≡ Some label)
 
--- The net has one node for each spot, for each spot as many offer edges as it has offers and a wait
--- edge if it awaits something, one label for each that is offered or awaited, and no other of
+-- The net has one node for each spot, for each spot one offer edge for each of its offers and a
+-- wait edge if it awaits something, one label for each that is offered or awaited, and no other of
 -- these. The labels are different, and closed exactly if they are shut.
 pub record Represents {A : Type 0} (spots : List (NodeSpec A)) (labels : List A) (IsShut : A
     → Type 0)

@@ -7,7 +7,7 @@ use Rattle.receipt_core.specs.Receipt.{distrust_cmp}
 use Rattle.receipt_core.specs.Rising.{with_items}
 use Rattle.closure_parts.specs.Held.{meaning_of}
 use Rattle.closure_parts.specs.Merge.{AreKnown, AreOld, HasNewRecord}
-use Rattle.closure_parts.proofs.JoinFacts.{IsDistrusting-start, IsDistrusting-next, IsDistrusting-end, IsDistrusting-among, grown_next, grown_tells}
+use Rattle.closure_parts.proofs.JoinFacts.{IsDistrusting-start, IsDistrusting-next, IsDistrusting-end, IsDistrusting-among, grown_next, grown_states}
 use Rattle.closure_parts.proofs.union.hold_all.Goals as goal
 
 pub loop-domain-init : goal.loop-domain-init
@@ -58,5 +58,5 @@ returns-clause-new c =
     c.in-None.ensures.steps.0 in
     subst (λ (xs : List Distrust). MatchBool (ltb c.records_left.result c.records_left-left.result)
     (HasNewRecord start xs) (AreOld start xs)) c.into_iter-domain-iterator.ensures.into_iter_gives
-    (grown_tells start now all c.records_left-left.result c.records_left.result record_limit
+    (grown_states start now all c.records_left-left.result c.records_left.result record_limit
     c.loop-domain.invariant.grown held c.records_left-left.ensures c.records_left.ensures)

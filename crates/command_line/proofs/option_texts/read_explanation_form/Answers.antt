@@ -4,7 +4,7 @@ use Rattle.command_line.specs.OptionTexts.{SaysNoExplanationIn, SaysNoOutputForm
 use Rattle.command_line.specs.declared.option_texts.OutputForm.TheVariants.{Text, Json}
 use Rattle.command_line.proofs.option_texts.read_explanation_form.Goals as goal
 
--- where the text of the form is none, the chain has no form
+-- if the text of the form names no form, the chain has no form
 no_form_of_it : (short form : Option (List ℕ)) → SaysNoOutputForm form → SaysNoExplanationIn short form
 no_form_of_it short form none chosen (inl says) = none Text says.0
 no_form_of_it short form none chosen (inr says) = none Json says.0

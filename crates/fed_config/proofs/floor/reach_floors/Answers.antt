@@ -9,7 +9,7 @@ loop-seed-preserved c = each_more (λ s. ReachesEach c.args.floors.now s.domain 
 
 pub returns-then-not-reaches_floor : goal.returns-then-not-reaches_floor
 returns-then-not-reaches_floor c = (
-  λ told. absurd (cc),
-  λ each. let told = c.if-not-reaches_floor.ensures.1 (each_at (λ s. ReachesEach c.args.floors.now s.domain s.document) c.args.seeds.now
+  λ stated. absurd (cc),
+  λ each. let stated = c.if-not-reaches_floor.ensures.1 (each_at (λ s. ReachesEach c.args.floors.now s.domain s.document) c.args.seeds.now
       c.loop-seed.seed-index c.seed-item.result c.loop-seed-test.true c.seed-item.is each) in absurd (cc),
 )

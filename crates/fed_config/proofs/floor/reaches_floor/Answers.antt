@@ -5,10 +5,10 @@ use Rattle.fed_config.proofs.floor.reaches_floor.Goals as goal
 pub returns-in-Some : goal.returns-in-Some
 returns-in-Some c =
     let some = c.in-Some.ensures.0 in (
-      λ told f has same. subst (λ n. Reaches n c.args.document.now) (sym (c.in-Some.ensures.1 f has same)) (c.reaches.ensures.0 told),
+      λ stated f has same. subst (λ n. Reaches n c.args.document.now) (sym (c.in-Some.ensures.1 f has same)) (c.reaches.ensures.0 stated),
       λ each. c.reaches.ensures.1 (subst (λ n. Reaches n c.args.document.now) (c.in-Some.ensures.1 some.0 some.1 some.2)
           (each some.0 some.1 some.2)),
     )
 
 pub returns-in-None : goal.returns-in-None
-returns-in-None c = (λ told f has same. absurd (c.in-None.ensures f has same), λ each. refl)
+returns-in-None c = (λ stated f has same. absurd (c.in-None.ensures f has same), λ each. refl)

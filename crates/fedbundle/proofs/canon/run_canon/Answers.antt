@@ -1,6 +1,7 @@
 use Rattle.std.proofs.Common.{◌∙◌, ap, refl, Err, Vec, Global, ℕ}
 use Rattle.std.proofs.lemmas.Result.{err_from_is_err_and}
-use Rattle.fedbundle.specs.CommandRun.{device_run, run_of}
+use Rattle.fedbundle.specs.CommandRun.{run_of}
+use Rattle.command_exits.specs.DeviceRuns.{device_run}
 use Rattle.fedbundle.proofs.CommandFacts.{canon_read, canon_unread}
 use Rattle.fedbundle.proofs.DeviceFacts.{read_sound}
 use Rattle.fedbundle.proofs.canon.run_canon.Goals as goal

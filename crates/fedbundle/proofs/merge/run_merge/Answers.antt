@@ -1,6 +1,6 @@
 use Rattle.std.proofs.Common.{◌∙◌, ℕ, ap, Err}
 use Rattle.std.proofs.lemmas.Result.{err_from_is_err_and}
-use Rattle.fedbundle.specs.declared.error.CommandError.TheVariants.{Sync}
+use Rattle.command_exits.specs.declared.error.CommandError.TheVariants.{Sync}
 use Rattle.fedbundle.proofs.DeviceFacts.{stream_sound}
 use Rattle.fedbundle.proofs.merge.run_merge.Goals as goal
 

@@ -1,6 +1,6 @@
 use Rattle.std.proofs.Common.{◌∙◌, Some, ap, inl, inr, sym}
 use Rattle.std.proofs.lemmas.Result.{err_from_is_err_and}
-use Rattle.fedbundle.specs.Exits.{exit_of_option}
+use Rattle.command_exits.specs.Exits.{exit_of_option}
 use Rattle.fedbundle.proofs.said_values.read_verdict.Goals as goal
 
 pub returns-in_err-wanted-clause-ends : goal.returns-in_err-wanted-clause-ends

@@ -1,7 +1,7 @@
 use Rattle.std.proofs.Common.{Err, Ok, inl, inr, refl, subst, sym, ap, ◌∙◌, Some}
 use Rattle.std.proofs.lemmas.Result.{err_from_is_err_and}
 use Rattle.spiffe_name.specs.TrustDomain.{IsDomainText}
-use Rattle.fedbundle.specs.Exits.{exit_of_option}
+use Rattle.command_exits.specs.Exits.{exit_of_option}
 use Rattle.fedbundle.proofs.ShownCallFacts.{refused_words}
 use Rattle.fedbundle.proofs.shown.explain.Goals as goal
 

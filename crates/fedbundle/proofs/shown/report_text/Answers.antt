@@ -1,6 +1,6 @@
 use Rattle.std.proofs.Common.{Err, ap}
 use Rattle.std.proofs.lemmas.Result.{err_from_is_err_and}
-use Rattle.fedbundle.specs.CommandRun.{device_run}
+use Rattle.command_exits.specs.DeviceRuns.{device_run}
 use Rattle.fedbundle.proofs.ShownCallFacts.{report_failed}
 use Rattle.fedbundle.proofs.shown.report_text.Goals as goal
 

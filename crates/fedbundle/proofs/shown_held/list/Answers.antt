@@ -1,6 +1,6 @@
 use Rattle.std.proofs.Common.{Err, Ok, inr, refl}
 use Rattle.std.proofs.lemmas.Result.{err_from_is_err_and}
-use Rattle.fedbundle.specs.CommandRun.{device_run}
+use Rattle.command_exits.specs.DeviceRuns.{device_run}
 use Rattle.fedbundle.proofs.ShownCallFacts.{list_chosen}
 use Rattle.fedbundle.proofs.shown_held.list.Goals as goal
 

@@ -1,6 +1,6 @@
 use Rattle.std.proofs.Common.{Bool, Err, ap}
 use Rattle.std.proofs.lemmas.Result.{err_from_is_err_and}
-use Rattle.fedbundle.specs.CommandRun.{device_run}
+use Rattle.command_exits.specs.DeviceRuns.{device_run}
 use Rattle.fedbundle.proofs.ShownCallFacts.{writer_failed}
 use Rattle.fedbundle.proofs.shown_status.status_in.Goals as goal
 

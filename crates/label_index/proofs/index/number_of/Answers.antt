@@ -1,4 +1,4 @@
--- A label is found where it is, and is added if it is missing.
+-- A label is found at its place, and is added if it is missing.
 use Rattle.std.proofs.Common.{length, Some, inl, inr, refl, ap, ◌∙◌}
 use Rattle.std.specs.Prelude.{slice_get}
 use Rattle.std.proofs.lemmas.Option.{slice_get-get_or}

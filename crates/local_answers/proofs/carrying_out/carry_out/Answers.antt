@@ -2,8 +2,8 @@ use Rattle.std.proofs.Common.{ap, subst}
 use Rattle.command_line.specs.OptionTexts.{SaysNoManner}
 use Rattle.fedbundle.specs.SaidValues.{texts_of_call}
 use Rattle.std.proofs.lemmas.Result.{err_from_is_err_and}
-use Rattle.fedbundle.specs.Exits.{exit_of_option}
-use Rattle.fedbundle.specs.declared.exits.Exit.TheVariants.{BadNumber}
+use Rattle.command_exits.specs.Exits.{exit_of_option}
+use Rattle.command_exits.specs.declared.exits.Exit.TheVariants.{BadNumber}
 use Rattle.fedbundle.specs.CommandRun.{state_run}
 use Rattle.local_answers.specs.Inside.AskedRun.{run_of_asked}
 use Rattle.local_answers.specs.RequestRun.{CallRun}

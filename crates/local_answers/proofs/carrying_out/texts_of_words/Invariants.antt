@@ -1,4 +1,4 @@
--- The texts so far, with those of the words that are left, are those of all words.
+-- The texts so far, with those of the arguments that are left, are those of all arguments.
 use Rattle.std.proofs.Common.{◌≡◌, ◌++◌, drop, map}
 use Rattle.std.specs.Prelude.{string_bytes}
 use Rattle.local_answers.proofs.carrying_out.texts_of_words.Given as goal

@@ -1,6 +1,6 @@
 use Rattle.std.proofs.Common.{inl, inr, ap}
 use Rattle.std.proofs.lemmas.Result.{err_from_is_err_and}
-use Rattle.fedbundle.specs.Exits.{exit_of_option}
+use Rattle.command_exits.specs.Exits.{exit_of_option}
 use Rattle.fedbundle.specs.CommandRun.{state_run}
 use Rattle.fedbundle.specs.Observe.{Fetched, IsAsHeld}
 use Rattle.local_answers.specs.Inside.AskedRun.{run_of_asked}

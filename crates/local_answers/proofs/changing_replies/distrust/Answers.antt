@@ -20,7 +20,7 @@ returns-clause-answers g c =
       output = with.output;
       is_errors = with.errors;
       status = with.status;
-      goes_on = with.goes_on;
+      continues = with.continues;
     }
 
 pub returns-clause-journals : goal.returns-clause-journals

@@ -1,7 +1,8 @@
 use Rattle.std.proofs.Common.{◌≡◌, ℕ, Some, ap, subst, sym}
 use Rattle.fed_config.specs.Configuration.{Configuration}
 use Rattle.replica_texts.specs.Snapshots.{IsSnapshot, RefusesSnapshot}
-use Rattle.fedbundle.specs.CommandRun.{DeviceRun, state_run}
+use Rattle.fedbundle.specs.CommandRun.{state_run}
+use Rattle.command_exits.specs.DeviceRuns.{DeviceRun}
 use Rattle.local_answers.specs.RequestRun.{EndsMerge, change_run}
 use Rattle.local_answers.proofs.ChangingFacts.{source_failed}
 use Rattle.local_answers.proofs.RequestFacts.{merge_journals, merge_taken, merge_unread, merge_untaken}
@@ -42,7 +43,7 @@ returns-in-Ok-merge-clause-answers g c =
       is_output = c.in_ok-reply.ensures.output;
       errors = c.in_ok-reply.ensures.errors;
       status = c.in_ok-reply.ensures.status;
-      goes_on = c.in_ok-reply.ensures.goes_on;
+      continues = c.in_ok-reply.ensures.continues;
     }
 
 pub returns-in-Ok-merge-clause-journals : goal.returns-in-Ok-merge-clause-journals

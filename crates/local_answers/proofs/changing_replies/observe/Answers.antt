@@ -1,6 +1,6 @@
 use Rattle.std.proofs.Common.{◌≡◌, Some, ap}
 use Rattle.replica_core.specs.declared.entry.Entry.TheVariants.{Receipt as AReceipt}
-use Rattle.fedbundle.specs.CommandRun.{DeviceRun}
+use Rattle.command_exits.specs.DeviceRuns.{DeviceRun}
 use Rattle.fedbundle.specs.Observe.{Fetched}
 use Rattle.local_answers.proofs.ChangingFacts.{observe_prevented}
 use Rattle.local_answers.proofs.RequestFacts.{entry_journals, observe_taken, observe_untaken}
@@ -31,7 +31,7 @@ returns-in-Ok-take_observed-clause-answers g c =
       is_output = c.in_ok-reply.ensures.output;
       errors = c.in_ok-reply.ensures.errors;
       status = c.in_ok-reply.ensures.status;
-      goes_on = c.in_ok-reply.ensures.goes_on;
+      continues = c.in_ok-reply.ensures.continues;
     }
 
 pub returns-in-Ok-take_observed-clause-journals : goal.returns-in-Ok-take_observed-clause-journals

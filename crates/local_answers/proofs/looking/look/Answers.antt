@@ -2,7 +2,7 @@ use Rattle.std.proofs.Common.{◌∙◌, ap, inl, inr, refl, subst, sym}
 use Rattle.std.proofs.lemmas.Result.{err_from_is_err_and}
 use Rattle.command_line.specs.OptionTexts.{SaysNoManner}
 use Rattle.fedbundle.specs.CommandRun.{state_run}
-use Rattle.fedbundle.specs.Exits.{exit_of_option}
+use Rattle.command_exits.specs.Exits.{exit_of_option}
 use Rattle.local_answers.specs.Inside.AskedRun.{run_of_asked}
 use Rattle.local_answers.specs.RequestRun.{CallRun, EndsAnyhow}
 use Rattle.local_answers.proofs.ChangingFacts.{flag_said}

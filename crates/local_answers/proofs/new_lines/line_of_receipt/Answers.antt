@@ -1,5 +1,5 @@
 use Rattle.std.proofs.Common.{rules, ◌∙◌, ap}
-use Rattle.receipt_core.proofs.ChainFacts.{not_told}
+use Rattle.receipt_core.proofs.ChainFacts.{not_stated}
 use Rattle.replica_core.specs.declared.entry.Entry.TheVariants.{Receipt as AReceipt}
 use Rattle.replica_texts.specs.Snapshots.{ended}
 use Rattle.local_answers.proofs.NewLineFacts.{line_held, line_new}
@@ -10,5 +10,5 @@ returns-then-holds g c = line_held _ (AReceipt c.args.receipt.now) _ c.config-co
 
 pub returns : goal.returns
 returns g c =
-    line_new _ (AReceipt c.args.receipt.now) c.in_ok-line.line.items c.domain-domain.ensures.form (not_told _ _ c.holds.ensures c.if-holds.false)
+    line_new _ (AReceipt c.args.receipt.now) c.in_ok-line.line.items c.domain-domain.ensures.form (not_stated _ _ c.holds.ensures c.if-holds.false)
     (c.in_ok-line.ensures ∙ ap ended c.in_ok-write_line.ensures)

@@ -1,5 +1,5 @@
 use Rattle.std.proofs.Common.{rules, ◌∙◌, ap}
-use Rattle.receipt_core.proofs.ChainFacts.{not_told}
+use Rattle.receipt_core.proofs.ChainFacts.{not_stated}
 use Rattle.replica_core.specs.declared.entry.Entry.TheVariants.{Record}
 use Rattle.replica_texts.specs.Snapshots.{ended}
 use Rattle.local_answers.proofs.NewLineFacts.{line_held, line_new}
@@ -13,5 +13,5 @@ pub returns : goal.returns
 returns g c =
     line_new _ (Record c.args.record.now) c.in_ok-line.line.items
     (record { domain = c.as_str-domain.ensures.valid; key = c.key_of-form.ensures })
-    (not_told _ _ c.is_distrusted.ensures c.if-is_distrusted.false)
+    (not_stated _ _ c.is_distrusted.ensures c.if-is_distrusted.false)
     (c.in_ok-line.ensures ∙ ap ended c.in_ok-write_line.ensures)

@@ -1,6 +1,6 @@
 use Rattle.std.proofs.Common.{rules, ◌∙◌, ap, subst, List}
 use Rattle.receipt_core.specs.Receipt.{Receipt}
-use Rattle.receipt_core.proofs.ChainFacts.{not_told}
+use Rattle.receipt_core.proofs.ChainFacts.{not_stated}
 use Rattle.replica_texts.specs.Snapshots.{ended}
 use Rattle.local_answers.specs.Inside.NewLineSteps.{SiftsReceipts}
 use Rattle.local_answers.proofs.NewLineFacts.{receipts_begin, receipt_held, receipt_new, receipts_end}
@@ -20,7 +20,7 @@ pub loop-receipt-preserved : goal.loop-receipt-preserved
 loop-receipt-preserved g c =
     receipt_new _ c.into_iter-receipt-iterator.result c.loop-receipt.receipt-iterator c.next.new.self c.in-Some.receipt.now c.loop-receipt.text.items
     (ended c.in_ok-write_line.field-0.items) c.push_line.new.text.items c.loop-receipt.receipts c.loop-receipt.invariant c.in-Some.ensures.steps
-    (not_told _ _ c.holds.ensures c.if-holds.false) (ap ended c.in_ok-write_line.ensures) c.in_ok-push_line.ensures
+    (not_stated _ _ c.holds.ensures c.if-holds.false) (ap ended c.in_ok-write_line.ensures) c.in_ok-push_line.ensures
 
 pub returns : goal.returns
 returns g c =

@@ -1,6 +1,6 @@
 use Rattle.std.proofs.Common.{rules, ◌∙◌, ap, subst, List}
 use Rattle.receipt_core.specs.declared.distrust.Distrust.{Distrust}
-use Rattle.receipt_core.proofs.ChainFacts.{not_told}
+use Rattle.receipt_core.proofs.ChainFacts.{not_stated}
 use Rattle.replica_texts.specs.Snapshots.{ended}
 use Rattle.local_answers.specs.Inside.NewLineSteps.{SiftsRecords}
 use Rattle.local_answers.proofs.NewLineFacts.{records_begin, record_held, record_new, records_end}
@@ -22,7 +22,7 @@ loop-domain-preserved g c =
     record_new _ c.into_iter-domain-iterator.result c.loop-domain.domain-iterator c.next.new.self
     (record { domain = c.in-Some.domain.now; key = c.in-Some.key.now }) c.loop-domain.text.items
     (ended c.in_ok-record_line.field-0.items) c.push_line.new.text.items c.loop-domain.invariant c.in-Some.ensures.steps
-    (not_told _ _ c.is_distrusted.ensures c.if-is_distrusted.false) (ap ended c.in_ok-record_line.ensures) c.in_ok-push_line.ensures
+    (not_stated _ _ c.is_distrusted.ensures c.if-is_distrusted.false) (ap ended c.in_ok-record_line.ensures) c.in_ok-push_line.ensures
 
 pub returns : goal.returns
 returns g c =

@@ -15,10 +15,10 @@ returns-in_err-of_streams-in-Ok-clause-ends g c =
 pub returns-in_ok-of_streams-in-Ok-clause-answers : goal.returns-in_ok-of_streams-in-Ok-clause-answers
 returns-in_ok-of_streams-in-Ok-clause-answers g c =
     let empty : c.new-output.result.writer.items ≡ [] = cc in
-    let silent : c.new-complaints.result.writer.items ≡ [] = cc in
+    let silent : c.new-line_errors.result.writer.items ≡ [] = cc in
     let source : c.new-source.result.reader.now ≡ c.args.asked.input.now = cc in
     let is : c.into_inner-text.result.items ≡ c.run_shown.new.sink.writer.items = cc in
-    let said : c.into_inner-beside.result.items ≡ c.run_shown.new.complaints.writer.items = cc in
+    let said : c.into_inner-with_it.result.items ≡ c.run_shown.new.line_errors.writer.items = cc in
     let run : CallRun = run_of_asked c.args.asked (state_run (g.C.Closure.state c.args.closure.now) (g.C.Closure.state c.args.closure.now)) in
     shown_done run _ _ _ _ _ _ (ap Some source) (ap Some empty) (ap Some (sym is)) (ap Some silent) (ap Some (sym said))
     (runs_at run _ _ _ _ (to_z-of_z w64 c.args.asked.running.now.moment (search rules)) c.in-Ok.ensures)
@@ -27,7 +27,7 @@ returns-in_ok-of_streams-in-Ok-clause-answers g c =
 pub returns-in-Err-clause-ends : goal.returns-in-Err-clause-ends
 returns-in-Err-clause-ends g c =
     let empty : c.new-output.result.writer.items ≡ [] = cc in
-    let silent : c.new-complaints.result.writer.items ≡ [] = cc in
+    let silent : c.new-line_errors.result.writer.items ≡ [] = cc in
     let source : c.new-source.result.reader.now ≡ c.args.asked.input.now = cc in
     let run : CallRun = run_of_asked c.args.asked (state_run (g.C.Closure.state c.args.closure.now) (g.C.Closure.state c.args.closure.now)) in
     shown_ended run _ _ _ _ c.over_memory.ensures (ap Some source) (ap Some empty) (ap Some silent)

@@ -7,7 +7,7 @@ use Rattle.migration.specs.declared.carrying.Choice.{Choice}
 use Rattle.migration.specs.declared.carrying.Choice.TheVariants.{All, RecordsOnly}
 use Rattle.migration.proofs.laws.one_migration.Goals as goal
 
--- Of equal sets the same receipts are chosen.
+-- The same receipts are chosen from equal sets.
 chosen_alike : (choice : Choice) (one other : Meaning) → ((r : Receipt) → (Contains one.held r ↔ Contains other.held r))
     → (r : Receipt) → (Contains (chosen_receipts choice one) r ↔ Contains (chosen_receipts choice other) r)
 chosen_alike All one other same r = same r

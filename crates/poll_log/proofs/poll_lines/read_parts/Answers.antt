@@ -7,7 +7,7 @@ use Rattle.poll_log.specs.Polling.{polled_domains}
 use Rattle.poll_log.specs.PollLines.{SaysNoPoll}
 use Rattle.poll_log.specs.Inside.PollSteps.{SaysFields}
 use Rattle.poll_log.specs.declared.poll_lines.PollFields.{PollFields}
-use Rattle.poll_log.proofs.PollLineFacts.{no_words, no_domain, no_outcome, no_seconds, tells_parts}
+use Rattle.poll_log.proofs.PollLineFacts.{no_words, no_domain, no_outcome, no_seconds, states_parts}
 use Rattle.poll_log.proofs.poll_lines.read_parts.Goals as goal
 
 pub returns-in_err-domain : goal.returns-in_err-domain
@@ -46,6 +46,6 @@ returns c =
     let own = to_z-of_z w64 c.in_ok-seconds.seconds c.in_ok-seconds.ensures.1 in
     subst (λ (z : ℤ). SaysFields (polled_domains c.args.log.now) c.args.text.now
     (record { place = c.in_ok-place.place; ok = c.in_ok-ok.ok; seconds = z })) (sym own)
-    (tells_parts (polled_domains c.args.log.now) c.args.text.now c.in_ok-domain.domain.now c.in_ok-domain.rest.now c.in_ok-ok.seconds.now
+    (states_parts (polled_domains c.args.log.now) c.args.text.now c.in_ok-domain.domain.now c.in_ok-domain.rest.now c.in_ok-ok.seconds.now
     (record { place = c.in_ok-place.place; ok = c.in_ok-ok.ok; seconds = c.in_ok-seconds.seconds })
     c.in_ok-domain.ensures c.in_ok-place.ensures.place c.in_ok-ok.ensures c.in_ok-seconds.ensures.0 c.in_ok-seconds.ensures.1)

@@ -1,13 +1,13 @@
 use Rattle.std.proofs.Common.{◌≡◌, ◌↔◌, ◌∙◌, sym, refl, subst, false, IsTrue}
 use Rattle.spiffe_name.specs.SpiffeId.{Id}
-use Rattle.receipt_core.proofs.ChainFacts.{told_no, not_told}
+use Rattle.receipt_core.proofs.ChainFacts.{stated_no, not_stated}
 use Rattle.receipt_core.proofs.FloorFacts.{floor_at}
-use Rattle.receipt_core.proofs.SearchFacts.{fits_told, misfit_told}
+use Rattle.receipt_core.proofs.SearchFacts.{fits_stated, misfit_stated}
 use Rattle.receipt_core.proofs.chain.fits.Goals as goal
 
 pub returns-then-is_same_id : goal.returns-then-is_same_id
 returns-then-is_same_id c =
-    fits_told c.args.config.now c.in-Some.relationship.now c.args.receipt.now c.reaches_floor.result
+    fits_stated c.args.config.now c.in-Some.relationship.now c.args.receipt.now c.reaches_floor.result
     c.in-Some.ensures.0 (c.in-Some.ensures.1 ∙ c.domain.ensures.domain)
     (c.is_same_id.ensures.0 c.if-is_same_id.true ∙ c.endpoint.ensures)
     (floor_at c.args.config.now c.domain-then-is_same_id.result.now c.args.receipt.now.domain c.document.result.now c.args.receipt.now.document
@@ -15,9 +15,9 @@ returns-then-is_same_id c =
 
 pub returns-else-is_same_id : goal.returns-else-is_same_id
 returns-else-is_same_id c =
-    told_no _ false refl (misfit_told c.args.config.now c.in-Some.relationship.now c.args.receipt.now c.domains.ensures.form
+    stated_no _ false refl (misfit_stated c.args.config.now c.in-Some.relationship.now c.args.receipt.now c.domains.ensures.form
     c.in-Some.ensures.0 (c.in-Some.ensures.1 ∙ c.domain.ensures.domain)
-    (λ same. not_told _ c.is_same_id.result c.is_same_id.ensures c.if-is_same_id.false (same ∙ sym c.endpoint.ensures)))
+    (λ same. not_stated _ c.is_same_id.result c.is_same_id.ensures c.if-is_same_id.false (same ∙ sym c.endpoint.ensures)))
 
 pub returns-in-None : goal.returns-in-None
-returns-in-None c = told_no _ false refl (λ f. c.in-None.ensures f.relationship f.has (f.domain ∙ sym c.domain.ensures.domain))
+returns-in-None c = stated_no _ false refl (λ f. c.in-None.ensures f.relationship f.has (f.domain ∙ sym c.domain.ensures.domain))

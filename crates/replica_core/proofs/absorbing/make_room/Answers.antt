@@ -1,7 +1,7 @@
 -- Room was asked for what is new.
 use Rattle.std.proofs.Common.{◌≡◌, List, subst, arith}
 use Rattle.receipt_core.specs.Receipt.{Receipt}
-use Rattle.replica_core.specs.Inside.Places.{CountsNew}
+use Rattle.replica_core.specs.Inside.FreePlaces.{CountsNew}
 use Rattle.replica_core.proofs.RoomFacts.{made-room, beyond-all, unmade-room}
 use Rattle.replica_core.proofs.absorbing.make_room.Goals as goal
 

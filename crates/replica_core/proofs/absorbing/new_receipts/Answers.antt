@@ -5,7 +5,7 @@ use Rattle.std.proofs.lemmas.Bool.{cases_lt}
 use Rattle.receipt_core.specs.Receipt.{Receipt, receipt_cmp, offers_of, pair_of}
 use Rattle.receipt_core.specs.Rising.{with_items}
 use Rattle.replica_core.specs.Inside.Earlier.{Front, passed}
-use Rattle.replica_core.specs.Inside.Places.{CountsNew}
+use Rattle.replica_core.specs.Inside.FreePlaces.{CountsNew}
 use Rattle.replica_core.proofs.EarlierFacts.{front-next}
 use Rattle.replica_core.proofs.PlaceFacts.{refuted}
 use Rattle.replica_core.proofs.RoomFacts.{counted-as, counted-held, counted-new, counted-over}

@@ -1,6 +1,6 @@
 use Rattle.std.proofs.Common.{refl, sym, subst}
 use Rattle.closure_core.specs.AcceptedList.{IsAcceptedList}
-use Rattle.receipt_core.proofs.ChainFacts.{not_told, told_no}
+use Rattle.receipt_core.proofs.ChainFacts.{not_stated, stated_no}
 use Rattle.reseeding.proofs.DoubtFacts.{IsOther, found_here, found_none, passed_by, rivals, rivals_back}
 use Rattle.reseeding.proofs.doubt.has_rival.Goals as goal
 
@@ -17,11 +17,11 @@ returns-then-is_rival g c = (
 pub loop-other-preserved : goal.loop-other-preserved
 loop-other-preserved g c =
     passed_by (IsOther c.args.document.now) c.into_iter-other-iterator.result c.loop-other.other-iterator _
-    c.in-Some.other.now c.in-Some.ensures.steps (not_told _ _ c.is_rival.ensures c.if-is_rival.false) c.loop-other.invariant
+    c.in-Some.other.now c.in-Some.ensures.steps (not_stated _ _ c.is_rival.ensures c.if-is_rival.false) c.loop-other.invariant
 
 pub returns : goal.returns
 returns g c =
-    told_no _ _ refl (λ has.
+    stated_no _ _ refl (λ has.
     found_none (IsOther c.args.document.now) c.into_iter-other-iterator.result c.loop-other.other-iterator
     c.in-None.ensures.steps.0 c.loop-other.invariant
     (rivals_back (g.C.Closure.state c.args.closure.now).meaning c.args.domain.now c.args.document.now

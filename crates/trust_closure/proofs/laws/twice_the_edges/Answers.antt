@@ -1,4 +1,4 @@
--- What is followed again was taken back, and all labels together are a set that goes on along edges.
+-- What is followed again was taken back; all labels together are a set that continues along edges.
 use Rattle.std.proofs.Common.{◌+◌, ◌*◌, ◌≤◌, ℕ, Bool, true, List, length, refl, arith}
 use Rattle.std.proofs.lemmas.List.Sums.{count_by-le-length}
 use Rattle.receipt_core.specs.declared.distrust.Distrust.{Distrust}
@@ -9,7 +9,8 @@ use Rattle.trust_closure.specs.Inside.Indexed.{Indexed}
 use Rattle.trust_closure.specs.Work.{ClosesAtOnce}
 use Rattle.trust_closure.proofs.laws.twice_the_edges.Goals as goal
 
--- The work is at most twice the edges at the labels of a set that has those that are closed and goes on along edges.
+-- The work is at most twice the edges at the labels of a set that has those that are closed and
+-- continues along edges.
 near : (old new : Indexed) (records : List Distrust) (close : ClosesAtOnce old records new) (reach : ℕ → Bool)
     → HasReachOf old.wired.net close.closing reach → new.work ≤ 2 * edges_at old.wired.net reach
 near old new records close reach h =
@@ -23,7 +24,7 @@ twice old new records is =
     let all : ℕ → Bool = λ label. true in
     omega (
       arith,
-      near old new records is all (record { has = λ label c o. refl; goes_on = λ here node there i j h w o. refl }),
+      near old new records is all (record { has = λ label c o. refl; continues = λ here node there i j h w o. refl }),
       count_by-le-length (λ (e : Edge). true) old.wired.net.offers,
       count_by-le-length (λ (e : Edge). true) old.wired.net.waits,
     )

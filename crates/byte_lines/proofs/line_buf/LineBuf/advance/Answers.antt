@@ -2,7 +2,7 @@ use Rattle.std.proofs.Common.{length, arith, sym, ap, subst, List, ℕ, if◌the
 use Rattle.std.proofs.lemmas.Result.{err_from_is_err_and}
 use Rattle.std.specs.Io.KnownBytes.{Keeps, prepend_known}
 use Rattle.std.proofs.KnownBytes.{Keeps-trans}
-use Rattle.byte_lines.specs.Inside.Ahead.{ahead_of}
+use Rattle.byte_lines.specs.Ahead.{ahead_of}
 use Rattle.byte_lines.specs.Streams.{stream_of, left_of}
 use Rattle.byte_lines.proofs.StreamFacts.{prepend_known-front}
 use Rattle.byte_lines.proofs.StepFacts.{spent_on, TakesFound-io, TakesFound-memory, length_line, taken_line, kept_none}

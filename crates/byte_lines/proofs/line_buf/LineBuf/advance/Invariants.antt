@@ -2,7 +2,7 @@
 use Rattle.std.proofs.Common.{◌≡◌, ◌+◌, ◌<◌, ◌≤◌, length, [], false}
 use Rattle.std.specs.Io.KnownBytes.{Keeps}
 use Rattle.byte_lines.specs.Lines.{HasNoFeed}
-use Rattle.byte_lines.specs.Inside.Ahead.{ahead_of, chunk_room}
+use Rattle.byte_lines.specs.Ahead.{ahead_of, chunk_room}
 use Rattle.byte_lines.specs.Streams.{kept, stream_of, left_of}
 use Rattle.byte_lines.proofs.line_buf.LineBuf.advance.Given as goal
 

@@ -1,5 +1,5 @@
 use Rattle.std.proofs.Common.{◌≡◌, ◌<◌, ◌-◌, length, arith, subst, unwrap_or, List, ℕ}
-use Rattle.byte_lines.specs.Inside.Ahead.{ahead_of}
+use Rattle.byte_lines.specs.Ahead.{ahead_of}
 use Rattle.byte_lines.proofs.StepFacts.{too_much}
 use Rattle.byte_lines.proofs.line_buf.LineBuf.gather.Goals as goal
 

@@ -3,7 +3,7 @@
 use Rattle.std.proofs.Common.{◌≡◌, ◌+◌, ◌<◌, ◌≤◌, length, []}
 use Rattle.std.specs.Io.KnownBytes.{prepend_known}
 use Rattle.byte_lines.specs.Lines.{HasNoFeed}
-use Rattle.byte_lines.specs.Inside.Ahead.{ahead_of, chunk_room}
+use Rattle.byte_lines.specs.Ahead.{ahead_of, chunk_room}
 use Rattle.byte_lines.proofs.StreamFacts.{Went}
 use Rattle.byte_lines.proofs.read_ahead.ReadAhead.skip_line.Given as goal
 

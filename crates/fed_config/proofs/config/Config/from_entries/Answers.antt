@@ -83,7 +83,7 @@ returns-then-not-have_profile c =
     c.as_slice-5.ensures.value c.as_slice-6.ensures.value c.in_ok-floors.ensures.1)
     c.in_ok-urls.urls.items
     (zip_at_slice SaysUrl c.as_slice-7.result.now c.args.entries.now.relationships.items c.in_ok-urls.urls.items
-    c.as_slice-7.ensures.value c.in_ok-urls.ensures) (λ h. let told =
+    c.as_slice-7.ensures.value c.in_ok-urls.ensures) (λ h. let stated =
     c.if-not-have_profile.ensures.1 (each_at_slice (λ t. IsProfile t.profile) c.as_slice-8.result.now
     c.args.entries.now.relationships.items c.as_slice-8.ensures.value h) in cc)
 
@@ -103,7 +103,7 @@ returns-then-not-are_single c =
     (subst (AllByRecursion (λ t. IsProfile t.profile)) c.as_slice-8.ensures.value
     (c.if-not-have_profile.ensures.0 refl)) c.in_ok-relationships.relationships.items c.in_ok-relationships.ensures
     c.sort_relationships.new.relationships.items c.sort_relationships.ensures.permutation
-    c.sort_relationships.ensures.sorted (λ h. let told =
+    c.sort_relationships.ensures.sorted (λ h. let stated =
     c.if-not-are_single.ensures.1 (subst (IsStrictlySortedBy relationship_cmp) (sym c.as_slice-9.ensures.value) h) in
     cc)
 
@@ -155,7 +155,7 @@ returns-then-not-reach_floors c =
     (zip_at_slice (λ e b. SaysSeedDocument (seed_text e) b) c.as_slice-10.result.now c.args.entries.now.seeds.items
     c.in_ok-documents.documents.items c.as_slice-10.ensures.value c.in_ok-documents.ensures)
     c.in_ok-seeds.seeds.items c.in_ok-seeds.ensures
-    c.values.ensures.one (λ h. let told = c.if-not-reach_floors.ensures.1 (low_slices c.args.entries.now.floors.items c.as_slice-11.result.now
+    c.values.ensures.one (λ h. let stated = c.if-not-reach_floors.ensures.1 (low_slices c.args.entries.now.floors.items c.as_slice-11.result.now
     c.in_ok-seeds.seeds.items c.as_slice-12.result.now
     (c.as_slice-11.ensures.value ∙ c.in_ok-floors.ensures.0 ∙ c.as_slice-5.ensures.value) c.as_slice-12.ensures.value h) in cc)
 
@@ -182,7 +182,7 @@ returns-then-not-are_few c =
     c.in_ok-seeds.seeds.items c.in_ok-seeds.ensures
     (reach_slices c.args.entries.now.floors.items c.as_slice-11.result.now c.in_ok-seeds.seeds.items c.as_slice-12.result.now
     (c.as_slice-11.ensures.value ∙ c.in_ok-floors.ensures.0 ∙ c.as_slice-5.ensures.value) c.as_slice-12.ensures.value
-    (c.if-not-reach_floors.ensures.0 refl)) (λ h. let told =
+    (c.if-not-reach_floors.ensures.0 refl)) (λ h. let stated =
     c.if-not-are_few.ensures.1 (
       h.relationships,
       subst (λ n. n ≤ 4096) (map_length seed_text c.args.entries.now.seeds.items) h.seeds,

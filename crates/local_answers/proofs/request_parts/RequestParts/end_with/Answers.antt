@@ -1,5 +1,5 @@
 use Rattle.std.proofs.Common.{rules, ◌≡◌, ◌+◌, ◌++◌, length, subst, arith}
-use Rattle.byte_lines.specs.Inside.Ahead.{IsFeed}
+use Rattle.byte_lines.specs.Ahead.{IsFeed}
 use Rattle.local_answers.proofs.PartFacts.{feed_comes, feed_stays}
 use Rattle.local_answers.proofs.request_parts.RequestParts.end_with.Goals as goal
 

@@ -1,5 +1,5 @@
 use Rattle.std.proofs.Common.{rules, sym, subst, length}
-use Rattle.byte_lines.specs.Inside.Ahead.{IsFeed}
+use Rattle.byte_lines.specs.Ahead.{IsFeed}
 use Rattle.local_answers.specs.RequestLimits.{IsWithinWith}
 use Rattle.local_answers.proofs.request_parts.RequestParts.whole.Goals as goal
 

@@ -7,7 +7,7 @@ use Rattle.closure_core.specs.Inside.Nodes.{pairs_of}
 use Rattle.closure_parts.specs.Pairs.{raised_of}
 use Rattle.closure_core.specs.AcceptedList.{IsAcceptedList}
 use Rattle.closure_parts.proofs.AcceptedFacts.{accepted-list}
-use Rattle.plain_closure.proofs.PlainFacts.{plain-tells}
+use Rattle.plain_closure.proofs.PlainFacts.{plain-reports}
 use Rattle.plain_closure.proofs.closure.PlainClosureClosure.accepted.Goals as goal
 
 pub returns : goal.returns
@@ -22,5 +22,5 @@ returns c =
     subst (λ v. IsAcceptedList v.meaning c.args.domain.now c.accepted.result) c.self.view_is
     (subst (IsAcceptedList _ c.args.domain.now) (sym is)
     (accepted-list _ (pairs_of h.config.seeds h.arrived) p c.args.domain.now
-    (plain-tells h p c.self.inside.seed_offers.items c.self.inside.released.items c.self.invariant.settled)
+    (plain-reports h p c.self.inside.seed_offers.items c.self.inside.released.items c.self.invariant.settled)
     c.self.invariant.settled.set.pairing.rising))

@@ -2,7 +2,7 @@ use Rattle.std.proofs.Common.{◌∙◌, ap, sym}
 use Rattle.std.specs.Cmp.{tied_itself}
 use Rattle.receipt_core.specs.Receipt.{distrust_cmp}
 use Rattle.receipt_core.specs.Order.{distrust_total}
-use Rattle.receipt_core.proofs.OrderFacts.{tells_same}
+use Rattle.receipt_core.proofs.OrderFacts.{states_same}
 use Rattle.receipt_core.proofs.LineFacts.{one_distrust}
 use Rattle.receipt_core.proofs.distrust.DistrustPartialEq.eq.Goals as goal
 
@@ -10,6 +10,6 @@ pub returns-clause-meaning : goal.returns-clause-meaning
 returns-clause-meaning c =
     let x = c.args.self.now in
     let y = c.args.other.now in
-    tells_same x y c.cmp.result c.eq.result c.eq.ensures
+    states_same x y c.cmp.result c.eq.result c.eq.ensures
     (λ e. one_distrust x y (sym c.cmp.ensures ∙ e))
     (λ same. c.cmp.ensures ∙ ap (distrust_cmp x) (sym same) ∙ tied_itself distrust_total x)

@@ -4,7 +4,7 @@ use Rattle.std.specs.Ordering.{is_eq}
 use Rattle.std.proofs.lemmas.Cmp.{is_eq_index}
 use Rattle.receipt_core.specs.Receipt.{receipt_cmp}
 use Rattle.receipt_core.specs.Order.{receipt_total}
-use Rattle.receipt_core.proofs.OrderFacts.{tells_same}
+use Rattle.receipt_core.proofs.OrderFacts.{states_same}
 use Rattle.receipt_core.proofs.LineFacts.{receipt_order, one_receipt}
 use Rattle.receipt_core.proofs.receipt.ReceiptPartialEq.eq.Goals as goal
 
@@ -18,6 +18,6 @@ returns-clause-meaning c =
     let r = c.args.self.now in
     let s = c.args.other.now in
     let order = receipt_order r s c.cmp_parts.ensures.left c.cmp_parts.ensures.right in
-    tells_same r s c.cmp_parts.result c.eq.result c.eq.ensures
+    states_same r s c.cmp_parts.result c.eq.result c.eq.ensures
     (λ e. one_receipt r s c.cmp_parts.ensures.left c.cmp_parts.ensures.right (order ∙ sym c.cmp_parts.ensures.order ∙ e))
     (λ same. c.cmp_parts.ensures.order ∙ sym order ∙ ap (receipt_cmp r) (sym same) ∙ tied_itself receipt_total r)

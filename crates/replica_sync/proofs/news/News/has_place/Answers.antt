@@ -4,7 +4,7 @@ use Rattle.std.specs.List.{AllByRecursion}
 use Rattle.fed_config.specs.Configuration.{Configuration, HasDomain}
 use Rattle.receipt_core.specs.declared.distrust.Distrust.{Distrust}
 use Rattle.receipt_core.specs.Receipt.{distrust_cmp}
-use Rattle.replica_core.proofs.JudgeFacts.{known}
+use Rattle.replica_core.proofs.UnwelcomeFacts.{known}
 use Rattle.replica_sync.proofs.news.News.has_place.Goals as goal
 
 pub returns : goal.returns

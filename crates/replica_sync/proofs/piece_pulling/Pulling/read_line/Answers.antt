@@ -15,7 +15,7 @@ use Rattle.replica_sync.proofs.piece_pulling.Pulling.read_line.Goals as goal
 abbrev quiet_at : List ℕ → Meaning → PulledPiece
 quiet_at bytes m = record { bytes = bytes; old = m; new = m }
 
--- where a machine is
+-- the state of a machine
 abbrev state_at : Meaning → Pulling → PullState
 state_at m p = record { held = m; lines = p.lines; asked = p.plan; kept = kept_answer p }
 

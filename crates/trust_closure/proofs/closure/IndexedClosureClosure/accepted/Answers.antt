@@ -5,7 +5,7 @@ use Rattle.closure_core.specs.Inside.Nodes.{pairs_of}
 use Rattle.closure_parts.specs.Pairs.{raised_of}
 use Rattle.closure_core.specs.AcceptedList.{IsAcceptedList}
 use Rattle.closure_parts.proofs.AcceptedFacts.{accepted-list}
-use Rattle.trust_closure.proofs.IndexFacts.{tells}
+use Rattle.trust_closure.proofs.IndexFacts.{reports}
 use Rattle.trust_closure.proofs.closure.IndexedClosureClosure.accepted.Goals as goal
 
 pub returns : goal.returns
@@ -20,4 +20,4 @@ returns c =
     subst (λ v. IsAcceptedList v.state.meaning c.args.domain.now c.accepted.result) c.self.view_is
     (subst (IsAcceptedList (meaning_of h) c.args.domain.now) (sym list)
     (accepted-list (meaning_of h) (pairs_of h.config.seeds h.arrived) p c.args.domain.now
-    (tells h p c.self.inside.label_index i.built i.counts) i.built.pairing.rising))
+    (reports h p c.self.inside.label_index i.built i.counts) i.built.pairing.rising))

@@ -11,7 +11,7 @@ use Rattle.wait_index.proofs.CloseFacts.{IsSettled-shut, reached-before, Follows
 use Rattle.wait_index.proofs.CloseFacts.{ClosesIn-shut, ClosesIn-open}
 use Rattle.wait_index.proofs.FollowFacts.{Follows-visits, Follows-nodes}
 use Rattle.wait_index.proofs.ListingFacts.{holds-from_contains, listed-once}
-use Rattle.wait_index.proofs.FallenListFacts.{ListsFallen-none, TellsFallen-listed}
+use Rattle.wait_index.proofs.FallenListFacts.{ListsFallen-none, ReportsFallen-listed}
 use Rattle.wait_index.proofs.TouchFacts.{TouchesAll-same, TouchesAll-shut, TouchesAll-untouched}
 use Rattle.wait_index.proofs.marks.Marks.close.Goals as goal
 
@@ -173,7 +173,7 @@ returns-then-is_empty-clause-fallen c =
     ap (λ (t : Tally). is_marked_in t n) c.touch_all.ensures.touched.same
     ∙ marked-from_reached (net_of g) (tally_of s) c.requires.settled s.touched.listed g.shaped.labels n r))
     in
-    TellsFallen-listed (net_of g) (tally_of s) c.requires.settled s.touched.listed g.shaped.labels g.shaped.once
+    ReportsFallen-listed (net_of g) (tally_of s) c.requires.settled s.touched.listed g.shaped.labels g.shaped.once
     c.args.labels.now now f c.begin.new.self.fallen.items listed c.begin.new.self.kept now.marked
     (take_all c.begin.new.self.kept now.marked
     (omega (
@@ -198,7 +198,7 @@ returns-clause-fallen c =
     let f = HasFallen-listed (net_of g) (tally_of s) c.requires.settled s.touched.listed g.shaped.labels
     c.args.labels.now (tally_of c.touch_all.new.self) now c.touch_all.ensures.touched
     c.touch_all.new.self.touched.listed c.take_back.ensures.fallen in
-    TellsFallen-listed (net_of g) (tally_of s) c.requires.settled s.touched.listed g.shaped.labels g.shaped.once
+    ReportsFallen-listed (net_of g) (tally_of s) c.requires.settled s.touched.listed g.shaped.labels g.shaped.once
     c.args.labels.now now f c.take_back.new.last.fallen.items c.take_back.ensures.listed c.len-last.result
     set.items.items
     (ap (λ k. take k set.items.items) kept ∙ c.follow_again.ensures.front)

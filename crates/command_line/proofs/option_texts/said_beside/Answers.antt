@@ -1,8 +1,0 @@
-use Rattle.std.proofs.Common.{sym, ◌∙◌, drop, option_map}
-use Rattle.command_line.proofs.OptionTextFacts.{nothing_beside}
-use Rattle.command_line.proofs.option_texts.said_beside.Goals as goal
-
-pub returns-in_default : goal.returns-in_default
-returns-in_default c =
-    sym (c.options.invariant ∙ nothing_beside (option_map (λ t. t.now)) (drop c.options.option-index c.args.options.now)
-    c.options.rest.now c.args.wanted c.in_default.len_below)

@@ -1,8 +1,0 @@
-use Rattle.std.proofs.Common.{◌≡◌, [], take}
-use Rattle.replica_core.specs.Inside.Playing.{CanHold}
-use Rattle.replica_core.proofs.gathering.offer_receipts.Given as goal
-
-abbrev pub invariant-loop-receipt : goal.invariant-loop-receipt
-invariant-loop-receipt g l =
-    (g.C.Closure.state l.initial.closure).meaning.held ≡ [] → CanHold (g.C.Closure.state l.initial.closure).meaning.config l.receipts
-    → (g.C.Closure.state l.closure).meaning ≡ record (g.C.Closure.state l.initial.closure).meaning { held = take l.receipt-index l.receipts }
