@@ -24,6 +24,7 @@ from building import built_program, stop
 from receipts import DOMAIN, ENDPOINT, config_text, lines
 
 LEAST_EVERY = 1
+SECONDS = 120
 IDLE_SESSIONS = 20
 
 
@@ -76,12 +77,16 @@ def free_address():
 
 def start(program, folder, name, *words):
     begun = time.perf_counter()
+    # A replica waits for whoever reads its events, so they go to a file.
+    events = folder / f"{name}.events"
     process = subprocess.Popen(
         [program, "replica", "--config", folder / "config", "--state", folder / name, "--socket", folder / f"{name}.socket",
-         "--new", *words], stdout=subprocess.PIPE, stderr=subprocess.PIPE)
+         "--new", *words], stdout=subprocess.PIPE, stderr=events.open("wb"))
     if not process.stdout.readline().startswith(b"ready "):
-        stop("the replica does not begin: " + process.stderr.read().decode())
-    return process, time.perf_counter() - begun
+        stop("the replica does not begin: " + events.read_text())
+    began = time.perf_counter() - begun
+    process.events = events.open("rb")
+    return process, began
 
 
 def memory(process, what):
@@ -132,9 +137,16 @@ def observed_a_second(held, path, clients, each):
 
 def next_pull(replica):
     """The line that reports the next session."""
-    for line in replica.stderr:
-        if line.startswith(b"event=pull"):
+    line = b""
+    for _ in range(SECONDS * 1_000):
+        part = replica.events.readline()
+        line += part
+        if not line.endswith(b"\n"):
+            time.sleep(0.001)
+        elif line.startswith(b"event=pull"):
             return line.decode().strip()
+        else:
+            line = b""
     stop("no session is reported")
 
 
