@@ -52,6 +52,10 @@ pub(crate) fn say_config(
 ) -> Result<bool, AllocError> {
     match read_file(rt, path) {
         Ok(bytes) => say_config_of(rt, option, path, bytes.as_slice()),
+        // That file may be missing.
+        Err(error) if option == OptionName::Previous && error.kind() == io::ErrorKind::NotFound => {
+            Ok(false)
+        }
         Err(error) => {
             say_unread(rt, option.text(), path, &error)?;
             Ok(true)
@@ -260,10 +264,37 @@ pub(crate) fn say_state(
     if is_refused_so(rt, &config, state, error) {
         return say_refused_state(rt, &config, state, error);
     }
-    match given(call, OptionName::With) {
-        Some(with) => say_refused_state(rt, &config, with, error),
-        None => say_refused_stream(rt, &config, error),
+    match (
+        given(call, OptionName::With),
+        given(call, OptionName::Previous),
+    ) {
+        (Some(with), _) => say_refused_state(rt, &config, with, error),
+        (None, Some(previous)) => say_changed_state(rt, call, previous, error),
+        (None, None) => say_refused_stream(rt, &config, error),
     }
+}
+
+// The state is one of the configuration that is changed from, and refused; or it is not, and the
+// file next to it is.
+fn say_changed_state(
+    rt: &HostRuntime,
+    call: &Call<'_>,
+    previous: &str,
+    error: &CommandError,
+) -> Result<(), AllocError> {
+    let Ok(config) = options::config(rt, rt.alloc(), previous) else {
+        return Ok(());
+    };
+    let path = state_path(call);
+    if is_refused_so(rt, &config, path, error) {
+        return say_refused_state(rt, &config, path, error);
+    }
+    let state = shown(rt.alloc(), path)?;
+    say(
+        rt,
+        format!(in rt.alloc(); "{state}.previous is refused")?.as_str(),
+    );
+    Ok(())
 }
 
 fn is_refused_so(rt: &HostRuntime, config: &Config, path: &str, error: &CommandError) -> bool {

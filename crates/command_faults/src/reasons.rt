@@ -263,7 +263,12 @@ fn say_refusal(rt: &HostRuntime, call: &Call<'_>, error: &CommandError) -> Resul
 // Each configuration that the arguments name and that is refused, and whether there is one.
 fn say_configs(rt: &HostRuntime, call: &Call<'_>) -> Result<bool, AllocError> {
     let mut has_said = false;
-    let options = [OptionName::Config, OptionName::To, OptionName::With];
+    let options = [
+        OptionName::Config,
+        OptionName::Previous,
+        OptionName::To,
+        OptionName::With,
+    ];
     'options: for option in options {
         let is_state = option == OptionName::With && call.name != CommandName::Config;
         if let Some(path) = given(call, option)

@@ -34,6 +34,7 @@ use Rattle.command_line.specs.declared.command_name.OptionName.TheVariants.{Publ
 use Rattle.command_line.specs.declared.command_name.OptionName.TheVariants.{OptionalNow, Health}
 use Rattle.command_line.specs.declared.command_name.OptionName.TheVariants.{ExpiresWithin, Audit}
 use Rattle.command_line.specs.declared.command_name.OptionName.TheVariants.{PeerQuiet, Floors}
+use Rattle.command_line.specs.declared.command_name.OptionName.TheVariants.{Previous}
 
 abbrev pub option_text : OptionName → List ℕ
 option_text Config = codes "config"
@@ -77,6 +78,7 @@ option_text PeerQuiet = codes "peer-quiet"
 option_text Polls = codes "polls"
 option_text Health = codes "health"
 option_text Audit = codes "audit"
+option_text Previous = codes "previous"
 
 -- it has no text after it
 abbrev pub is_flag : OptionName → Bool
@@ -115,6 +117,7 @@ may_be_left_out PeerQuiet = true
 may_be_left_out Polls = true
 may_be_left_out Health = true
 may_be_left_out Audit = true
+may_be_left_out Previous = true
 may_be_left_out option = false
 
 -- it names a file that a running replica has itself, or it is the format of a command that no such
@@ -172,8 +175,8 @@ options_of command.Distrust = Config ∷ State ∷ Domain ∷ OptionalKey ∷ Pu
     ∷ Wait ∷ Verbose ∷ At ∷ []
 options_of command.Serve = Config ∷ State ∷ Listen ∷ Sessions ∷ Verbose ∷ []
 options_of command.Pull = Config ∷ State ∷ Peer ∷ Wait ∷ MostBytes ∷ Verbose ∷ []
-options_of command.Replica = Config ∷ State ∷ Socket ∷ ReadSocket ∷ OptionalListen ∷ Health
-    ∷ Audit ∷ ListenAnywhere ∷ Peers ∷ Every ∷ PeerQuiet ∷ ExpiresWithin ∷ MostBytes
+options_of command.Replica = Config ∷ Previous ∷ State ∷ Socket ∷ ReadSocket ∷ OptionalListen
+    ∷ Health ∷ Audit ∷ ListenAnywhere ∷ Peers ∷ Every ∷ PeerQuiet ∷ ExpiresWithin ∷ MostBytes
     ∷ MostRequestBytes ∷ New ∷ Verbose ∷ []
 options_of command.Stop = Wait ∷ Verbose ∷ At ∷ []
 

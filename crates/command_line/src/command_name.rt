@@ -55,6 +55,8 @@ pub enum OptionName {
     Polls,
     Health,
     Audit,
+    /// The configuration that a replica changes from.
+    Previous,
 }
 
 /// A subcommand.
@@ -173,6 +175,7 @@ impl OptionName {
             OptionName::Polls => "polls",
             OptionName::Health => "health",
             OptionName::Audit => "audit",
+            OptionName::Previous => "previous",
         }
     }
 
@@ -222,6 +225,7 @@ impl OptionName {
                 | OptionName::Polls
                 | OptionName::Health
                 | OptionName::Audit
+                | OptionName::Previous
         )
     }
 
@@ -419,8 +423,9 @@ static PULL: [OptionName; 6] = [
     OptionName::Verbose,
 ];
 
-static REPLICA: [OptionName; 16] = [
+static REPLICA: [OptionName; 17] = [
     OptionName::Config,
+    OptionName::Previous,
     OptionName::State,
     OptionName::Socket,
     OptionName::ReadSocket,

@@ -4,7 +4,7 @@ use crate::command_name::{CommandName, OptionName};
 /// What `--version` prints: the version on a line of its own; then the kit with which it is proved
 /// and built, and the formats: the numbers are those in the first lines that are written.
 pub const VERSION: &str = "\
-0.8.0
+0.9.0
 kit rattle-kit-13f logic dac8208d650f15bf
 state format 2, and 1 is read
 journal format 2
@@ -366,6 +366,12 @@ for Prometheus, /status.json, /report.json, /keys.json, /graph.dot and / for peo
 can be changed there. A certificate is warned of --expires-within before its end, and a peer
 that was quiet for --peer-quiet.
 
+With --previous it changes from that configuration to the one of --config. A state of the
+previous one is carried over at the start, as by `migrate`; what it held remains in
+FILE.previous until the first start without --previous. Each replica is answered under the
+configuration that it names, and is asked under the previous one if it does not answer
+under the new one. What comes under one of them is taken under the other if it fits.
+
 Each change is appended to FILE.journal and put on the disk before it is acknowledged. The
 journal is folded into the state file at the start, and when it has more than 8,388,608
 bytes and more than half of those of the state file. A missing state is refused: `new`
@@ -432,6 +438,7 @@ impl OptionName {
             OptionName::Polls => "FILE",
             OptionName::Health => "ADDRESS",
             OptionName::Audit => "PATH",
+            OptionName::Previous => "FILE",
         }
     }
 
@@ -503,6 +510,8 @@ impl OptionName {
                 "The path of a file to which a line of JSON is appended for each change",
             OptionName::Health =>
                 "The address of health, metrics and a page: an IP address and a port",
+            OptionName::Previous =>
+                "The configuration to change from; a missing file counts as if it was not named",
         }
     }
 }
@@ -650,8 +659,8 @@ impl CommandName {
                 [--wait <SECONDS>] [--most-bytes <BYTES>] [--verbose]"
             }
             CommandName::Replica => {
-                "fedbundle replica --config <FILE> --state <FILE> --socket <PATH> \
-                [--read-socket <PATH>] [--listen <ADDRESS>] [--health <ADDRESS>] \
+                "fedbundle replica --config <FILE> [--previous <FILE>] --state <FILE> \
+                --socket <PATH> [--read-socket <PATH>] [--listen <ADDRESS>] [--health <ADDRESS>] \
                 [--audit <PATH>] [--listen-anywhere] [--peers <ADDRESS,..>] [--every <SECONDS>] \
                 [--peer-quiet <SECONDS>] [--expires-within <DAYS>] \
                 [--most-bytes <BYTES>] [--most-request-bytes <BYTES>] [--new] [--verbose]"

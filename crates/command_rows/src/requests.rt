@@ -156,6 +156,7 @@ fn reply_of<C: Closure>(
         peers: &[],
         began: 0,
         moment: 0,
+        previous: None,
     };
     match answer_request(running.alloc, closure, &status, line.as_bytes(), input) {
         Ok(reply) => Ok(reply),

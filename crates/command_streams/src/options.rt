@@ -22,6 +22,18 @@ pub fn config<R: Files>(files: &R, alloc: Global, path: &str) -> Result<Config, 
     read_config(alloc, &mut file(files, path)?)
 }
 
+/// The configuration in the file, or `None` if there is no such file.
+pub fn config_there<R: Files>(
+    files: &R,
+    alloc: Global,
+    path: &str,
+) -> Result<Option<Config>, CommandError> {
+    match fs::metadata(files, path) {
+        Err(error) if error.kind() == io::ErrorKind::NotFound => Ok(None),
+        _ => Ok(Some(config(files, alloc, path)?)),
+    }
+}
+
 /// The address of an IP address and a port. At port 0 the system chooses the port.
 pub fn address(text: &str) -> Result<SocketAddr, Exit> {
     text.parse::<SocketAddr>().map_err(|_| Exit::BadAddress)

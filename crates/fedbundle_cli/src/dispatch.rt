@@ -43,7 +43,7 @@ fn carry_out(rt: &HostRuntime, call: &Call<'_>) -> Result<u8, Exit> {
         return ask_at(rt, call, path, manner.wait_seconds);
     }
     match call.name {
-        CommandName::Replica => replica_settings::run(rt, &config_of(rt, call)?, call),
+        CommandName::Replica => replica_settings::run(rt, config_of(rt, call)?, call),
         _ => carry_out_here(rt, call),
     }
 }
@@ -62,6 +62,7 @@ fn ask_at(rt: &HostRuntime, call: &Call<'_>, path: &str, seconds: u64) -> Result
 fn empty_path(call: &Call<'_>) -> Option<OptionName> {
     let paths = [
         OptionName::Config,
+        OptionName::Previous,
         OptionName::State,
         OptionName::To,
         OptionName::With,

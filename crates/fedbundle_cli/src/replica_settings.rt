@@ -9,6 +9,7 @@ use fed_config::Config;
 use local_answers::PageLimits;
 use progress_line::ProgressMode;
 use replica_loop::{Settings, run_replica};
+use state_files::GivenConfigs;
 use std::alloc::Global;
 use std::net::SocketAddr;
 use std::time::Duration;
@@ -36,14 +37,28 @@ const MAX_PEER_QUIET: u64 = 31_536_000;
 const MOST_PEERS: usize = 16;
 
 /// Runs the replica until it is asked to end.
-pub(crate) fn run(rt: &HostRuntime, config: &Config, call: &Call<'_>) -> Result<u8, Exit> {
+pub(crate) fn run(rt: &HostRuntime, config: Config, call: &Call<'_>) -> Result<u8, Exit> {
+    let configs = configs_of(rt, config, call)?;
     let peers = peers_of(rt.alloc(), given(call, OptionName::Peers))?;
     let settings = settings_of(call, peers.as_slice(), progress_mode(rt))?;
     for address in [settings.listen, settings.health].into_iter().flatten() {
         warn_of_anywhere(rt, address);
     }
-    run_replica(rt, config, &settings)?;
+    run_replica(rt, &configs, &settings)?;
     Ok(0)
+}
+
+// The configuration that is changed from is left out if its file is missing, or if it is the same.
+fn configs_of(rt: &HostRuntime, next: Config, call: &Call<'_>) -> Result<GivenConfigs, Exit> {
+    let previous = match given(call, OptionName::Previous) {
+        Some(path) => options::config_there(rt, rt.alloc(), path)?,
+        None => None,
+    };
+    let digest = next.digest();
+    Ok(GivenConfigs {
+        next,
+        previous: previous.filter(|config| config.digest() != digest),
+    })
 }
 
 fn settings_of<'a, 'p>(

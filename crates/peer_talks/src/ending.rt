@@ -14,16 +14,16 @@ pub enum Ending {
     TooManyBytes,
     /// It made room for a later one.
     GaveWay,
-    /// The other side ended it at the question about sums, which it may not know: the session
-    /// continues without them, on another connection.
-    WithoutSums,
+    /// The other side ended it without an answer. It may not know sums, or the configuration: it is
+    /// asked in another way, on another connection.
+    Unanswered,
 }
 
 impl Ending {
     /// Why it failed, if it did.
     pub fn fault(self) -> Option<PeerFault> {
         match self {
-            Ending::Well | Ending::WithoutSums => None,
+            Ending::Well | Ending::Unanswered => None,
             Ending::Fault(why) => Some(PeerFault::Session(why)),
             Ending::TooManyBytes => Some(PeerFault::TooManyBytes),
             Ending::GaveWay => Some(PeerFault::Session(SyncError::Io)),

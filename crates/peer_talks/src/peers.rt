@@ -1,7 +1,8 @@
 //! The replicas from which this one pulls, when, and how a session with each begins.
 use crate::ending::Ending;
-use crate::session_start::{PeerAnswer, SessionStart};
-use status_view::PeerStatus;
+use crate::session_start::{AskedWay, PeerAnswer, SessionStart};
+use side_by_side::Side;
+use status_view::{AskedConfig, PeerStatus};
 use std::alloc::{AllocError, Global};
 use std::net::SocketAddr;
 use std::time::{Duration, Instant};
@@ -17,6 +18,8 @@ pub struct Peers {
     // What is said of each, in the same order.
     statuses: Vec<PeerStatus>,
     every: Duration,
+    // Whether a peer may be asked under a previous configuration.
+    has_previous: bool,
 }
 
 // A peer, and its next session.
@@ -27,19 +30,11 @@ struct PeerPlace {
     // Whether the last session failed: then others that are due are asked before.
     has_failed: bool,
     due: Instant,
-    sums: SumsAtPeer,
-}
-
-// What is known of a peer and sums.
-#[derive(Clone, Copy)]
-enum SumsAtPeer {
-    // It is asked for them.
-    Asked,
-    // It ended the last connection at the question about sums. It may also be a peer that ends each
-    // connection.
-    Refused,
-    // After that it answered a have, so until then it is not asked for sums.
-    UnknownUntil(Instant),
+    // How it is asked next, if it did not answer in another way; `None` if it is asked in the first
+    // way.
+    way: Option<AskedWay>,
+    // Until when it is not asked for sums: it did not answer that, and then answered a have.
+    without_sums_until: Option<Instant>,
 }
 
 /// A session that is due.
@@ -48,13 +43,18 @@ pub struct DueSession {
     /// Which of the peers it is with.
     pub number: usize,
     pub address: SocketAddr,
-    pub start: SessionStart,
+    /// How the peer is asked.
+    pub way: AskedWay,
+    /// Whether it is asked in another way if it does not answer.
+    pub has_other_way: bool,
 }
 
 /// What came of a session.
 #[derive(Clone, Copy, Debug)]
 pub struct SessionEnd {
     pub ending: Ending,
+    /// Under which configuration the peer was asked.
+    pub side: Side,
     /// What the peer answered.
     pub answer: PeerAnswer,
     /// How many receipts came that were not held.
@@ -62,6 +62,7 @@ pub struct SessionEnd {
 }
 
 impl Peers {
+    /// The peers, which are asked under one configuration.
     pub fn new(
         alloc: Global,
         peers: &[SocketAddr],
@@ -76,20 +77,28 @@ impl Peers {
                 is_asked: false,
                 has_failed: false,
                 due: now,
-                sums: SumsAtPeer::Asked,
+                way: None,
+                without_sums_until: None,
             })?;
             statuses.push(PeerStatus {
                 address: format!(in alloc; "{peer}")?,
                 ended_well: None,
                 fault: None,
                 receipts: 0,
+                asked: None,
             })?;
         }
         Ok(Peers {
             places,
             statuses,
             every,
+            has_previous: false,
         })
+    }
+
+    /// From now on a peer that does not answer is also asked under the previous configuration.
+    pub fn ask_under_previous(&mut self) {
+        self.has_previous = true;
     }
 
     /// What is said of each peer, in the order of the arguments.
@@ -111,13 +120,17 @@ impl Peers {
             Some(number) => number,
             None => self.due_place(now, true)?,
         };
+        let has_previous = self.has_previous;
         let place = self.places.get_mut(number)?;
+        let way = place.next_way(now);
         place.is_asked = true;
         place.due = now.checked_add(self.every).unwrap_or(now);
+        place.way = Some(way);
         Some(DueSession {
             number,
             address: place.address,
-            start: place.sums.start(now),
+            way,
+            has_other_way: way.after(has_previous).is_some(),
         })
     }
 
@@ -127,14 +140,18 @@ impl Peers {
             && place.due <= now)
     }
 
-    /// The peer of this number ended the connection at the question about sums: the session
-    /// continues immediately, on another connection and without them.
-    pub fn begin_without_sums(&mut self, number: usize, now: Instant) {
+    /// The peer of this number ended the connection without an answer: it is asked immediately in
+    /// the way that comes next, on another connection.
+    pub fn ask_otherwise(&mut self, number: usize, now: Instant) {
+        let has_previous = self.has_previous;
         if let Some(place) = self.places.get_mut(number) {
             place.is_asked = false;
             place.has_failed = false;
             place.due = now;
-            place.sums = SumsAtPeer::Refused;
+            place.way = match place.way {
+                Some(way) => way.after(has_previous),
+                None => None,
+            };
         }
     }
 
@@ -150,10 +167,14 @@ impl Peers {
         if let Some(place) = self.places.get_mut(number) {
             place.is_asked = false;
             place.has_failed = fault.is_some();
-            place.sums = place.sums.after(session.answer, now);
+            place.note_answer(session.answer, now);
+            place.way = None;
         }
         if let Some(peer) = self.statuses.get_mut(number) {
             peer.receipts = peer.receipts.saturating_add(session.receipts);
+            if session.answer == PeerAnswer::Came {
+                peer.asked = Some(asked_config(session.side));
+            }
             match fault {
                 Some(fault) => peer.fault = Some(fault),
                 None => peer.ended_well = unix_seconds,
@@ -162,26 +183,35 @@ impl Peers {
     }
 }
 
-impl SumsAtPeer {
-    // How a session that begins now begins.
-    fn start(self, now: Instant) -> SessionStart {
-        match self {
-            SumsAtPeer::Asked => SessionStart::Sums,
-            SumsAtPeer::Refused => SessionStart::Haves,
-            SumsAtPeer::UnknownUntil(moment) if now < moment => SessionStart::Haves,
-            SumsAtPeer::UnknownUntil(_) => SessionStart::Sums,
+impl PeerPlace {
+    // How it is asked in a session that begins now.
+    fn next_way(&self, now: Instant) -> AskedWay {
+        match (self.way, self.without_sums_until) {
+            (Some(way), _) => way,
+            (None, Some(moment)) if now < moment => AskedWay::first(SessionStart::Haves),
+            (None, _) => AskedWay::first(SessionStart::Sums),
         }
     }
 
-    // What is known after a session. A peer that answered nothing at all is asked for sums again.
-    fn after(self, answer: PeerAnswer, now: Instant) -> SumsAtPeer {
-        match (self, answer) {
-            (SumsAtPeer::Refused, PeerAnswer::Came) => {
-                let time = Duration::from_secs(SECONDS_WITHOUT_SUMS);
-                SumsAtPeer::UnknownUntil(now.checked_add(time).unwrap_or(now))
-            }
-            (SumsAtPeer::UnknownUntil(moment), _) if now < moment => self,
-            _ => SumsAtPeer::Asked,
+    // Notes whether it may know sums. A peer that answered nothing at all is asked for sums again.
+    fn note_answer(&mut self, answer: PeerAnswer, now: Instant) {
+        let is_known = self.without_sums_until.is_some_and(|moment| now < moment);
+        let asked_haves = self.way.is_some_and(|way| way.start == SessionStart::Haves);
+        if is_known {
+            return;
         }
+        self.without_sums_until = if asked_haves && answer == PeerAnswer::Came {
+            let time = Duration::from_secs(SECONDS_WITHOUT_SUMS);
+            Some(now.checked_add(time).unwrap_or(now))
+        } else {
+            None
+        };
+    }
+}
+
+fn asked_config(side: Side) -> AskedConfig {
+    match side {
+        Side::Next => AskedConfig::Next,
+        Side::Previous => AskedConfig::Previous,
     }
 }

@@ -2,12 +2,13 @@
 use crate::ending::Ending;
 use crate::held_state::HeldState;
 use crate::peers::DueSession;
-use crate::session_start::{PeerAnswer, SessionStart};
+use crate::session_start::{AskedWay, PeerAnswer, SessionStart};
 use crate::unread_bytes::UnreadBytes;
-use bucket_sums::QuietPulling;
+use bucket_sums::{KeptSums, QuietPulling};
 use change_view::{HeldChange, JournalledChange, NewEntries, count_entries, last_line_digest};
 use closure_core::Closure;
 use replica_sync::SyncError;
+use side_by_side::Side;
 use std::alloc::{AllocError, Global};
 use std::net::SocketAddr;
 
@@ -17,6 +18,10 @@ pub struct PullTalk {
     // Which of the peers it is.
     number: usize,
     peer: SocketAddr,
+    // Under which configuration it is asked.
+    side: Side,
+    // Whether it can be asked in another way if it does not answer.
+    has_other_way: bool,
     // How many records came that were not held.
     records: u64,
     pulling: QuietPulling,
@@ -39,8 +44,10 @@ impl PullTalk {
         Ok(PullTalk {
             number: due.number,
             peer: due.address,
+            side: due.way.side,
+            has_other_way: due.has_other_way,
             records: 0,
-            pulling: begin(alloc, held, due.start)?,
+            pulling: begin(alloc, held, due.way)?,
             answer: PeerAnswer::Nothing,
             rest: UnreadBytes::new(alloc),
             bytes_left: most_bytes,
@@ -93,10 +100,10 @@ impl PullTalk {
         held: &mut HeldState<C>,
     ) -> Result<(), SyncError> {
         let before = held.fresh.len();
-        let piece = self.rest.left();
-        let read = self
-            .pulling
-            .read_lines(alloc, &mut held.closure, piece, &mut held.fresh);
+        let read = match self.side {
+            Side::Next => self.take_next(alloc, held),
+            Side::Previous => self.take_previous(alloc, held),
+        };
         let came = &held.fresh[before.min(held.fresh.len())..];
         if !came.is_empty() {
             let new = count_entries(came);
@@ -111,10 +118,36 @@ impl PullTalk {
         Ok(())
     }
 
+    fn take_next<C: Closure>(
+        &mut self,
+        alloc: Global,
+        held: &mut HeldState<C>,
+    ) -> Result<usize, SyncError> {
+        let closure = &mut held.sides.next;
+        self.pulling
+            .read_lines(alloc, closure, self.rest.left(), &mut held.fresh)
+    }
+
+    // What the previous side takes is offered to the next one, also after an error.
+    fn take_previous<C: Closure>(
+        &mut self,
+        alloc: Global,
+        held: &mut HeldState<C>,
+    ) -> Result<usize, SyncError> {
+        let mut lines = Vec::new(alloc);
+        let Some(closure) = &mut held.sides.previous else {
+            return Err(SyncError::ConfigDiffers);
+        };
+        let piece = self.rest.left();
+        let read = self.pulling.read_lines(alloc, closure, piece, &mut lines);
+        held.pass_back(alloc, lines.as_slice())?;
+        read
+    }
+
     /// The other side sends nothing more.
     pub fn end_input(&self) -> Result<(), Ending> {
         if self.is_unanswered() {
-            return Err(Ending::WithoutSums);
+            return Err(Ending::Unanswered);
         }
         self.pulling.end()?;
         Ok(())
@@ -123,15 +156,15 @@ impl PullTalk {
     /// How the session ends if its connection fails.
     pub fn broken(&self) -> Ending {
         if self.is_unanswered() {
-            Ending::WithoutSums
+            Ending::Unanswered
         } else {
             Ending::Fault(SyncError::Io)
         }
     }
 
-    // Whether sums are asked for, and nothing came.
+    // Whether nothing came, and the peer can be asked in another way.
     fn is_unanswered(&self) -> bool {
-        self.answer == PeerAnswer::Nothing && self.pulling.is_unanswered()
+        self.answer == PeerAnswer::Nothing && self.has_other_way
     }
 
     /// What the other side answered.
@@ -161,6 +194,11 @@ impl PullTalk {
         self.number
     }
 
+    /// Under which configuration it is asked.
+    pub fn side(&self) -> Side {
+        self.side
+    }
+
     /// How many receipts came that were not held.
     pub fn taken(&self) -> u64 {
         self.pulling.taken()
@@ -172,15 +210,30 @@ impl PullTalk {
     }
 }
 
-// The machine of a session that begins so.
+// The machine of a session that asks in this way.
 fn begin<C: Closure>(
     alloc: Global,
     held: &mut HeldState<C>,
+    way: AskedWay,
+) -> Result<QuietPulling, SyncError> {
+    match (way.side, &held.sides.previous) {
+        (Side::Next, _) => begin_on(alloc, &held.sides.next, &mut held.sums, way.start),
+        (Side::Previous, Some(closure)) => {
+            begin_on(alloc, closure, &mut held.previous_sums, way.start)
+        }
+        (Side::Previous, None) => Err(SyncError::ConfigDiffers),
+    }
+}
+
+fn begin_on<C: Closure>(
+    alloc: Global,
+    closure: &C,
+    sums: &mut KeptSums,
     start: SessionStart,
 ) -> Result<QuietPulling, SyncError> {
     match start {
-        SessionStart::Sums => QuietPulling::new(alloc, &held.closure, &mut held.sums),
-        SessionStart::Haves => QuietPulling::without_sums(alloc, &held.closure),
+        SessionStart::Sums => QuietPulling::new(alloc, closure, sums),
+        SessionStart::Haves => QuietPulling::without_sums(alloc, closure),
     }
 }
 

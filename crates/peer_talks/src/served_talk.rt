@@ -1,15 +1,20 @@
 //! A connection on which another replica asks.
 use crate::ending::Ending;
 use crate::held_state::HeldState;
+use crate::named_config::{is_head_short, named_config};
 use crate::unread_bytes::UnreadBytes;
 use bucket_sums::QuietServing;
 use closure_core::Closure;
+use replica_sync::SyncError;
+use side_by_side::Side;
 use std::alloc::{AllocError, Global};
 
 /// A connection on which another replica asks, and is answered.
 #[derive(Drop)]
 pub struct ServedTalk {
     serving: QuietServing,
+    // Under which configuration it is answered, once its first bytes have named one.
+    side: Option<Side>,
     rest: UnreadBytes,
     // Whether the other side has sent all that it will.
     has_ended: bool,
@@ -19,6 +24,7 @@ impl ServedTalk {
     pub fn new(alloc: Global) -> ServedTalk {
         ServedTalk {
             serving: QuietServing::new(alloc),
+            side: None,
             rest: UnreadBytes::new(alloc),
             has_ended: false,
         }
@@ -27,17 +33,23 @@ impl ServedTalk {
     /// Whether there is room for bytes that come: an answer is written before the next question is
     /// looked at.
     pub fn wants_bytes(&self) -> bool {
-        !self.has_ended && self.rest.is_empty() && self.output().is_empty()
+        !self.has_ended && self.output().is_empty() && (self.rest.is_empty() || self.awaits_side())
     }
 
     /// Whether bytes that came can be taken.
     pub fn has_work(&self) -> bool {
-        !self.rest.is_empty() && self.output().is_empty()
+        let waits = self.awaits_side() && !self.has_ended;
+        !self.rest.is_empty() && !waits && self.output().is_empty()
+    }
+
+    // Whether its first bytes have to come.
+    fn awaits_side(&self) -> bool {
+        self.side.is_none() && is_head_short(self.rest.left())
     }
 
     /// Keeps bytes that came.
     pub fn take(&mut self, piece: &[u8]) -> Result<(), AllocError> {
-        self.rest.keep(piece)
+        self.rest.add(piece)
     }
 
     /// Takes what is left of the bytes that came, up to the end of the sums or of a have.
@@ -47,11 +59,29 @@ impl ServedTalk {
         held: &mut HeldState<C>,
     ) -> Result<(), Ending> {
         let piece = self.rest.left();
-        let used = self
-            .serving
-            .read(alloc, &held.closure, &mut held.sums, piece)?;
+        let side = match self.side {
+            Some(side) => side,
+            None => side_named(held, piece),
+        };
+        self.side = Some(side);
+        let used = match (side, &held.sides.previous) {
+            (Side::Next, _) => {
+                let sums = &mut held.sums;
+                self.serving.read(alloc, &held.sides.next, sums, piece)?
+            }
+            (Side::Previous, Some(closure)) => {
+                let sums = &mut held.previous_sums;
+                self.serving.read(alloc, closure, sums, piece)?
+            }
+            (Side::Previous, None) => return Err(Ending::Fault(SyncError::ConfigDiffers)),
+        };
         self.rest.took(used);
         Ok(())
+    }
+
+    /// Under which configuration it is answered, if something was read of it.
+    pub fn side(&self) -> Option<Side> {
+        self.side
     }
 
     pub fn end_input(&mut self) {
@@ -76,5 +106,14 @@ impl ServedTalk {
             Ok(()) => Some(Ending::Well),
             Err(why) => Some(Ending::Fault(why)),
         }
+    }
+}
+
+// The side whose configuration is named. A question that names none of both is refused by the next
+// one.
+fn side_named<C: Closure>(held: &HeldState<C>, head: &[u8]) -> Side {
+    match named_config(head) {
+        Some(digest) => held.sides.side_of(digest).unwrap_or(Side::Next),
+        None => Side::Next,
     }
 }

@@ -32,6 +32,14 @@ impl UnreadBytes {
         self.bytes.extend_from_slice(bytes)
     }
 
+    /// Keeps the bytes behind what is left.
+    pub(crate) fn add(&mut self, bytes: &[u8]) -> Result<(), AllocError> {
+        if self.is_empty() {
+            return self.keep(bytes);
+        }
+        self.bytes.extend_from_slice(bytes)
+    }
+
     /// This many of the bytes that are left were taken.
     pub(crate) fn took(&mut self, count: usize) {
         self.used = self.used.saturating_add(count);

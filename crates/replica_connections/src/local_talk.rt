@@ -141,7 +141,7 @@ impl LocalTalk {
             self.refuse(alloc, RequestFault::TooManyRequests);
             return;
         }
-        let coming = self.coming(alloc, &held.closure);
+        let coming = self.coming(alloc, &held.sides.next);
         match self.carry_out(alloc, held, around) {
             Ok(reply) => {
                 self.note(alloc, held, coming, &reply);
@@ -171,7 +171,7 @@ impl LocalTalk {
         let Some(coming) = coming else {
             return;
         };
-        match coming.made(alloc, &held.closure, reply.journal.as_slice()) {
+        match coming.made(alloc, &held.sides.next, reply.journal.as_slice()) {
             Ok(change) => self.change = change,
             Err(_) => held.has_unreported = true,
         }
@@ -203,8 +203,8 @@ impl LocalTalk {
         let request = self.parts.whole()?;
         let (running, words, input) = (&around.pages.running, request.words, request.input);
         match self.rights {
-            Rights::Change => answer_request(alloc, &mut held.closure, running, words, input),
-            Rights::Look => answer_look(alloc, &held.closure, running, words, input),
+            Rights::Change => answer_request(alloc, &mut held.sides.next, running, words, input),
+            Rights::Look => answer_look(alloc, &held.sides.next, running, words, input),
         }
     }
 

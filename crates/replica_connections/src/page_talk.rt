@@ -113,7 +113,10 @@ impl PageTalk {
             return fault_response(alloc, PageFault::BadHead, false);
         };
         match verdict.asked {
-            Ok(asked) => answer_page(alloc, &held.closure, &around.pages, &asked, verdict.is_head),
+            Ok(asked) => {
+                let closure = &held.sides.next;
+                answer_page(alloc, closure, &around.pages, &asked, verdict.is_head)
+            }
             Err(fault) => fault_response(alloc, fault, verdict.is_head),
         }
     }

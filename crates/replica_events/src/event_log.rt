@@ -3,6 +3,7 @@
 use change_view::{HeldChange, NewEntries, push_event};
 use peer_talks::Ending;
 use replica_sync::SyncError;
+use side_by_side::Offered;
 use state_files::LostFile;
 use status_view::{PeerFault, fault_code};
 use std::alloc::Global;
@@ -33,6 +34,8 @@ pub enum LogEvent {
     Fold(u64),
     /// The snapshot could not be written.
     FoldFault(SyncError),
+    /// The state was carried over to the configuration. This came of its lines.
+    CarryOver(Offered),
     /// The journal could not be written.
     Journal(SyncError),
     /// A file of the state was removed or replaced.
@@ -128,6 +131,18 @@ impl Display for LogEvent {
             LogEvent::Poll => f.write_str("event=poll fault=S9"),
             LogEvent::Fold(bytes) => write!(f, "event=fold bytes={bytes}"),
             LogEvent::FoldFault(why) => write!(f, "event=fold fault={}", session_code(*why)),
+            LogEvent::CarryOver(lines) => {
+                let Offered {
+                    taken,
+                    unfit,
+                    no_place,
+                    ..
+                } = *lines;
+                write!(
+                    f,
+                    "event=carry-over taken={taken} unfit={unfit} no-place={no_place}"
+                )
+            }
             LogEvent::Journal(why) => write!(f, "event=journal fault={}", session_code(*why)),
             LogEvent::AuditCut(lines) => write!(f, "event=audit cut={lines}"),
             LogEvent::AuditFault(why) => write!(f, "event=audit fault={}", session_code(*why)),

@@ -163,13 +163,13 @@ impl KeptFiles {
             if held.fresh.is_empty() && !table.has_changes() {
                 return Ok(());
             }
-            return Ok(self.begin_again(rt, alloc, &held.closure, path)?);
+            return Ok(self.begin_again(rt, alloc, &held.sides.next, path)?);
         }
         match self.append(rt, held.fresh.as_slice(), table, path) {
             Ok(()) => Ok(()),
             Err(AppendFault::File(fault)) => Err(KeepFault::State(fault)),
             Err(AppendFault::Lost(lost)) => {
-                self.mend(rt, alloc, &held.closure, path, lost)?;
+                self.mend(rt, alloc, &held.sides.next, path, lost)?;
                 Ok(())
             }
         }

@@ -4,13 +4,13 @@ use crate::settings::Settings;
 use crate::turn::{RunningReplica, turn};
 use closure_core::Closure;
 use command_exits::{CommandError, Exit, Step};
-use fed_config::Config;
 use mio::Events;
 use peer_talks::HeldState;
 use replica_events::{LogEvent, log_event};
 use replica_sockets::file_at_step;
 use state_files::{
-    FoundFiles, StateBeginning, StateLock, has_journal, is_marked, state_bytes, try_lock_state,
+    BegunSides, FoundFiles, GivenConfigs, StateBeginning, StateLock, has_journal, is_marked,
+    remove_previous, settle_previous, state_bytes, try_lock_state,
 };
 use std::alloc::Global;
 use std::fs::{File, Files};
@@ -30,6 +30,9 @@ const MOST_EVENTS: usize = 256;
 ///
 /// A change is on the disk before it is acknowledged. So the process may be killed at any time.
 ///
+/// If a previous configuration is given, a state of that one is carried over at the beginning, and
+/// what other replicas hold under it is taken and passed on until this replica ends.
+///
 /// # Errors
 /// - [`Exit::Locked`]: another command has the lock of the state,
 /// - [`Exit::ReplicaRuns`]: another replica has it,
@@ -42,14 +45,22 @@ const MOST_EVENTS: usize = 256;
 /// - [`Exit::Refused`]: the state is refused, `ready` could not be printed, or memory ran out.
 pub fn run_replica<R: Runtime<File = File, A = Global> + Net>(
     rt: &R,
-    config: &Config,
+    configs: &GivenConfigs,
     settings: &Settings<'_, '_>,
 ) -> Result<(), Exit> {
     let alloc = rt.alloc();
     let lock = lock(rt, alloc, settings.state)?;
+    let settled = settle_previous::<ExchangeClosure, R>(rt, alloc, configs, settings.state);
+    file_at_step(Step::Save, settled)?;
     let mut beginning = find(rt, alloc, settings)?;
-    let closure: ExchangeClosure = load(rt, alloc, config, &mut beginning, settings.state)?;
-    let mut held = HeldState::new(alloc, closure);
+    let begun: BegunSides<ExchangeClosure> = load(
+        rt,
+        alloc,
+        configs,
+        &mut beginning,
+        settings.state,
+    )?;
+    let mut held = HeldState::new(alloc, begun.sides, begun.fresh);
     run_held(rt, alloc, &mut held, lock, beginning, settings)
 }
 
@@ -93,18 +104,21 @@ fn find<R: Files<File = File>>(
 fn load<C: Closure, R: Files<File = File> + Clock + Eprint>(
     rt: &R,
     alloc: Global,
-    config: &Config,
+    configs: &GivenConfigs,
     beginning: &mut StateBeginning,
     path: &str,
-) -> Result<C, Exit> {
-    let closure: C = beginning.load(rt, alloc, config, path)?;
-    match beginning.save(rt, alloc, &closure, path) {
+) -> Result<BegunSides<C>, Exit> {
+    let begun: BegunSides<C> = beginning.load(rt, alloc, configs, path)?;
+    match beginning.save(rt, alloc, &begun, path) {
         Err(fault) if beginning.is_resumed() => {
             log_event(rt, alloc, LogEvent::FoldFault(fault.why));
         }
         saved => file_at_step(Step::Save, saved)?,
     }
-    Ok(closure)
+    if let Some(offered) = begun.carried {
+        log_event(rt, alloc, LogEvent::CarryOver(offered));
+    }
+    Ok(begun)
 }
 
 fn run_held<C: Closure, R: Files<File = File> + Net + Clock + Print + Eprint>(
@@ -115,10 +129,13 @@ fn run_held<C: Closure, R: Files<File = File> + Net + Clock + Print + Eprint>(
     beginning: StateBeginning,
     settings: &Settings<'_, '_>,
 ) -> Result<(), Exit> {
-    let mut running = RunningReplica::begin(rt, alloc, &held.closure, lock, beginning, settings)?;
+    let mut running = RunningReplica::begin(rt, alloc, &held.sides, lock, beginning, settings)?;
+    if held.sides.previous.is_none() {
+        file_at_step(Step::Save, remove_previous(rt, alloc, settings.state))?;
+    }
     let mut events = Events::with_capacity(alloc, MOST_EVENTS)?;
     say_health(rt, alloc, &running, settings);
-    print_ready(rt, alloc, &held.closure)?;
+    print_ready(rt, alloc, &held.sides.next)?;
     let ended = run_turns(rt, alloc, held, &mut running, &mut events, settings);
     running.print_all(rt, alloc);
     running.remove_sockets(rt, settings);

@@ -23,8 +23,9 @@ use replica_connections::{
 use replica_events::{EventCounts, LogEvent, log_event};
 use replica_sockets::{Arrival, Listeners, Rights, Socket, at_step, file_at_step};
 use replica_sync::SyncError;
+use side_by_side::{Side, Sides};
 use state_files::{AuditFile, StateBeginning, StateLock};
-use status_view::RunningStatus;
+use status_view::{PreviousStatus, RunningStatus};
 use std::alloc::Global;
 use std::fs::{File, Files};
 use std::io::{Eprint, ErrorKind};
@@ -59,6 +60,8 @@ pub(crate) struct RunningReplica {
     listeners: Listeners,
     table: ConnectionTable,
     peers: Peers,
+    // The configuration that is changed from, as `status` shows it.
+    previous: Option<PreviousStatus>,
     files: KeptFiles,
     events: EventCounts,
     now: Instant,
@@ -79,7 +82,7 @@ impl RunningReplica {
     pub(crate) fn begin<C: Closure, R: Files<File = File> + Net + Clock + Eprint>(
         rt: &R,
         alloc: Global,
-        closure: &C,
+        sides: &Sides<C>,
         lock: StateLock,
         beginning: StateBeginning,
         settings: &Settings<'_, '_>,
@@ -87,15 +90,21 @@ impl RunningReplica {
         let now = at_step(Step::Socket, Instant::now(rt))?;
         let listeners = Listeners::open(rt, &settings.places(), now)?;
         let began = unix_seconds(rt).unwrap_or(0);
-        let begun = beginning.begin_journal(rt, alloc, closure, settings.state);
+        let begun = beginning.begin_journal(rt, alloc, &sides.next, settings.state);
         let journal = file_at_step(Step::Journal, begun)?;
         // All that is held is on the disk by now, so a line that is left is of a change that is
         // kept.
-        let audit = begin_audit(rt, alloc, closure, settings.audit, began)?;
+        let audit = begin_audit(rt, alloc, sides, settings.audit, began)?;
+        let previous = previous_status(sides);
+        let mut peers = Peers::new(alloc, settings.peers, settings.every, now)?;
+        if previous.is_some() {
+            peers.ask_under_previous();
+        }
         Ok(RunningReplica {
             listeners,
             table: ConnectionTable::new(alloc, settings.most_request_bytes)?,
-            peers: Peers::new(alloc, settings.peers, settings.every, now)?,
+            peers,
+            previous,
             files: KeptFiles::new(lock, journal, audit, settings.progress),
             events: EventCounts::new(alloc),
             now,
@@ -285,6 +294,7 @@ impl RunningReplica {
     fn end_unbegun<R: Eprint>(&mut self, rt: &R, alloc: Global, due: DueSession, ending: Ending) {
         let session = SessionEnd {
             ending,
+            side: due.way.side,
             answer: PeerAnswer::Nothing,
             receipts: 0,
         };
@@ -346,7 +356,10 @@ impl RunningReplica {
         held: &mut HeldState<C>,
         work: Work,
     ) {
-        let running = running_status(rt, &self.files, &self.peers, self.began);
+        let running = RunningStatus {
+            previous: self.previous,
+            ..running_status(rt, &self.files, &self.peers, self.began)
+        };
         let counts = self.counts.all(&self.table, &self.files);
         let around = Surroundings {
             now: self.now,
@@ -372,7 +385,8 @@ impl RunningReplica {
         match self.files.keep(rt, alloc, held, &self.table, path, moment) {
             Ok(()) => {
                 log_changes(rt, alloc, &self.table);
-                held.settle();
+                pass_on_requests(alloc, held, &self.table);
+                held.settle(alloc);
                 self.table.settle();
                 Ok(())
             }
@@ -400,6 +414,7 @@ impl RunningReplica {
             if let Some(ending) = conn.ending {
                 let time = self.now.duration_since(conn.begun);
                 note_pull(rt, &mut self.peers, conn, ending, self.now);
+                note_previous(rt, &mut self.previous, conn);
                 self.counts.note_end(conn, ending);
                 if let Some(event) = event_of(conn, ending, time, is_verbose) {
                     self.events.note(rt, alloc, event, self.now);
@@ -464,10 +479,44 @@ fn running_status<'a, R: Clock>(
         peers: peers.statuses(),
         began,
         moment: i64::try_from(unix_seconds(rt).unwrap_or(0)).unwrap_or(0),
+        previous: None,
     }
 }
 
-// Counts what a session brought, or begins it again without sums.
+// What is shown of the configuration that is changed from, if there is one.
+fn previous_status<C: Closure>(sides: &Sides<C>) -> Option<PreviousStatus> {
+    let closure = sides.previous.as_ref()?;
+    Some(PreviousStatus {
+        config: closure.config().digest(),
+        used: None,
+    })
+}
+
+// What requests have changed, which is on the disk, is offered under the previous configuration.
+fn pass_on_requests<C: Closure>(alloc: Global, held: &mut HeldState<C>, table: &ConnectionTable) {
+    for conn in table.all() {
+        if let Talk::Local(talk) = &conn.talk {
+            held.pass_on(alloc, talk.journal());
+        }
+    }
+}
+
+// If something was said under the previous configuration on a connection that has ended, this is
+// the last time at which it was used.
+fn note_previous<R: Clock>(rt: &R, previous: &mut Option<PreviousStatus>, conn: &LiveConnection) {
+    let is_used = match &conn.talk {
+        Talk::Served(talk) => talk.side() == Some(Side::Previous) && conn.sent_bytes() > 0,
+        Talk::Pull(talk) => talk.side() == Side::Previous && talk.answer() == PeerAnswer::Came,
+        Talk::Local(_) | Talk::Page(_) => false,
+    };
+    if let Some(status) = previous
+        && is_used
+    {
+        status.used = unix_seconds(rt).or(status.used);
+    }
+}
+
+// Counts what a session brought, or asks the peer in another way.
 fn note_pull<R: Clock>(
     rt: &R,
     peers: &mut Peers,
@@ -478,11 +527,12 @@ fn note_pull<R: Clock>(
     let Talk::Pull(talk) = &conn.talk else {
         return;
     };
-    if ending == Ending::WithoutSums {
-        peers.begin_without_sums(talk.number(), now);
+    if ending == Ending::Unanswered {
+        peers.ask_otherwise(talk.number(), now);
     } else {
         let session = SessionEnd {
             ending,
+            side: talk.side(),
             answer: talk.answer(),
             receipts: talk.taken(),
         };
@@ -507,7 +557,7 @@ fn event_of(
     let is_said = is_verbose || ending != Ending::Well;
     match ending {
         Ending::GaveWay => return Some(LogEvent::Refuse),
-        Ending::WithoutSums => return None,
+        Ending::Unanswered => return None,
         Ending::Well | Ending::Fault(_) | Ending::TooManyBytes => {}
     }
     match &conn.talk {
@@ -531,14 +581,14 @@ fn new_of(talk: &PullTalk) -> NewEntries {
 fn begin_audit<C: Closure, R: Files<File = File> + Eprint>(
     rt: &R,
     alloc: Global,
-    closure: &C,
+    sides: &Sides<C>,
     path: Option<&str>,
     moment: u64,
 ) -> Result<Option<AuditFile>, Exit> {
     let Some(path) = path else {
         return Ok(None);
     };
-    let begun = AuditFile::begin(rt, alloc, closure, path, moment);
+    let begun = AuditFile::begin(rt, alloc, sides, path, moment);
     let (audit, cut) = file_at_step(Step::Audit, begun)?;
     if cut > 0 {
         log_event(rt, alloc, LogEvent::AuditCut(cut));
@@ -566,7 +616,7 @@ pub(crate) fn turn<C: Closure, R: Files<File = File> + Net + Clock + Eprint>(
     running.end_connections(rt, alloc, settings.is_verbose);
     running
         .files
-        .fold(rt, alloc, &held.closure, settings.state)?;
+        .fold(rt, alloc, &held.sides.next, settings.state)?;
     running.note_turn(rt);
     Ok(running.has_ended())
 }

@@ -58,7 +58,7 @@ impl TurnCounts {
                 ended.pages = ended.pages.saturating_add(1);
             }
             // The session continues on another connection.
-            Talk::Pull(_) if ending == Ending::WithoutSums => {}
+            Talk::Pull(_) if ending == Ending::Unanswered => {}
             Talk::Served(_) | Talk::Pull(_) => {
                 ended.sessions = ended.sessions.saturating_add(1);
             }

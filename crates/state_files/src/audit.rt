@@ -10,6 +10,7 @@ use closure_core::Closure;
 use command_exits::FileFault;
 use memchr::memrchr;
 use replica_core::SyncError;
+use side_by_side::Sides;
 use state_steps::{AppendStep, Appending, CutStep, Cutting, LastLine};
 use std::alloc::{AllocError, Global};
 use std::fs::{File, Files};
@@ -41,9 +42,9 @@ struct FoundLine {
 
 impl AuditFile {
     /// The audit file at the path, which is made if it is not there, and how many lines of it were
-    /// cut off. The last lines are cut off if their changes are not held: a kill came after they
-    /// were written, and before the journal's lines were. A line that says what is held is at its
-    /// end then, and all of it is on the disk.
+    /// cut off. The last lines are cut off if their changes are held under neither configuration: a
+    /// kill came after they were written, and before the journal's lines were. A line that says
+    /// what is held is at its end then, and all of it is on the disk.
     ///
     /// # Errors
     /// - [`SyncError::Io`]: the system refused a step, or something else than an audit file has the
@@ -52,17 +53,17 @@ impl AuditFile {
     pub fn begin<C: Closure, R: Files<File = File>>(
         files: &R,
         alloc: Global,
-        closure: &C,
+        sides: &Sides<C>,
         path: &str,
         moment: u64,
     ) -> Result<(AuditFile, u64), FileFault> {
         let file = open_audit(files, path)?;
-        let cut = cut_unheld(alloc, closure, &file)?;
+        let cut = cut_unheld(alloc, sides, &file)?;
         let mut audit = AuditFile {
             file,
             name: String::from_str(alloc, path)?,
         };
-        audit.append(files, start_text(alloc, closure, moment)?.as_slice())?;
+        audit.append(files, start_text(alloc, &sides.next, moment)?.as_slice())?;
         sync_folder(files, path)?;
         Ok((audit, cut))
     }
@@ -134,7 +135,7 @@ fn start_text<C: Closure>(alloc: Global, closure: &C, moment: u64) -> Result<Vec
 }
 
 // Cuts off the last lines whose changes are not held, in the order of `Cutting`. Returns how many.
-fn cut_unheld<C: Closure>(alloc: Global, closure: &C, file: &File) -> Result<u64, FileFault> {
+fn cut_unheld<C: Closure>(alloc: Global, sides: &Sides<C>, file: &File) -> Result<u64, FileFault> {
     let mut cutting = Cutting::begin();
     // How many bytes are before the lines that were read and are cut off.
     let mut bytes = file.metadata()?.len();
@@ -142,7 +143,7 @@ fn cut_unheld<C: Closure>(alloc: Global, closure: &C, file: &File) -> Result<u64
         match cutting.next() {
             Some(CutStep::ReadLine) => {
                 let line = last_line(alloc, file, bytes)?;
-                let read = read_line(alloc, closure, line.as_ref())?;
+                let read = read_line(alloc, sides, line.as_ref())?;
                 if let Some(line) = &line
                     && read == LastLine::Unheld
                 {
@@ -172,7 +173,7 @@ fn cut_unheld<C: Closure>(alloc: Global, closure: &C, file: &File) -> Result<u64
 // cut of power may have left it.
 fn read_line<C: Closure>(
     alloc: Global,
-    closure: &C,
+    sides: &Sides<C>,
     line: Option<&FoundLine>,
 ) -> Result<LastLine, AllocError> {
     let Some(line) = line else {
@@ -188,10 +189,22 @@ fn read_line<C: Closure>(
     }
     Ok(match read_audit_line(bytes) {
         Some(AuditLine::Start) => LastLine::Held,
-        Some(AuditLine::Change(last)) if holds_line(alloc, closure, &last)? => LastLine::Held,
+        Some(AuditLine::Change(last)) if is_held(alloc, sides, &last)? => LastLine::Held,
         Some(AuditLine::Change(_)) => LastLine::Unheld,
         None => LastLine::Foreign,
     })
+}
+
+// Whether one side holds the line of this digest.
+fn is_held<C: Closure>(
+    alloc: Global,
+    sides: &Sides<C>,
+    last: &[u8; 32],
+) -> Result<bool, AllocError> {
+    match &sides.previous {
+        Some(closure) if holds_line(alloc, closure, last)? => Ok(true),
+        _ => holds_line(alloc, &sides.next, last),
+    }
 }
 
 // Whether a kill or a cut of power may have left this of a line.

@@ -1,12 +1,12 @@
 //! What a replica that keeps running does first with its files.
+use crate::begun_sides::{BegunSides, GivenConfigs, load_sides};
+use crate::carry_over::carry_over;
 use crate::journal::Journal;
-use crate::load::load_state;
 use crate::made_files::MadeFiles;
 use crate::resume::resume_journal;
 use crate::state::{SeenState, see_state};
 use closure_core::Closure;
 use command_exits::{CommandError, FileFault};
-use fed_config::Config;
 use progress_line::ProgressMode;
 use replica_core::SyncError;
 use state_steps::{BeginStep, Beginning, FileStep, FoldEnd, FoundFiles};
@@ -21,9 +21,16 @@ const SAVE_STEPS: u32 = 5;
 /// How many steps it takes to begin the journal.
 const JOURNAL_STEPS: u32 = 2;
 
+/// The files that a carry-over leaves.
+const CARRIED_FILES: FoundFiles = FoundFiles {
+    has_state: true,
+    has_journal: false,
+};
+
 /// The beginning of a replica on its files: they are loaded, saved if that is due, and an empty
 /// journal is begun, in this order. [`Beginning`] says which step comes next; a call for which
-/// another one is due does nothing but fail.
+/// another one is due does nothing but fail. A state of the previous configuration is carried over
+/// in the place of the save.
 #[derive(Drop)]
 pub struct StateBeginning {
     beginning: Beginning,
@@ -60,21 +67,25 @@ impl StateBeginning {
         }
     }
 
-    /// What the state file and its journal hold.
+    /// What the state file and its journal hold, under each configuration. Each side was offered
+    /// all that the other holds. The state is one of the next configuration or, if there is
+    /// one, of the previous one. What the other one held is in the file that a carry-over left.
     ///
     /// # Errors
-    /// Those of [`load_state`].
+    /// - Those of [`load_state`](crate::load_state): if the state is of neither configuration, the
+    ///   one of the next one,
+    /// - [`CommandError::Sync`]: the file of the other configuration is refused.
     pub fn load<C: Closure, R: Files + Clock + Eprint>(
         &mut self,
         files: &R,
         alloc: Global,
-        config: &Config,
+        configs: &GivenConfigs,
         path: &str,
-    ) -> Result<C, CommandError> {
-        match load_state(files, alloc, config, path, self.mode) {
-            Ok(closure) => {
+    ) -> Result<BegunSides<C>, CommandError> {
+        match load_sides(files, alloc, configs, path, self.mode) {
+            Ok(begun) => {
                 self.beginning.done();
-                Ok(closure)
+                Ok(begun)
             }
             Err(error) => {
                 let _ = self.beginning.failed();
@@ -88,12 +99,33 @@ impl StateBeginning {
         self.is_resumed
     }
 
-    /// Saves what was loaded, if there was a journal or no state file.
+    /// Carries over what was loaded, if the state is one of the previous configuration. Else it
+    /// saves what was loaded, if there was a journal or no state file.
     ///
     /// # Errors
     /// - [`SyncError::Io`]: the system refused a step,
     /// - [`SyncError::NoMemory`]: memory ran out.
     pub fn save<C: Closure, R: Files<File = File> + Clock + Eprint>(
+        &mut self,
+        files: &R,
+        alloc: Global,
+        begun: &BegunSides<C>,
+        path: &str,
+    ) -> Result<(), FileFault> {
+        if begun.carried.is_none() {
+            return self.save_next(files, alloc, &begun.sides.next, path);
+        }
+        carry_over(files, alloc, &begun.sides, path, self.mode)?;
+        if let Some(mut carried) = Beginning::of(CARRIED_FILES, false) {
+            // What the state file has is held.
+            carried.done();
+            self.beginning = carried;
+        }
+        self.has_journal = false;
+        Ok(())
+    }
+
+    fn save_next<C: Closure, R: Files<File = File> + Clock + Eprint>(
         &mut self,
         files: &R,
         alloc: Global,
@@ -195,7 +227,7 @@ pub fn begin_again<C: Closure, R: Files<File = File> + Clock + Eprint>(
         Some(mut again) => {
             // What the files have is held.
             again.beginning.done();
-            again.save(files, alloc, closure, path)?;
+            again.save_next(files, alloc, closure, path)?;
             again.begin_journal(files, alloc, closure, path)
         }
         None => Err(FileFault::from(SyncError::Io)),

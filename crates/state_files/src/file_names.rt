@@ -17,6 +17,16 @@ pub(crate) fn new_path(alloc: Global, path: &str) -> Result<String, AllocError> 
     with_ending(alloc, path, ".new")
 }
 
+/// The name of the file that has what was held under the configuration before.
+pub(crate) fn previous_path(alloc: Global, path: &str) -> Result<String, AllocError> {
+    with_ending(alloc, path, ".previous")
+}
+
+/// The name of the new file that is to replace that one.
+pub(crate) fn new_previous_path(alloc: Global, path: &str) -> Result<String, AllocError> {
+    with_ending(alloc, path, ".previous.new")
+}
+
 /// The name of the lock's file.
 pub(crate) fn lock_path(alloc: Global, path: &str) -> Result<String, AllocError> {
     with_ending(alloc, path, ".lock")

@@ -9,15 +9,20 @@
 //! `lock` is the lock, `state` the state file, and `journal` the journal to which lines are
 //! appended. `load` reads both, `save` writes what is held and removes the journal, `begin` is what
 //! a replica that keeps running does first, and `fold` what it does when its journal is long.
-//! `made_files` does the steps of these three; a file that it makes is a `new_file`, whose mode and
-//! owner `access` gives. `resume` continues with a journal if the state cannot be written.
-//! `file_names` has the files' names, `audit` is the file with a line for each change, and
-//! `named_files` what the system has under a name: what this program did not make is never changed.
+//! Between two configurations it begins with `begun_sides`, `carry_over` makes the state one of the
+//! next configuration, and `previous_state` is the file that keeps what the previous one held.
+//! `made_files` does the steps of a save, a beginning and a fold; a file that it makes is a
+//! `new_file`, whose mode and owner `access` gives. `resume` continues with a journal if the state
+//! cannot be written. `file_names` has the files' names, `audit` is the file with a line for each
+//! change, and `named_files` what the system has under a name: what this program did not make is
+//! never changed.
 #![tactic(auto)]
 
 mod access;
 mod audit;
 mod begin;
+mod begun_sides;
+mod carry_over;
 mod file_names;
 mod fold;
 mod journal;
@@ -26,17 +31,20 @@ mod lock;
 mod made_files;
 mod named_files;
 mod new_file;
+mod previous_state;
 mod resume;
 mod save;
 mod state;
 
 pub use audit::AuditFile;
 pub use begin::{StateBeginning, begin_again};
+pub use begun_sides::{BegunSides, GivenConfigs};
 pub use file_names::{has_journal, journal_path};
 pub use fold::{FoldFault, fold_state};
 pub use journal::{AppendFault, Journal, LostFile};
 pub use load::load_state;
 pub use lock::{StateLock, is_marked, try_lock_state};
+pub use previous_state::{remove_previous, settle_previous};
 pub use save::{save_snapshot, save_state};
 pub use state::{SeenState, see_state, state_bytes};
 pub use state_steps::{AppendStep, FoundFiles, KeepStep, Keeping};

@@ -7,7 +7,7 @@ use std::os::unix::fs::MetadataExt;
 use std::{fs, io};
 
 /// With what each snapshot and each journal begins.
-const BEGINNING: &[u8] = b"{\"config\":\"";
+pub(crate) const BEGINNING: &[u8] = b"{\"config\":\"";
 
 const BEGINNING_BYTES: usize = 11;
 
@@ -48,12 +48,26 @@ pub(crate) fn is_plain_file<R: Files>(files: &R, name: &str) -> Result<bool, Fil
 /// a cut of power leaves one of zeros.
 pub(crate) fn remove_own<R: Files>(files: &R, name: &str) -> Result<(), FileFault> {
     if is_plain_file(files, name)? {
-        if !begins_as_own(files, name)? {
-            return Err(foreign_file());
-        }
+        refuse_other(files, name)?;
         found(fs::remove_file(files, name))?;
     }
     Ok(())
+}
+
+/// Refuses what has the name, if it does not begin as a snapshot or a journal.
+pub(crate) fn refuse_foreign<R: Files>(files: &R, name: &str) -> Result<(), FileFault> {
+    if is_plain_file(files, name)? {
+        refuse_other(files, name)?;
+    }
+    Ok(())
+}
+
+fn refuse_other<R: Files>(files: &R, name: &str) -> Result<(), FileFault> {
+    if begins_as_own(files, name)? {
+        Ok(())
+    } else {
+        Err(foreign_file())
+    }
 }
 
 fn begins_as_own<R: Files>(files: &R, name: &str) -> Result<bool, FileFault> {

@@ -7,3 +7,4 @@ mod AppendFacts
 mod ResumeFacts
 mod KeepFacts
 mod CutFacts
+mod CarryFacts

@@ -24,7 +24,7 @@ pub alone_keeps : (snapshots journals : List FileText) (line : List ℕ) → Sna
 alone_keeps snapshots journals line keeps snapshot journal at_snapshot at_journal = inl (keeps snapshot at_snapshot)
 
 -- an empty text has no line
-none_whole : (line : List ℕ) → HasWholeLine [] line → ⊥
+pub none_whole : (line : List ℕ) → HasWholeLine [] line → ⊥
 none_whole line has = omega (arith, has.1)
 
 -- If nobody finds a journal, the snapshot alone keeps each line.

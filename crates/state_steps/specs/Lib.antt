@@ -7,3 +7,4 @@ pub mod Appends
 pub mod Resumes
 pub mod Audits
 pub mod Cuts
+pub mod Carries

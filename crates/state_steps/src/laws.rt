@@ -6,22 +6,29 @@ ghost use Rattle.state_steps.specs.Appends.{AppendKeeps};
 ghost use Rattle.state_steps.specs.Audits.{AuditedFiles, AuditKeeps, AuditTexts, Change};
 ghost use Rattle.state_steps.specs.Audits.{IsAudited, IsAuditOn, IsHeldIn};
 ghost use Rattle.state_steps.specs.Begins.{BeginKeeps};
+ghost use Rattle.state_steps.specs.Carries.{AreApart, CarryDisk, CarryFound, CarryKeeps};
+ghost use Rattle.state_steps.specs.Carries.{CarryTexts, IsCarrySafe, IsInSave, StopLeaves};
+ghost use Rattle.state_steps.specs.Carries.{StopsInDue, after_save, after_start, saved_state};
 ghost use Rattle.state_steps.specs.Cuts.{AreHeld, IsCutBehind, HeldComeFirst, IsSame, lines_found};
 ghost use Rattle.state_steps.specs.Files.{FileText, HasWholeLine, IsFirstFile, KeepsLine};
 ghost use Rattle.state_steps.specs.Files.{IsFoundAt, IsLeftOf, StateDisk, text_now};
 ghost use Rattle.state_steps.specs.Folds.{FoldKeeps};
-ghost use Rattle.state_steps.specs.Saves.{SaveKeeps};
+ghost use Rattle.state_steps.specs.Saves.{IsSaveDueOn, SaveKeeps, save_step};
 ghost use Rattle.state_steps.specs.Resumes.{ResumeKeeps, ResumeTexts};
-ghost use Rattle.state_steps.specs.Steps.{StateTexts, without_new};
+ghost use Rattle.state_steps.specs.Steps.{FailsDue, StateTexts, after_due, without_new};
 ghost use Rattle.state_steps.specs.declared.appending.Appending.{Appending};
 ghost use Rattle.state_steps.specs.declared.beginning.Beginning.{Beginning};
+ghost use Rattle.state_steps.specs.declared.carrying_over.CarryingOver.{CarryingOver};
 ghost use Rattle.state_steps.specs.declared.folding.Folding.{Folding};
 ghost use Rattle.state_steps.specs.declared.keeping.Keeping.{Keeping};
 ghost use Rattle.state_steps.specs.declared.resuming.Resuming.{Resuming};
 ghost use Rattle.state_steps.specs.declared.saving.Saving.{Saving};
 
 /// At each step of a machine: whatever a stop leaves then, each line that was kept is a whole line
-/// of the snapshot or of the journal.
+/// of the snapshot or of the journal. While a state is carried over, it may be a line of `previous`
+/// after the rule of a start.
+///
+/// - `carry_within`: so it is in the middle of a step in which a state is carried over.
 pub fn stops()
     ensures fold { (texts : StateTexts) (fold : Folding) (disk : StateDisk) (line : List ℕ)
         → FoldKeeps texts fold disk line → KeepsLine disk line }
@@ -33,6 +40,14 @@ pub fn stops()
         → AppendKeeps written journal disk line → KeepsLine disk line }
     ensures resume { (texts : ResumeTexts) (resuming : Resuming) (disk : StateDisk)
         (line : List ℕ) → ResumeKeeps texts resuming disk line → KeepsLine disk line }
+    ensures carry { (texts : CarryTexts) (carrying : CarryingOver) (disk : CarryDisk)
+        (found : CarryFound) (line : List ℕ) → AreApart texts
+        → CarryKeeps texts carrying disk line → StopLeaves disk found
+        → IsCarrySafe texts found line }
+    ensures carry_within { (texts : CarryTexts) (carrying : CarryingOver) (disk : CarryDisk)
+        (found : CarryFound) (line : List ℕ) → AreApart texts
+        → CarryKeeps texts carrying disk line → StopsInDue texts carrying.stage disk found
+        → IsCarrySafe texts found line }
 {}
 
 /// The removal of a new snapshot that never gets its name loses no line, at any time.
@@ -48,6 +63,41 @@ pub fn readings()
         → IsFirstFile snapshot disk.snapshot → IsFirstFile journal disk.journal
         → KeepsLine disk line
         → HasWholeLine (text_now snapshot) line ⊎ HasWholeLine (text_now journal) line }
+{}
+
+/// A start after a stop, while a state was carried over: what its rule makes of what it found.
+///
+/// - `lines`: the line is in the state's files or in `previous`.
+/// - `again`, `same`: it is as safe as before, and one more start changes nothing. So a stop
+///   in a start loses no line.
+pub fn starts()
+    ensures lines { (texts : CarryTexts) (found : CarryFound) (line : List ℕ)
+        → IsCarrySafe texts found line
+        → HasWholeLine (after_start texts found).snapshot line
+        ⊎ HasWholeLine (after_start texts found).journal line
+        ⊎ HasWholeLine (after_start texts found).previous line }
+    ensures again { (texts : CarryTexts) (found : CarryFound) (line : List ℕ)
+        → IsCarrySafe texts found line → IsCarrySafe texts (after_start texts found) line }
+    ensures same { (texts : CarryTexts) (found : CarryFound)
+        → after_start texts (after_start texts found) ≡ after_start texts found }
+{}
+
+/// A whole save is one step in which a state is carried over.
+///
+/// - `whole`: what its steps together make of the files.
+/// - `begins`, `done`, `failed`: whatever a stop leaves at its beginning, or after a step that is
+///   done or failed, is what a stop in the middle of the whole save may leave.
+pub fn saves()
+    ensures whole { (texts : StateTexts) (disk : StateDisk)
+        → after_save texts disk ≡ saved_state texts.snapshot disk }
+    ensures begins { (text : List ℕ) (disk : StateDisk) → IsInSave text disk disk }
+    ensures done { (texts : StateTexts) (save : Saving) (start disk : StateDisk)
+        → IsSaveDueOn texts save.stage disk → IsInSave texts.snapshot start disk
+        → IsInSave texts.snapshot start (after_due texts (save_step save.stage) disk) }
+    ensures failed { (texts : StateTexts) (save : Saving) (start disk left : StateDisk)
+        → IsSaveDueOn texts save.stage disk → IsInSave texts.snapshot start disk
+        → FailsDue texts (save_step save.stage) disk left
+        → IsInSave texts.snapshot start left }
 {}
 
 /// The audit file and the state's files.

@@ -6,6 +6,9 @@
 //! what it does if it could not write the state at its beginning. A stop at any time loses no
 //! line that was on the disk.
 //!
+//! `carrying_over` is how a state gets another configuration: what was held under the old one is
+//! kept in a file next to the state.
+//!
 //! With an audit file, `keeping` is the order of that file and the state's: whatever a stop leaves,
 //! each change that is held has its line there. `cutting` is how a replica begins with the file
 //! that it found: then it has the lines of exactly the changes that are held.
@@ -13,6 +16,7 @@
 
 mod appending;
 mod beginning;
+mod carrying_over;
 mod cutting;
 mod file_step;
 mod folding;
@@ -23,6 +27,7 @@ mod saving;
 
 pub use appending::{AppendStep, Appending};
 pub use beginning::{BeginStep, Beginning, FoundFiles};
+pub use carrying_over::{CarryStep, CarryingOver};
 pub use cutting::{CutStep, Cutting, LastLine};
 pub use file_step::FileStep;
 pub use folding::{FoldEnd, Folding};

@@ -12,7 +12,9 @@ use Rattle.status_view.specs.declared.running.RunningStatus.{RunningStatus}
 use Rattle.status_view.specs.declared.running.PeerStatus.{PeerStatus}
 use Rattle.status_view.specs.declared.running.PeerFault.{PeerFault}
 use Rattle.status_view.specs.declared.running.PeerFault.TheVariants.{Session, TooManyBytes}
-use Rattle.status_view.specs.StatusMetrics.{gauge_head, help_line, label_value}
+use Rattle.status_view.specs.StatusMetrics.{gauge_head, help_line}
+use Rattle.status_view.specs.PeerMetrics.{peer_label, peer_sample}
+use Rattle.status_view.specs.Changing.{previous_lines, previous_member, previous_metrics}
 
 -- ---- why a session failed, in short
 
@@ -47,7 +49,9 @@ abbrev pub running_lines : RunningStatus → List ℕ
 running_lines r = codes "snapshot "
     ++ (decimal r.snapshot_bytes
     ++ (codes " bytes\njournal "
-    ++ (decimal r.journal_bytes ++ (codes " bytes\n" ++ flat_map peer_line r.peers.now))))
+    ++ (decimal r.journal_bytes
+    ++ (codes " bytes\n"
+    ++ (flat_map peer_line r.peers.now ++ previous_lines r.peers.now r.previous)))))
 
 -- ---- as members of a JSON object
 
@@ -71,7 +75,9 @@ running_members r = codes ",\"snapshot_bytes\":"
     ++ (decimal r.snapshot_bytes
     ++ (codes ",\"journal_bytes\":"
     ++ (decimal r.journal_bytes
-    ++ (codes ",\"peers\":[" ++ (parted_texts peer_json false r.peers.now ++ codes "]")))))
+    ++ (codes ",\"peers\":["
+    ++ (parted_texts peer_json false r.peers.now
+    ++ (codes "]" ++ previous_member r.peers.now r.previous))))))
 
 -- ---- as metrics
 
@@ -94,13 +100,6 @@ counter_line name = codes "# TYPE " ++ (name ++ (codes " counter" ++ codes "\n")
 -- what it says, and that it only goes up
 abbrev pub counter_head : (name help : List ℕ) → List ℕ
 counter_head name help = help_line name help ++ counter_line name
-
--- the name of a metric of a peer, up to the peer's address
-abbrev pub peer_label : List ℕ → PeerStatus → List ℕ
-peer_label name p = name ++ (codes "{peer=\"" ++ label_value (string_bytes p.address))
-
-abbrev pub peer_sample : List ℕ → PeerStatus → ℕ → List ℕ
-peer_sample name p value = peer_label name p ++ (codes "\"} " ++ (decimal value ++ codes "\n"))
 
 abbrev pub receipts_name : List ℕ
 receipts_name = codes "fedbundle_peer_receipts_total"
@@ -146,4 +145,6 @@ fault_info r = gauge_head fault_name
 
 abbrev pub running_metrics : RunningStatus → List ℕ
 running_metrics r = snapshot_gauge r
-    ++ (journal_gauge r ++ (receipts_counter r ++ (ended_gauge r ++ fault_info r)))
+    ++ (journal_gauge r
+    ++ (receipts_counter r
+    ++ (ended_gauge r ++ (fault_info r ++ previous_metrics r.peers.now r.previous))))

@@ -4,7 +4,9 @@
 //!
 //! `status` and `running` have the two values. `standing` makes the first, by `current_status`,
 //! `domain_standing` and `keyless`. `text_writer`, `json_writer` and `metrics_writer` write it, and
-//! the files that begin with `running_` write the second. `status_writer` joins both.
+//! the files that begin with `running_` write the second; at their end those that begin with
+//! `previous_` write from which configuration the replica is changed, if it is. `peer_metrics` has
+//! what metrics of peers share. `status_writer` joins both.
 #![tactic(auto)]
 
 mod current_status;
@@ -13,6 +15,10 @@ mod json_writer;
 mod keyless;
 mod metric;
 mod metrics_writer;
+mod peer_metrics;
+mod previous_json;
+mod previous_lines;
+mod previous_metrics;
 mod running;
 mod running_json;
 mod running_lines;
@@ -25,7 +31,7 @@ mod text_writer;
 pub use json_writer::{push_status_members, status_json};
 pub use metric::{DomainGauge, Gauge};
 pub use metrics_writer::{push_gauge_head, push_label_value, status_metrics};
-pub use running::{PeerFault, PeerStatus, RunningStatus, fault_code};
+pub use running::{AskedConfig, PeerFault, PeerStatus, PreviousStatus, RunningStatus, fault_code};
 pub use running_json::push_running_members;
 pub use running_lines::push_running_lines;
 pub use running_metrics::push_running_metrics;

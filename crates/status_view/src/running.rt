@@ -2,10 +2,12 @@
 ghost use Rattle.std.specs.Prelude.{◌≡◌};
 ghost use Rattle.status_view.specs.Running.{fault_code};
 
+use fed_config::ConfigId;
 use replica_core::SyncError;
 
 /// What a running replica knows in addition to what it holds: how long its files are, how the
-/// sessions went in which it asked its peers, and the time of day.
+/// sessions went in which it asked its peers, the time of day, and from which configuration it is
+/// changed, if it is.
 #[derive(Clone, Copy, Debug)]
 pub struct RunningStatus<'a> {
     /// The bytes of the snapshot in the state file.
@@ -18,6 +20,8 @@ pub struct RunningStatus<'a> {
     pub began: u64,
     /// The Unix second at which it says this; 0 if its clock had none.
     pub moment: i64,
+    /// The configuration that is changed from, if there is one.
+    pub previous: Option<PreviousStatus>,
 }
 
 impl RunningStatus<'_> {
@@ -38,6 +42,27 @@ pub struct PeerStatus {
     pub fault: Option<PeerFault>,
     /// How many receipts came from it that were not held.
     pub receipts: u64,
+    /// Under which configuration it last answered; `None` if it never did.
+    pub asked: Option<AskedConfig>,
+}
+
+/// The configuration that a replica is changed from, which it still serves in addition to its own.
+#[derive(Clone, Copy, Debug)]
+pub struct PreviousStatus {
+    /// Its digest.
+    pub config: ConfigId,
+    /// The Unix second at which a session under it was last answered, by this replica or by a peer;
+    /// `None` if none was.
+    pub used: Option<u64>,
+}
+
+/// One of two configurations.
+#[derive(Clone, Copy, Debug, PartialEq, Eq)]
+pub enum AskedConfig {
+    /// The one that is changed to.
+    Next,
+    /// The one that is changed from.
+    Previous,
 }
 
 /// Why a session with a peer failed.

@@ -4,6 +4,7 @@ ghost use Rattle.json_text.specs.JsonText.{parted_texts};
 ghost use Rattle.status_view.specs.Running.{code_or_null, peer_json, quoted_code};
 ghost use Rattle.status_view.specs.Running.{running_members};
 
+use crate::previous_json::push_previous_member;
 use crate::running::{PeerFault, PeerStatus, RunningStatus, fault_code};
 use byte_lines::push_number;
 use json_text::{push_comma, push_number_or_null, push_string};
@@ -11,6 +12,10 @@ use std::alloc::{AllocError, Global};
 
 /// Adds the members `snapshot_bytes`, `journal_bytes` and `peers`, each after a comma. A peer is an
 /// object with `peer`, `ended_well`, `fault` and `receipts`; what is absent is `null`.
+///
+/// If the replica is changed from a configuration, then the member `previous`: an object with
+/// `config`, `used` and `peers`, an array of objects with `peer` and `asked`; what is absent is
+/// `null`.
 ///
 /// # Errors
 /// Memory ran out. Nothing is said then of what is there.
@@ -28,6 +33,7 @@ pub fn push_running_members(
     out.extend_from_slice(b",\"peers\":[")?;
     push_peers(alloc, out, running.peers)?;
     out.extend_from_slice(b"]")?;
+    push_previous_member(alloc, out, running)?;
     Ok(())
 }
 

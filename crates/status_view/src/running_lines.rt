@@ -2,6 +2,7 @@
 ghost use Rattle.std.specs.Prelude.{◌≡◌, ◌++◌, OnOk, flat_map};
 ghost use Rattle.status_view.specs.Running.{code_or_none, peer_line, running_lines};
 
+use crate::previous_lines::push_previous_lines;
 use crate::running::{PeerFault, PeerStatus, RunningStatus, fault_code};
 use byte_lines::push_number;
 use std::alloc::AllocError;
@@ -9,6 +10,9 @@ use text_lines::push_number_or_none;
 
 /// Adds the lines `snapshot <n> bytes` and `journal <n> bytes`, and for each peer a line
 /// `peer <address> ended-well <second> fault <code> receipts <n>`, with `none` for what is absent.
+///
+/// If the replica is changed from a configuration, then the line `previous <digest> used <second>`
+/// and for each peer a line `asked <address> <next or previous>`, with `none` for what is absent.
 ///
 /// # Errors
 /// Memory ran out. Nothing is said then of what is there.
@@ -21,6 +25,7 @@ pub fn push_running_lines(out: &mut Vec<u8>, running: &RunningStatus<'_>) -> Res
     push_number(out, running.journal_bytes)?;
     out.extend_from_slice(b" bytes\n")?;
     push_peers(out, running.peers)?;
+    push_previous_lines(out, running)?;
     Ok(())
 }
 

@@ -3,11 +3,12 @@ ghost use Rattle.std.specs.Prelude.{◌≡◌, ◌++◌, OnOk, Some, flat_map};
 ghost use Rattle.status_view.specs.Running.{bytes_gauge, counter_head, counter_line};
 ghost use Rattle.status_view.specs.Running.{ended_gauge, ended_sample, ended_sample_at};
 ghost use Rattle.status_view.specs.Running.{fault_info, fault_sample, fault_sample_of};
-ghost use Rattle.status_view.specs.Running.{journal_gauge, peer_label, peer_sample};
-ghost use Rattle.status_view.specs.Running.{receipts_counter, receipts_sample, running_metrics};
-ghost use Rattle.status_view.specs.Running.{snapshot_gauge};
+ghost use Rattle.status_view.specs.Running.{journal_gauge, receipts_counter, receipts_sample};
+ghost use Rattle.status_view.specs.Running.{running_metrics, snapshot_gauge};
 
-use crate::metrics_writer::{push_gauge_head, push_help, push_label_value};
+use crate::metrics_writer::{push_gauge_head, push_help};
+use crate::peer_metrics::{push_peer_label, push_peer_sample};
+use crate::previous_metrics::push_previous_metrics;
 use crate::running::{PeerFault, PeerStatus, RunningStatus, fault_code};
 use byte_lines::push_number;
 use std::alloc::AllocError;
@@ -16,6 +17,12 @@ use std::alloc::AllocError;
 /// the label `peer`, the counter `fedbundle_peer_receipts_total` and the gauges
 /// `fedbundle_peer_ended_well_timestamp_seconds`, if a session ended well, and
 /// `fedbundle_peer_fault_info`, if one failed, with the error's code as its label `fault`.
+///
+/// If the replica is changed from a configuration, then the gauges
+/// `fedbundle_previous_config_info`, with the digest of that as its label `config`,
+/// `fedbundle_previous_config_used_timestamp_seconds`, if a session under that was answered, and
+/// for each peer that answered `fedbundle_peer_asked_previous`: 1 if it last did so under that, and
+/// else 0.
 ///
 /// # Errors
 /// Memory ran out. Nothing is said then of what is there.
@@ -30,6 +37,7 @@ pub fn push_running_metrics(
     push_receipts_counter(out, running)?;
     push_ended_gauge(out, running)?;
     push_fault_info(out, running)?;
+    push_previous_metrics(out, running)?;
     Ok(())
 }
 
@@ -105,30 +113,7 @@ fn push_receipts_samples(out: &mut Vec<u8>, peers: &[PeerStatus]) -> Result<(), 
 fn push_receipts_sample(out: &mut Vec<u8>, peer: &PeerStatus) -> Result<(), AllocError>
     ensures { OnOk result (out.new.items ≡ out.old.items ++ receipts_sample peer.now) }
 {
-    push_sample(out, "fedbundle_peer_receipts_total", peer, peer.receipts)
-}
-
-fn push_sample(
-    out: &mut Vec<u8>,
-    name: &str,
-    peer: &PeerStatus,
-    value: u64,
-) -> Result<(), AllocError>
-    ensures { OnOk result (out.new.items ≡ out.old.items ++ peer_sample name.now peer.now value) }
-{
-    push_label(out, name, peer)?;
-    out.extend_from_slice(b"\"} ")?;
-    push_number(out, value)?;
-    out.extend_from_slice(b"\n")
-}
-
-// The name, and the label up to the end of the peer's address.
-fn push_label(out: &mut Vec<u8>, name: &str, peer: &PeerStatus) -> Result<(), AllocError>
-    ensures { OnOk result (out.new.items ≡ out.old.items ++ peer_label name.now peer.now) }
-{
-    out.extend_from_slice(name.as_bytes())?;
-    out.extend_from_slice(b"{peer=\"")?;
-    push_label_value(out, peer.address.as_str())
+    push_peer_sample(out, "fedbundle_peer_receipts_total", peer, peer.receipts)
 }
 
 fn push_ended_gauge(out: &mut Vec<u8>, running: &RunningStatus<'_>) -> Result<(), AllocError>
@@ -158,7 +143,7 @@ fn push_ended_sample(out: &mut Vec<u8>, peer: &PeerStatus) -> Result<(), AllocEr
 {
     match peer.ended_well {
         Some(seconds) => {
-            push_sample(
+            push_peer_sample(
                 out,
                 "fedbundle_peer_ended_well_timestamp_seconds",
                 peer,
@@ -204,7 +189,7 @@ fn push_fault(out: &mut Vec<u8>, peer: &PeerStatus, fault: PeerFault) -> Result<
     ensures { OnOk result (out.new.items
         ≡ out.old.items ++ fault_sample_of peer.now (Some fault)) }
 {
-    push_label(out, "fedbundle_peer_fault_info", peer)?;
+    push_peer_label(out, "fedbundle_peer_fault_info", peer)?;
     out.extend_from_slice(b"\",fault=\"")?;
     out.extend_from_slice(fault_code(fault).as_bytes())?;
     out.extend_from_slice(b"\"} 1\n")?;

@@ -84,6 +84,18 @@ fn status_in(alloc: Global, status: &Status, format: StatusFormat) -> Result<Vec
 /// `fedbundle_peer_receipts_total`, `fedbundle_peer_ended_well_timestamp_seconds` and
 /// `fedbundle_peer_fault_info` |
 ///
+/// If the replica is changed from a configuration, more is added at the end:
+///
+/// | Format | What is added |
+/// |---|---|
+/// | text | `previous <digest> used <second>`, and for each peer
+/// `asked <address> <next or previous>`, with `none` for what is absent |
+/// | JSON | the member `previous`, an object with `config`, `used` and `peers`, an array of objects
+/// with `peer` and `asked`, with `null` for what is absent |
+/// | Prometheus | `fedbundle_previous_config_info`,
+/// `fedbundle_previous_config_used_timestamp_seconds`, and with the label `peer`
+/// `fedbundle_peer_asked_previous` |
+///
 /// All memory is taken before the first byte is written.
 ///
 /// # Errors

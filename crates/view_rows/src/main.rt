@@ -11,9 +11,10 @@
 //!   and another that was given the text of this name.
 //! - `status CONFIG FORMAT = LINES`: what is printed of that replica's status, in one of the
 //!   formats `text`, `json` and `prometheus`, and whether there is a warning.
-//! - `running CONFIG FORMAT SNAPSHOT JOURNAL PEER.. = LINES`: the same for a running replica, whose
-//!   files have this many bytes; a peer is `ADDRESS,ENDED,FAULT,RECEIPTS`, with a hyphen for what
-//!   is absent.
+//! - `running CONFIG FORMAT SNAPSHOT JOURNAL WORD.. = LINES`: the same for a running replica, whose
+//!   files have this many bytes. A `WORD` is a peer as `ADDRESS,ENDED,FAULT,RECEIPTS,ASKED`, and
+//!   `ASKED` may be left out; or `OLD@USED`: the text of this name is the configuration that is
+//!   changed from, which was last used at this second. Each has a hyphen for what is absent.
 //! - `warned CONFIG FORMAT MOMENT BEGAN WORD.. = LINES`: the same for one with empty files, and its
 //!   warnings at that Unix second. A `WORD` is a peer, or `DOMAIN@FETCHED@WAIT`: when a domain was
 //!   last fetched, with a hyphen for never, and its wait.

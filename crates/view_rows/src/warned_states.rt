@@ -44,6 +44,7 @@ pub(crate) fn stand<C: Closure>(
         peers: said.peers.as_slice(),
         began: u64::try_from(began).unwrap_or(0),
         moment,
+        previous: None,
     };
     let watch = watch_of(&running, said.fetches.as_slice());
     match replica_of::<C>(alloc, script, config, lines)? {

@@ -1,3 +1,4 @@
+use Rattle.status_view.specs.Changing.{previous_metrics}
 use Rattle.status_view.specs.Running.{ended_gauge, fault_info, journal_gauge, receipts_counter, snapshot_gauge}
 use Rattle.status_view.proofs.PieceFacts.{two}
 use Rattle.status_view.proofs.running_metrics.push_running_metrics.Goals as goal
@@ -10,6 +11,8 @@ returns c =
     (journal_gauge c.args.running.now) _ _ _ c.in_ok-push_journal_gauge.ensures
     (two c.push_journal_gauge.new.out.items
     (receipts_counter c.args.running.now) _ _ _ c.in_ok-push_receipts_counter.ensures
-    (two c.push_receipts_counter.new.out.items (ended_gauge c.args.running.now)
-    (fault_info c.args.running.now) _ _ c.in_ok-push_ended_gauge.ensures
-    c.in_ok-push_fault_info.ensures)))
+    (two c.push_receipts_counter.new.out.items
+    (ended_gauge c.args.running.now) _ _ _ c.in_ok-push_ended_gauge.ensures
+    (two c.push_ended_gauge.new.out.items (fault_info c.args.running.now)
+    (previous_metrics c.args.running.now.peers.now c.args.running.now.previous) _ _
+    c.in_ok-push_fault_info.ensures c.in_ok-push_previous_metrics.ensures))))

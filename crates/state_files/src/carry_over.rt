@@ -1,0 +1,56 @@
+//! A state that is carried over to another configuration.
+use crate::previous_state::{replace_previous, write_previous};
+use crate::save::save_state;
+use closure_core::Closure;
+use command_exits::FileFault;
+use progress_line::ProgressMode;
+use replica_core::SyncError;
+use side_by_side::Sides;
+use state_steps::{CarryStep, CarryingOver};
+use std::alloc::Global;
+use std::fs::{File, Files};
+use std::io::Eprint;
+use std::time::Clock;
+
+/// How many steps there are.
+const STEPS: u32 = 4;
+
+/// Makes the state file one of the next configuration, and keeps what the previous one holds in the
+/// file next to it, in the order of [`CarryingOver`]. There is no journal afterwards.
+///
+/// # Errors
+/// - [`SyncError::Io`]: the system refused a step,
+/// - [`SyncError::NoMemory`]: memory ran out.
+pub(crate) fn carry_over<C: Closure, R: Files<File = File> + Clock + Eprint>(
+    files: &R,
+    alloc: Global,
+    sides: &Sides<C>,
+    path: &str,
+    mode: ProgressMode,
+) -> Result<(), FileFault> {
+    let Some(previous) = &sides.previous else {
+        return Err(FileFault::from(SyncError::ConfigDiffers));
+    };
+    let mut carrying = CarryingOver::begin();
+    for _ in 0..STEPS {
+        let Some(step) = carrying.next() else {
+            break;
+        };
+        let done = match step {
+            CarryStep::FoldState => save_state(files, alloc, previous, path, mode),
+            CarryStep::WritePrevious => write_previous(files, alloc, previous, path, mode),
+            CarryStep::SaveState => save_state(files, alloc, &sides.next, path, mode),
+            CarryStep::ReplacePrevious => replace_previous(files, alloc, path),
+        };
+        if let Err(fault) = done {
+            carrying.failed();
+            return Err(fault);
+        }
+        carrying.done();
+    }
+    if carrying.is_done() {
+        Ok(())
+    } else {
+        Err(FileFault::from(SyncError::Io))
+    }
+}
