@@ -7,7 +7,7 @@ _fedbundle() {
         return
     fi
     case $before in
-        --at|--audit|--config|--polls|--read-socket|--socket|--state|--to|--with)
+        --at|--audit|--config|--polls|--previous|--read-socket|--socket|--state|--to|--with)
             compopt -o filenames 2>/dev/null
             COMPREPLY=($(compgen -f -- "$word"))
             return
@@ -33,7 +33,7 @@ _fedbundle() {
         distrust) words='--config --state --domain --key --public-key --dry-run --new --wait --verbose --at --help' ;;
         serve) words='--config --state --listen --sessions --verbose --help' ;;
         pull) words='--config --state --peer --wait --most-bytes --verbose --help' ;;
-        replica) words='--config --state --socket --read-socket --listen --health --audit --listen-anywhere --peers --every --peer-quiet --expires-within --most-bytes --most-request-bytes --new --verbose --help' ;;
+        replica) words='--config --previous --state --socket --read-socket --listen --health --audit --listen-anywhere --peers --every --peer-quiet --expires-within --most-bytes --most-request-bytes --new --verbose --help' ;;
         stop) words='--wait --verbose --at --help' ;;
         help) words='canon config new report list diff graph status bundle explain observe merge migrate reseed polls distrust serve pull replica stop help' ;;
         *) return ;;

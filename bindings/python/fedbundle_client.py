@@ -152,6 +152,24 @@ class PeerStatus:
 
 
 @dataclass(frozen=True)
+class AskedPeer:
+    """Under which configuration a peer last answered: "next", "previous", or None if it did not answer yet."""
+
+    peer: str
+    asked: Optional[str]
+
+
+@dataclass(frozen=True)
+class PreviousStatus:
+    """How far a change of the configuration is: the digest of the previous configuration, the Unix second at which a
+    session under it was last answered, and how each peer was asked."""
+
+    config: str
+    used: Optional[int]
+    peers: Tuple[AskedPeer, ...]
+
+
+@dataclass(frozen=True)
 class StatusWarning:
     """Something that needs attention. OPERATING.md of fedbundle says what to do. Which members are not None depends on the
     kind: `domain`, with `key` and `not_after` of a certificate that expires; `peer` and `since`; `what` and `held`."""
@@ -183,6 +201,8 @@ class Status:
     journal_bytes: int
     peers: Tuple[PeerStatus, ...]
     warnings: Tuple[StatusWarning, ...]
+    # None if the replica runs without --previous.
+    previous: Optional[PreviousStatus] = None
 
 
 @dataclass(frozen=True)
@@ -803,6 +823,7 @@ def _parse_bundle(domain: str, document: bytes) -> Bundle:
 
 def _parse_status(text: bytes) -> Status:
     said = _Members(_parse_json(text))
+    previous = said.value.get("previous")
     return Status(
         config=said.text("config"),
         receipts=said.count("receipts"),
@@ -817,6 +838,7 @@ def _parse_status(text: bytes) -> Status:
         journal_bytes=said.count("journal_bytes"),
         peers=tuple(_parse_peer(one) for one in said.objects("peers")),
         warnings=tuple(_parse_warning(one) for one in said.objects("warnings")),
+        previous=None if previous is None else _parse_previous(_Members(previous)),
     )
 
 
@@ -839,6 +861,11 @@ def _parse_peer(said: _Members) -> PeerStatus:
     return PeerStatus(
         said.text("peer"), said.number_if_any("ended_well"), said.text_if_any("fault"), said.count("receipts")
     )
+
+
+def _parse_previous(said: _Members) -> PreviousStatus:
+    peers = tuple(AskedPeer(one.text("peer"), one.text_if_any("asked")) for one in said.objects("peers"))
+    return PreviousStatus(said.text("config"), said.number_if_any("used"), peers)
 
 
 def _parse_warning(said: _Members) -> StatusWarning:

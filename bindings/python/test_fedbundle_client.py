@@ -228,6 +228,17 @@ class Answers(Case):
         self.assertEqual(peers, found.peers)
         warnings = tuple(client.StatusWarning(**one) for one in STATUS["warnings"])
         self.assertEqual(warnings, found.warnings)
+        self.assertIsNone(found.previous)
+
+    def test_status_between_configurations(self):
+        peers = [{"peer": "127.0.0.1:1", "asked": "next"}, {"peer": "127.0.0.1:2", "asked": None}]
+        previous = {"config": "c0", "used": 5, "peers": peers}
+        found = self.replying(replied(json.dumps({**STATUS, "previous": previous}).encode())).status()
+        asked = (client.AskedPeer("127.0.0.1:1", "next"), client.AskedPeer("127.0.0.1:2", None))
+        self.assertEqual(client.PreviousStatus("c0", 5, asked), found.previous)
+        for wrong in ("x", -1, [1], {**previous, "config": None}, {**previous, "used": "x"}, {**previous, "peers": None}):
+            text = json.dumps({**STATUS, "previous": wrong}).encode()
+            self.fails(client.BAD_REPLY, 3, self.replying(replied(text)).status)
 
     def test_members_of_the_status(self):
         """A member that is missing, or of another kind, is not read."""

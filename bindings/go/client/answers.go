@@ -36,6 +36,8 @@ type Status struct {
 	JournalBytes uint64 `json:"journal_bytes"`
 	// Peers are the replicas from which this one pulls.
 	Peers []PeerStatus `json:"peers"`
+	// Previous is the configuration from which the replica changes, or nil if it runs without --previous.
+	Previous *PreviousStatus `json:"previous,omitempty"`
 	// Warnings is what needs attention.
 	Warnings []StatusWarning `json:"warnings"`
 }
@@ -90,6 +92,24 @@ type PeerStatus struct {
 	Fault *string `json:"fault"`
 	// Receipts is how many receipts came that were not held.
 	Receipts uint64 `json:"receipts"`
+}
+
+// PreviousStatus is how far a change of the configuration is.
+type PreviousStatus struct {
+	// Config is the digest of the previous configuration.
+	Config string `json:"config"`
+	// Used is the Unix second at which a session under it was last answered, or nil if none was.
+	Used *int64 `json:"used"`
+	// Peers are the replicas from which this one pulls.
+	Peers []AskedPeer `json:"peers"`
+}
+
+// AskedPeer is under which configuration a peer last answered.
+type AskedPeer struct {
+	// Peer is its address.
+	Peer string `json:"peer"`
+	// Asked is "next", "previous", or nil if it did not answer yet.
+	Asked *string `json:"asked"`
 }
 
 // StatusWarning is something that needs attention. OPERATING.md of fedbundle says what to do. Which members are not nil

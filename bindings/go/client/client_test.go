@@ -204,6 +204,25 @@ func TestStatus(t *testing.T) {
 	if *status.Domains[0].Current.Sequence != 1<<64-1 || status.Domains[1].Current != nil || !status.Warning {
 		t.Errorf("%+v", status)
 	}
+	if status.Previous != nil {
+		t.Errorf("%+v", status.Previous)
+	}
+}
+
+func TestStatusBetweenConfigurations(t *testing.T) {
+	const previous = `"previous":{"config":"c0","used":5,"peers":[{"peer":"127.0.0.1:1","asked":"next"},{"peer":"127.0.0.1:2","asked":null}]},`
+	text := strings.Replace(statusText, `"warnings":`, previous+`"warnings":`, 1)
+	status, err := replying(t, replied(text, "", 0)).Status(context.Background())
+	if err != nil {
+		t.Fatal(err)
+	}
+	again, err := json.Marshal(status)
+	if err != nil || string(again)+"\n" != text {
+		t.Errorf("%v, %s", err, again)
+	}
+	if *status.Previous.Used != 5 || *status.Previous.Peers[0].Asked != "next" || status.Previous.Peers[1].Asked != nil {
+		t.Errorf("%+v", status.Previous)
+	}
 }
 
 func TestLists(t *testing.T) {
