@@ -36,6 +36,9 @@ def answer(line):
     data = base64.b64decode(line.get("Input", "")) + b" " * line.get("Spaces", 0)
     if name == "status":
         found = shown(client.status())
+        # The reply has it only from a replica that runs with --previous.
+        if found["previous"] is None:
+            del found["previous"]
         return {**found, "warnings": [without_none(one) for one in found["warnings"]]}
     if name in ("list", "list_keys", "graph", "reseed"):
         return renamed(shown(getattr(client, name)(texts[0] or None)))
