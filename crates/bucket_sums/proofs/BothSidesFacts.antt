@@ -1,5 +1,5 @@
 -- A session over sums, by the bytes of both sides.
-use Rattle.std.proofs.Common.{◌≡◌, ◌∙◌, ℕ, ◌+◌, Bool, true, false, List, [], ◌∷◌, ◌++◌, length, map, zero, suc}
+use Rattle.std.proofs.Common.{◌≡◌, ◌∙◌, ℕ, ◌+◌, ◌<◌, ◌⊎◌, inl, inr, Bool, true, false, List, [], ◌∷◌, ◌++◌, length, map, zero, suc, get_or}
 use Rattle.std.proofs.Common.{refl, sym, ap, subst, arith, append_assoc, length-append}
 use Rattle.std.specs.Prelude.{Some, None, decimal}
 use Rattle.std.specs.List.{AllByRecursion}
@@ -8,6 +8,8 @@ use Rattle.std.proofs.lemmas.List.{append_cancel_left, append_cancel_right, leng
 use Rattle.hex.specs.Hex.{encode_lower}
 use Rattle.fed_config.specs.Configuration.{Configuration, config_id_of}
 use Rattle.receipt_core.specs.Receipt.{IsDigest}
+use Rattle.receipt_core.specs.declared.distrust.Distrust.{Distrust}
+use Rattle.receipt_core.proofs.RisingFacts.{Has}
 use Rattle.receipt_core.specs.Acceptance.{IsMeaning, Meaning}
 use Rattle.receipt_core.proofs.HexFacts.{length-encode_lower}
 use Rattle.replica_core.specs.Session.{state_of}
@@ -15,20 +17,24 @@ use Rattle.replica_core.specs.State.{State, joined}
 use Rattle.replica_texts.specs.Snapshots.{ended, header_of, text_of_lines}
 use Rattle.replica_texts.specs.SoleLines.{written_header}
 use Rattle.replica_sync.specs.PulledPieces.{AreAlone, PulledPiece, TakesInTurn, bytes_pulled}
-use Rattle.replica_sync.specs.PullSessions.{HasPulledAbout, IsOverPulling, due_have, fault_of_pulling}
+use Rattle.replica_sync.specs.PullSessions.{HasPulledAbout, IsOverPulling, due_have, fault_of_pulling, kept_answer}
 use Rattle.replica_sync.specs.Pulling.{HasDistinctIds}
-use Rattle.replica_sync.specs.ServedPieces.{Came, IsStill, bytes_came}
-use Rattle.replica_sync.specs.Serving.{ServesAll}
-use Rattle.replica_sync.specs.SessionRun.{known_run}
+use Rattle.replica_sync.specs.Plans.{answered_of}
+use Rattle.replica_sync.specs.ServedPieces.{Came, HaveAndHeld, IsStill, bytes_came}
 use Rattle.replica_sync.specs.declared.piece_pulling.Pulling.{Pulling}
+use Rattle.replica_sync.proofs.PlanLawFacts.{AreBelow, plan_answered_each, plan_done}
+use Rattle.replica_sync.proofs.ServeLawFacts.{AnsweredEach}
 use Rattle.bucket_sums.specs.Lines.{IsSumLine, differences, mark_of, marks_line, part_count, sum_line, sums_text}
 use Rattle.bucket_sums.specs.Questions.{sums_answer, sums_question}
 use Rattle.bucket_sums.specs.Quiet.{AnswersQuestion}
 use Rattle.bucket_sums.specs.QuietPulls.{AsksMarked}
+use Rattle.bucket_sums.specs.RecordsOnce.{shown_once}
 use Rattle.bucket_sums.specs.Sessions.{buckets_asked}
 use Rattle.bucket_sums.specs.Sums.{HasDistinctSums, bucket_sums_from, marks_between, sums_of}
-use Rattle.bucket_sums.proofs.LawFacts.{is_digest, length-marks, length-sums}
-use Rattle.bucket_sums.proofs.QuietLawFacts.{listed_joins}
+use Rattle.bucket_sums.proofs.LawFacts.{is_digest, length-marks, length-sums, same_records}
+use Rattle.bucket_sums.proofs.QuietLawFacts.{asked_below, came_all, item_has}
+use Rattle.bucket_sums.proofs.SessionFacts.{both-held, formed}
+use Rattle.bucket_sums.proofs.ShownFacts.{HasRecords, IsFirst, after_shown, own_haves, shown_bytes, shown_forms, shows_once}
 
 -- ---- two texts of one beginning
 
@@ -95,8 +101,9 @@ digests state = (is_digest _, digests_from state 0 256)
 -- ---- the question and its answer
 
 -- The marks that came are those of both, and what follows them at one side is what follows them at the other.
-pub record AreMarksOfBoth (marks : List Bool) (m k : Meaning) (rest after left more : List ℕ) : Type 0 where
+pub record AreMarksOfBoth (marks : List Bool) (differ : Bool) (m k : Meaning) (rest after left more : List ℕ) : Type 0 where
   pub are : marks ≡ marks_between (state_of m) (state_of k)
+  pub records : differ ≡ get_or (marks_between (state_of m) (state_of k)) 0 true
   pub asked : rest ≡ after
   pub replied : left ≡ more
 
@@ -132,19 +139,26 @@ answer_marks c config marks own left more same many e =
     (marks_back marks own (append_cancel_right (marks_line marks) (marks_line own) (10 ∷ []) cut.0), cut.1)
 
 pub answered_marks : (pulling : Pulling) (m k : Meaning) (config : Configuration) (came : List PulledPiece) (asked : List Came)
-    (written said rest left more : List ℕ) → config_id_of m.config ≡ config_id_of config → (marked : AsksMarked pulling m came written)
-    → AnswersQuestion config asked said → IsStill k asked → bytes_came asked ++ rest ≡ written → bytes_pulled marked.asked ++ left ≡ said ++ more
-    → AreMarksOfBoth marked.marks m k rest marked.after left more
-answered_marks pulling m k config came asked written said rest left more same marked question still is said_is =
+    (written said rest left more : List ℕ) (differ : Bool) → config_id_of m.config ≡ config_id_of config → (marked : AsksMarked pulling m came written)
+    → AnswersQuestion config asked said differ → IsStill k asked → bytes_came asked ++ rest ≡ written
+    → bytes_pulled marked.asked ++ left ≡ said ++ more
+    → AreMarksOfBoth marked.marks differ m k rest marked.after left more
+answered_marks pulling m k config came asked written said rest left more differ same marked question still is said_is =
     let own = marks_between (state_of m) (state_of k) in
     let lines = question_lines m config question.lines rest marked.after same question.each question.all
     (ap (λ (l : List ℕ). l ++ rest) (sym question.bytes) ∙ is ∙ marked.parts) in
-    let answer : said ≡ sums_answer config own =
-    question.said_is ∙ ap (λ (l : List (List ℕ)). sums_answer config (differences l (sums_of (state_of question.held)))) lines.0
-    ∙ ap (λ (h : Meaning). sums_answer config (differences (map encode_lower (sums_of (state_of m))) (sums_of (state_of h)))) (question.was k still) in
+    let between : differences question.lines (sums_of (state_of question.held)) ≡ own =
+    ap (λ (l : List (List ℕ)). differences l (sums_of (state_of question.held))) lines.0
+    ∙ ap (λ (h : Meaning). differences (map encode_lower (sums_of (state_of m))) (sums_of (state_of h))) (question.was k still) in
+    let answer : said ≡ sums_answer config own = question.said_is ∙ ap (sums_answer config) between in
     let marks = answer_marks m.config config marked.marks own left more same (marked.all ∙ sym (length-marks (state_of m) (state_of k)))
     (ap (λ (l : List ℕ). l ++ left) (sym marked.bytes) ∙ said_is ∙ ap (λ (l : List ℕ). l ++ more) answer) in
-    record { are = marks.0; asked = lines.1; replied = marks.1 }
+    record {
+      are = marks.0;
+      records = question.records ∙ ap (λ (ms : List Bool). get_or ms 0 true) between;
+      asked = lines.1;
+      replied = marks.1;
+    }
 
 -- ---- the whole session
 
@@ -167,26 +181,61 @@ quiet_alone : (before : Meaning) (came : List PulledPiece) (after : Meaning) →
 quiet_alone before [] after h takes = h
 quiet_alone before (c ∷ came) after h takes = quiet_alone c.new came after h.1 takes.1 ∙ takes.0 ∙ h.0
 
+-- The records are held, or the first answer has them.
+has_or_first : (differ : Bool) (m k : Meaning) (asked : List HaveAndHeld) → HasDistinctSums (state_of m) (state_of k)
+    → differ ≡ get_or (marks_between (state_of m) (state_of k)) 0 true → (differ ≡ true → IsFirst k asked)
+    → HasRecords k (state_of m) ⊎ IsFirst k asked
+has_or_first true m k asked sums is first = inr (first refl)
+has_or_first false m k asked sums is first =
+    inl (λ x has. subst (λ (xs : List Distrust). Has xs x) (sym (same_records (state_of m) (state_of k) sums (sym is))) has)
+
+-- After answers about the buckets that are marked, of which the first has the records if they differ, what is held is what both held together.
+once_joined : (p : Pulling) (m k held : Meaning) (came : List PulledPiece) (written replied rest : List ℕ) (later : List Came) (differ : Bool)
+    → IsMeaning m → IsMeaning k → IsMeaning held → config_id_of m.config ≡ config_id_of k.config
+    → HasDistinctSums (state_of m) (state_of k) → HasDistinctIds (joined (state_of m) (state_of k))
+    → HasPulledAbout (Some (buckets_asked (marks_between (state_of m) (state_of k)))) p m came written → AreAlone m came held
+    → fault_of_pulling p ≡ None → IsOverPulling p → due_have p ≡ [] → differ ≡ get_or (marks_between (state_of m) (state_of k)) 0 true
+    → AnsweredEach (shown_once differ [] later) replied → IsStill k later → bytes_came later ≡ written
+    → bytes_pulled came ++ rest ≡ replied → state_of held ≡ joined (state_of m) (state_of k)
+once_joined p m k held came written replied rest later differ valid other kept same sums ids h alone sound over idle is answered still bytes begins =
+    let marks = marks_between (state_of m) (state_of k) in
+    let buckets = buckets_asked marks in
+    let whole = came_all (Some buckets) (fault_of_pulling p) (answered_of p.plan) p.lines m came (kept_answer p) written (due_have p) sound over idle
+    h.pulls in
+    let done = plan_done (Some buckets) p.lines m held came written whole alone in
+    let below : AreBelow (Some buckets) = λ place within.
+    item_has (λ b. b < 256) buckets place (asked_below marks (length-marks (state_of m) (state_of k))) within in
+    let shows = shows_once k differ later answered.asked still answered.lines in
+    let there = plan_answered_each (Some buckets) m held k.config came written replied rest answered.asked below valid kept same done
+    (own_haves k answered.asked shows.each answered.own)
+    (sym bytes ∙ sym (shown_bytes differ [] later) ∙ answered.text)
+    (shown_forms k answered.asked other shows.each answered.own) answered.said begins in
+    let all_came = done.many in
+    let many : 0 + length done.gives ≡ length buckets = omega (arith, all_came) in
+    ap state_of done.meaning
+    ∙ after_shown m.config k buckets 0 (state_of m) done.gives answered.asked other (formed m valid) shows.each
+    (has_or_first differ m k answered.asked sums is shows.first) there.haves there.gives_are many
+    ∙ both-held m k valid other sums ids
+
 -- After the session what is held is what both held together.
 pub both_joined : (pulling : Pulling) (m k held : Meaning) (came : List PulledPiece) (asked later : List Came) (written said replied left : List ℕ)
-    (count : ℕ) → IsMeaning m → IsMeaning k → IsMeaning held → config_id_of m.config ≡ config_id_of k.config
+    (differ : Bool) → IsMeaning m → IsMeaning k → IsMeaning held → config_id_of m.config ≡ config_id_of k.config
     → HasDistinctSums (state_of m) (state_of k) → HasDistinctIds (joined (state_of m) (state_of k))
     → AsksMarked pulling m came written → AreAlone m came held → fault_of_pulling pulling ≡ None → IsOverPulling pulling → due_have pulling ≡ []
-    → AnswersQuestion k.config asked said → IsStill k asked → ServesAll (known_run (bytes_came later) replied) k count
+    → AnswersQuestion k.config asked said differ → IsStill k asked → IsStill k later → AnsweredEach (shown_once differ [] later) replied
     → bytes_came (asked ++ later) ≡ written → bytes_pulled came ++ left ≡ said ++ replied → state_of held ≡ joined (state_of m) (state_of k)
-both_joined pulling m k held came asked later written said replied left count valid other kept same sums ids marked alone sound over idle question still
-    serves is said_is =
+both_joined pulling m k held came asked later written said replied left differ valid other kept same sums ids marked alone sound over idle question still
+    still_later answered is said_is =
     let one =
-    answered_marks pulling m k k.config came asked written said (bytes_came later) (bytes_pulled marked.later ++ left) replied same marked question still
-    (sym (flat_map-append (λ (c : Came). c.bytes) asked later) ∙ is)
+    answered_marks pulling m k k.config came asked written said (bytes_came later) (bytes_pulled marked.later ++ left) replied differ same marked question
+    still (sym (flat_map-append (λ (c : Came). c.bytes) asked later) ∙ is)
     (sym (append_assoc (bytes_pulled marked.asked) (bytes_pulled marked.later) left)
     ∙ ap (λ (l : List ℕ). l ++ left) (sym (flat_map-append (λ (c : PulledPiece). c.bytes) marked.asked marked.later))
     ∙ ap (λ (ps : List PulledPiece). bytes_pulled ps ++ left) (sym marked.order) ∙ said_is) in
     let parts = halves m marked.asked marked.later held (subst (λ (ps : List PulledPiece). AreAlone m ps held) marked.order alone) in
     let then_is : parts.then ≡ m = quiet_alone m marked.asked parts.then parts.before_it marked.quiet in
     let start_is : marked.then ≡ m = marked.was parts.then parts.before_it ∙ then_is in
-    listed_joins pulling m k held marked.later marked.after replied left count valid other kept same sums ids
+    once_joined pulling m k held marked.later marked.after replied left later differ valid other kept same sums ids
     (subst (λ (ms : List Bool). HasPulledAbout (Some (buckets_asked ms)) pulling m marked.later marked.after) one.are
     (subst (λ (t : Meaning). HasPulledAbout (Some (buckets_asked marked.marks)) pulling t marked.later marked.after) start_is marked.pulls))
-    (subst (λ (t : Meaning). AreAlone t marked.later held) then_is parts.after_it) sound over idle
-    (subst (λ (l : List ℕ). ServesAll (known_run l replied) k count) one.asked serves) one.replied
+    (subst (λ (t : Meaning). AreAlone t marked.later held) then_is parts.after_it) sound over idle one.records answered still_later one.asked one.replied

@@ -6,6 +6,7 @@ mod LawFacts
 mod SessionFacts
 mod QuestionFacts
 mod AnswerFacts
+mod OnceFacts
 mod QuietFacts
 mod QuietStepFacts
 mod QuietPullFacts
@@ -13,6 +14,7 @@ mod KeptFacts
 mod ReadFacts
 mod MarkedFacts
 mod QuietLawFacts
+mod ShownFacts
 mod BothSidesFacts
 mod QuietRunFacts
 mod SizeFacts

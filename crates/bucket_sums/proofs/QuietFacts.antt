@@ -1,5 +1,5 @@
 -- A connection that is served: what one call does.
-use Rattle.std.proofs.Common.{◌≡◌, ◌∙◌, ℕ, zero, suc, inl, inr, Bool, true, false, List, [], ◌∷◌, ◌++◌, length, take, drop}
+use Rattle.std.proofs.Common.{◌≡◌, ◌∙◌, ℕ, zero, suc, inl, inr, Bool, true, false, not, get_or, List, [], ◌∷◌, ◌++◌, length, take, drop}
 use Rattle.std.proofs.Common.{refl, sym, ap, subst, arith, append_assoc, append-nil, take-append-drop}
 use Rattle.std.specs.Prelude.{Option, Some, None, Result, Ok, Err, MatchResult}
 use Rattle.std.proofs.lemmas.Grind.{flat_map-append}
@@ -12,21 +12,25 @@ use Rattle.replica_core.specs.declared.error.SyncError.TheVariants.{BadHeader, N
 use Rattle.replica_texts.specs.Snapshots.{ended, text_of_lines}
 use Rattle.replica_texts.specs.SoleLines.{RefusesSoleHeader, written_header}
 use Rattle.replica_sync.specs.Pieces.{EndsLine, Continues, IsOverlong, kept_part, piece_run}
-use Rattle.replica_sync.specs.ServedPieces.{Came, HasServedPieces, IsStill, bytes_came, came_taken, due_give, fault_of_serving, kept_have}
+use Rattle.replica_sync.specs.ServedPieces.{Came, HasServedPieces, IsStill, bytes_came, came_taken, due_give, fault_of_serving, kept_have, records_answered}
+use Rattle.replica_sync.specs.AnsweredFrom.{answered_from}
 use Rattle.replica_sync.specs.declared.line_part.LinePart.{LinePart}
+use Rattle.replica_sync.specs.declared.answer_records.AnswerRecords.TheVariants.{All}
 use Rattle.replica_sync.specs.declared.piece_serving.Serving.{Serving}
 use Rattle.replica_sync.proofs.ServedPieceFacts.{kept_plain, served_nothing, served_still}
 use Rattle.bucket_sums.specs.Lines.{IsSumLine, differences, part_count}
 use Rattle.bucket_sums.specs.Questions.{IsPlain, StopsAtLine, headed, longest_line, sums_answer}
-use Rattle.bucket_sums.specs.Quiet.{IsAsking, IsOpening, IsServing, OpensPlainly, OpensWith, ServesFrom, StopsOpening}
+use Rattle.bucket_sums.specs.Quiet.{AnswersQuestion, IsAnswering, IsAsking, IsOpening, IsServing, OpensPlainly, ServesFrom, StopsOpening}
+use Rattle.bucket_sums.specs.RecordsOnce.{has_feed, left_out_if, records_due, shown_at, shown_once}
 use Rattle.bucket_sums.specs.Quiet.{fault_in}
 use Rattle.bucket_sums.specs.Serving.{HasTakenQuestion, TakesQuestion, fault_of_question, marks_made, own_sums_of}
 use Rattle.bucket_sums.specs.Sums.{sums_of}
 use Rattle.bucket_sums.specs.Inside.OpeningSteps.{EndsOtherwise}
 use Rattle.bucket_sums.specs.declared.quiet_serving.Opening.{Opening}
-use Rattle.bucket_sums.specs.declared.quiet_serving.Opening.TheVariants.{FirstLine, Question, Over}
+use Rattle.bucket_sums.specs.declared.quiet_serving.Opening.TheVariants.{FirstLine, Question, Plain, Answered}
 use Rattle.bucket_sums.specs.declared.sums_serving.SumsServing.{SumsServing}
 use Rattle.bucket_sums.proofs.CompareFacts.{length-differences}
+use Rattle.bucket_sums.proofs.OnceFacts.{due_first, shown_more}
 use Rattle.bucket_sums.proofs.QuestionFacts.{ended_text}
 
 -- ---- what came, and one piece more
@@ -116,25 +120,41 @@ plainly_on config later c opens = record {
   is = opens.is;
 }
 
-opens_more : (config : Configuration) (asked later : List Came) (said : List ℕ) (c : Came) → OpensWith config asked later said
-    → OpensWith config asked (later ++ c ∷ []) said
-opens_more config asked later said c (inl plain) = inl (plain.0, (plain.1.0, plainly_on config later c plain.1.1))
-opens_more config asked later said c (inr question) = inr question
-
--- One more piece is given to the haves.
+-- One more piece is given to the haves, of which each answer has all records.
 pub serves_on : (config : Configuration) (haves then : Serving) (due : List ℕ) (came : List Came) (c : Came) (written : List ℕ)
-    → ((later : List Came) (after : List ℕ) → HasServedPieces haves later after → HasServedPieces then (later ++ c ∷ []) after)
+    → (HasServedPieces haves came written → HasServedPieces then (came ++ c ∷ []) written) → records_answered then ≡ records_answered haves
     → IsServing config haves due came written → IsServing config then due (came ++ c ∷ []) written
-serves_on config haves then due came c written on serving = record {
-  asked = serving.asked;
-  later = serving.later ++ c ∷ [];
-  order = ap (λ (l : List Came). l ++ c ∷ []) serving.order ∙ append_assoc serving.asked serving.later (c ∷ []);
-  front = serving.front;
-  after = serving.after;
-  parts = serving.parts;
-  opens = opens_more config serving.asked serving.later (serving.front ++ due) c serving.opens;
-  waits = serving.waits;
-  serves = on serving.later serving.after serving.serves;
+serves_on config haves then due came c written on same serving = record {
+  opens = plainly_on config came c serving.opens;
+  all = same ∙ serving.all;
+  none_due = serving.none_due;
+  serves = on serving.serves;
+}
+
+-- which records are due after these bytes of haves, while there is no error
+abbrev pub HasDue : Serving → Bool → List ℕ → Type 0
+HasDue haves differ before = fault_of_serving haves ≡ None → records_answered haves ≡ records_due differ (has_feed before)
+
+-- One more piece is given to the haves after a question.
+pub answers_on : (config : Configuration) (haves then : Serving) (due : List ℕ) (came : List Came) (c : Came) (written : List ℕ)
+    → ((seen : List Came) (after : List ℕ) (differ : Bool) (before : List ℕ) → HasDue haves differ before → HasServedPieces haves seen after
+    → HasServedPieces then (seen ++ shown_at differ before c ∷ []) after)
+    → ((differ : Bool) (before : List ℕ) → HasDue haves differ before → HasDue then differ (before ++ c.bytes))
+    → IsAnswering config haves due came written → IsAnswering config then due (came ++ c ∷ []) written
+answers_on config haves then due came c written on next h = record {
+  asked = h.asked;
+  later = h.later ++ c ∷ [];
+  order = ap (λ (l : List Came). l ++ c ∷ []) h.order ∙ append_assoc h.asked h.later (c ∷ []);
+  front = h.front;
+  after = h.after;
+  parts = h.parts;
+  differ = h.differ;
+  question = h.question;
+  waits = h.waits;
+  serves = subst (λ (l : List Came). HasServedPieces then l h.after) (sym (shown_more h.differ [] h.later c))
+      (on (shown_once h.differ [] h.later) h.after h.differ (bytes_came h.later) h.records h.serves);
+  records = λ sound. next h.differ (bytes_came h.later) h.records sound
+      ∙ ap (λ (l : List ℕ). records_due h.differ (has_feed l)) (sym (came_bytes h.later c));
 }
 
 -- After an error nothing that comes is taken.
@@ -145,9 +165,15 @@ quiet_still (FirstLine part) None why config haves due came c written is h = abs
 quiet_still (FirstLine part) (Some e) why config haves due came c written is h = opening_still config haves due came c written e h
 quiet_still (Question question) None why config haves due came c written is h = absurd (cc)
 quiet_still (Question question) (Some e) why config haves due came c written is h = opening_still config haves due came c written e h
-quiet_still Over f why config haves due came c written is h = (
+quiet_still Plain f why config haves due came c written is h = (
   h.0,
-  serves_on config haves haves due came c written (λ later after serves. haves_still haves why later c after (sym h.0 ∙ is) serves) h.1,
+  serves_on config haves haves due came c written (λ serves. haves_still haves why came c written (sym h.0 ∙ is) serves) refl h.1,
+)
+quiet_still Answered f why config haves due came c written is h = (
+  h.0,
+  answers_on config haves haves due came c written
+      (λ seen after differ before has serves. haves_still haves why seen (shown_at differ before c) after (sym h.0 ∙ is) serves)
+      (λ differ before has sound. absurd (let stopped = sym h.0 ∙ is in cc)) h.1,
 )
 
 -- ---- nothing is taken
@@ -170,6 +196,7 @@ quiet_nothing (FirstLine part) None config haves due m came written sound h = re
   bytes = came_bytes came (record { bytes = []; held = m }) ∙ append-nil (bytes_came came) ∙ h.bytes;
   none = h.none;
   none_due = h.none_due;
+  all = h.all;
 }
 quiet_nothing (FirstLine part) (Some e) config haves due m came written sound h = absurd (cc)
 quiet_nothing (Question question) None config haves due m came written sound h = record {
@@ -183,12 +210,20 @@ quiet_nothing (Question question) None config haves due m came written sound h =
   idle = h.idle;
   none = h.none;
   none_due = h.none_due;
+  all = h.all;
 }
 quiet_nothing (Question question) (Some e) config haves due m came written sound h = absurd (cc)
-quiet_nothing Over f config haves due m came written sound h = (
+quiet_nothing Plain f config haves due m came written sound h = (
   h.0,
   serves_on config haves haves due came (record { bytes = []; held = m }) written
-      (λ later after serves. haves_wait haves m later after (sym h.0 ∙ sound) serves) h.1,
+      (λ serves. haves_wait haves m came written (sym h.0 ∙ sound) serves) refl h.1,
+)
+quiet_nothing Answered f config haves due m came written sound h = (
+  h.0,
+  answers_on config haves haves due came (record { bytes = []; held = m }) written
+      (λ seen after differ before has serves.
+      haves_wait haves (answered_from (records_due differ (has_feed before)) m) seen after (sym h.0 ∙ sound) serves)
+      (λ differ before has calm. has calm ∙ ap (λ (l : List ℕ). records_due differ (has_feed l)) (sym (append-nil before))) h.1,
 )
 
 -- ---- the first line
@@ -218,42 +253,31 @@ plain_long config bytes over = record { text = over.text; rest = over.rest; plai
 
 -- From here on haves come.
 pub opened_haves : (config : Configuration) (then : Serving) (due : List ℕ) (m : Meaning) (came : List Came) (old piece : List ℕ)
-    (r : Result ℕ SyncError) (written : List ℕ) → due ≡ [] → written ≡ [] → bytes_came came ≡ old → IsPlain config (old ++ piece)
+    (r : Result ℕ SyncError) (written : List ℕ) → due ≡ [] → bytes_came came ≡ old → IsPlain config (old ++ piece) → records_answered then ≡ All
     → HasServedPieces then (came ++ came_taken piece m r ∷ []) written → IsServing config then due (came ++ came_taken piece m r ∷ []) written
-opened_haves config then due m came old piece r written idle none bytes plain serves = record {
-  asked = [];
-  later = came ++ came_taken piece m r ∷ [];
-  order = refl;
-  front = [];
-  after = written;
-  parts = refl;
-  opens = inl (
-    refl,
-    (
-      idle,
-      record {
-        before = came;
-        shows = came_taken piece m r;
-        others = [];
-        order = refl;
-        piece = piece;
-        used = taken_of piece r;
-        bytes = taken_is piece m r;
-        is = subst (λ (l : List ℕ). IsPlain config (l ++ piece)) (sym bytes) plain;
-      },
-    ),
-  );
-  waits = λ some. absurd (some idle);
+opened_haves config then due m came old piece r written idle bytes plain all serves = record {
+  opens = record {
+    before = came;
+    shows = came_taken piece m r;
+    others = [];
+    order = refl;
+    piece = piece;
+    used = taken_of piece r;
+    bytes = taken_is piece m r;
+    is = subst (λ (l : List ℕ). IsPlain config (l ++ piece)) (sym bytes) plain;
+  };
+  all = all;
+  none_due = idle;
   serves = serves;
 }
 
 -- The first line continues.
 pub opens_on : (old : List ℕ) (part : LinePart) (then : Serving) (due : List ℕ) (m : Meaning) (came : List Came) (piece : List ℕ) (used : ℕ)
     (written : List ℕ) → Continues (piece_run longest_line old piece) (kept_part part) → used ≡ length piece → bytes_came came ≡ old
-    → written ≡ [] → due ≡ [] → fault_of_serving then ≡ None → due_give then ≡ []
+    → written ≡ [] → due ≡ [] → fault_of_serving then ≡ None → due_give then ≡ [] → records_answered then ≡ All
     → HasServedPieces then (came ++ record { bytes = take used piece; held = m } ∷ []) written
     → IsOpening part then due (came ++ record { bytes = take used piece; held = m } ∷ []) written
-opens_on old part then due m came piece used written goes all bytes none none_due sound idle serves = record {
+opens_on old part then due m came piece used written goes all bytes none none_due sound idle records serves = record {
   serves = serves;
   sound = sound;
   idle = idle;
@@ -263,6 +287,7 @@ opens_on old part then due m came piece used written goes all bytes none none_du
       ∙ sym goes.kept;
   none = none;
   none_due = none_due;
+  all = records;
 }
 
 -- The first line is that of a question.
@@ -270,8 +295,9 @@ pub opens_question : (config : Configuration) (question : SumsServing) (then : S
     (old piece : List ℕ) (used : ℕ) (written : List ℕ) → EndsLine (piece_run longest_line old piece) used (written_header config)
     → bytes_came came ≡ old → written ≡ [] → due ≡ [] → HasTakenQuestion config question (ended (written_header config))
     → own_sums_of question ≡ sums_of (state_of m) → fault_of_question question ≡ None → HasServedPieces then [] []
-    → fault_of_serving then ≡ None → due_give then ≡ [] → IsAsking config question then due (came ++ record { bytes = take used piece; held = m } ∷ []) written
-opens_question config question then due m came old piece used written ends bytes none none_due takes own sound serves ready idle = record {
+    → fault_of_serving then ≡ None → due_give then ≡ [] → records_answered then ≡ All
+    → IsAsking config question then due (came ++ record { bytes = take used piece; held = m } ∷ []) written
+opens_question config question then due m came old piece used written ends bytes none none_due takes own sound serves ready idle records = record {
   held = m;
   was = λ k still. still_last k came (record { bytes = take used piece; held = m }) still;
   sums = own;
@@ -283,6 +309,7 @@ opens_question config question then due m came old piece used written ends bytes
   idle = idle;
   none = none;
   none_due = none_due;
+  all = records;
 }
 
 -- The first line is that of a question of another configuration, or in another format.
@@ -325,6 +352,7 @@ asks_on config question then haves due m came piece used written on own sound as
   idle = asks.idle;
   none = asks.none;
   none_due = asks.none_due;
+  all = asks.all;
 }
 
 -- A line of the question is not one of a sum.
@@ -348,16 +376,19 @@ asked_begun true lines none all = refl
 asked_begun false lines none all = absurd (let short = ap length (none refl) in omega (arith, short, all))
 
 -- The question ended, and its answer is to be written.
-pub asks_end : (config : Configuration) (question : SumsServing) (haves : Serving) (due marks : List ℕ) (came : List Came) (written : List ℕ)
-    → length (marks_made question) ≡ part_count → length (own_sums_of question) ≡ part_count
-    → marks ≡ sums_answer config (marks_made question) → IsAsking config question haves due came written
-    → IsServing config haves marks came written
-asks_end config question haves due marks came written all sums is asks =
+pub asks_end : (config : Configuration) (question : SumsServing) (haves then : Serving) (due marks : List ℕ) (came : List Came) (written : List ℕ)
+    (differ : Bool) → length (marks_made question) ≡ part_count → length (own_sums_of question) ≡ part_count
+    → marks ≡ sums_answer config (marks_made question) → differ ≡ get_or (marks_made question) 0 true
+    → (HasServedPieces haves [] [] → HasServedPieces then [] []) → records_answered then ≡ left_out_if (not differ) (records_answered haves)
+    → IsAsking config question haves due came written → IsAnswering config then marks came written
+asks_end config question haves then due marks came written differ all sums is first keeps left asks =
     let part = subst (λ (f : Option SyncError). TakesQuestion f config question.question (kept_part question.part) (bytes_came came)) asks.sound asks.takes in
     let few = part.few in
     let count : length (marks_made question) ≡ length part.lines =
     ap length part.marks ∙ length-differences part.lines (own_sums_of question) (omega (arith, few, sums)) in
     let begun = asked_begun question.question.is_begun part.lines (λ no. part.none no) (omega (arith, count, all)) in
+    let marked : marks_made question ≡ differences part.lines (sums_of (state_of asks.held)) =
+    part.marks ∙ ap (differences part.lines) asks.sums in
     record {
       asked = came;
       later = [];
@@ -365,7 +396,8 @@ asks_end config question haves due marks came written all sums is asks =
       front = [];
       after = [];
       parts = asks.none;
-      opens = inr (record {
+      differ = differ;
+      question = record {
         held = asks.held;
         was = asks.was;
         lines = part.lines;
@@ -374,10 +406,12 @@ asks_end config question haves due marks came written all sums is asks =
         bytes = part.bytes ∙ ap (λ (b : Bool). text_of_lines (headed config b part.lines) ++ kept_part question.part) begun
             ∙ ap (λ (l : List ℕ). text_of_lines (written_header config ∷ part.lines) ++ l) (part.whole all)
             ∙ append-nil (text_of_lines (written_header config ∷ part.lines));
-        said_is = is ∙ ap (sums_answer config) (part.marks ∙ ap (differences part.lines) asks.sums);
-      });
+        said_is = is ∙ ap (sums_answer config) marked;
+        records = first ∙ ap (λ (ms : List Bool). get_or ms 0 true) marked;
+      };
       waits = λ some. refl;
-      serves = asks.serves;
+      serves = keeps asks.serves;
+      records = λ sound. left ∙ ap (left_out_if (not differ)) asks.all ∙ due_first differ;
     }
 
 -- Out of memory before the haves.
@@ -410,27 +444,29 @@ drop_none (suc count) = refl
 
 -- What was written of the marks is no longer due.
 marks_wrote : (config : Configuration) (haves : Serving) (due later : List ℕ) (came : List Came) (written : List ℕ) (count : ℕ)
-    → later ≡ drop count due → (due ≡ [] → ⊥) → IsServing config haves due came written
-    → IsServing config haves later came (written ++ take count due)
-marks_wrote config haves due later came written count is some serving =
-    let none : serving.after ≡ [] = serving.waits some in
-    let all : (serving.front ++ take count due) ++ later ≡ serving.front ++ due =
-    append_assoc serving.front (take count due) later
-    ∙ ap (λ (l : List ℕ). serving.front ++ (take count due ++ l)) is
-    ∙ ap (λ (l : List ℕ). serving.front ++ l) (take-append-drop count due) in
+    → later ≡ drop count due → (due ≡ [] → ⊥) → IsAnswering config haves due came written
+    → IsAnswering config haves later came (written ++ take count due)
+marks_wrote config haves due later came written count is some h =
+    let none : h.after ≡ [] = h.waits some in
+    let all : (h.front ++ take count due) ++ later ≡ h.front ++ due =
+    append_assoc h.front (take count due) later
+    ∙ ap (λ (l : List ℕ). h.front ++ (take count due ++ l)) is
+    ∙ ap (λ (l : List ℕ). h.front ++ l) (take-append-drop count due) in
     record {
-      asked = serving.asked;
-      later = serving.later;
-      order = serving.order;
-      front = serving.front ++ take count due;
-      after = serving.after;
+      asked = h.asked;
+      later = h.later;
+      order = h.order;
+      front = h.front ++ take count due;
+      after = h.after;
       parts = ap (λ (l : List ℕ). l ++ take count due)
-          (serving.parts ∙ ap (λ (l : List ℕ). serving.front ++ l) none ∙ append-nil serving.front)
-          ∙ sym (append-nil (serving.front ++ take count due))
-          ∙ ap (λ (l : List ℕ). (serving.front ++ take count due) ++ l) (sym none);
-      opens = subst (OpensWith config serving.asked serving.later) (sym all) serving.opens;
+          (h.parts ∙ ap (λ (l : List ℕ). h.front ++ l) none ∙ append-nil h.front)
+          ∙ sym (append-nil (h.front ++ take count due))
+          ∙ ap (λ (l : List ℕ). (h.front ++ take count due) ++ l) (sym none);
+      differ = h.differ;
+      question = subst (λ (l : List ℕ). AnswersQuestion config h.asked l h.differ) (sym all) h.question;
       waits = λ more. none;
-      serves = serving.serves;
+      serves = h.serves;
+      records = h.records;
     }
 
 pub quiet_wrote_marks : (o : Opening) (f : Option SyncError) (config : Configuration) (haves : Serving) (due later : List ℕ) (came : List Came)
@@ -440,25 +476,41 @@ quiet_wrote_marks (FirstLine part) None config haves due later came written coun
 quiet_wrote_marks (FirstLine part) (Some e) config haves due later came written count is some h = absurd (some h.none_due)
 quiet_wrote_marks (Question question) None config haves due later came written count is some h = absurd (some h.none_due)
 quiet_wrote_marks (Question question) (Some e) config haves due later came written count is some h = absurd (some h.none_due)
-quiet_wrote_marks Over f config haves due later came written count is some h =
+quiet_wrote_marks Plain f config haves due later came written count is some h = absurd (some h.1.none_due)
+quiet_wrote_marks Answered f config haves due later came written count is some h =
     (h.0, marks_wrote config haves due later came written count is some h.1)
 
 -- What was written of the haves' answers is no longer due.
 haves_wrote : (config : Configuration) (haves then : Serving) (due : List ℕ) (came : List Came) (written : List ℕ) (count : ℕ)
-    → due ≡ [] → ((later : List Came) (after : List ℕ) → HasServedPieces haves later after
-    → HasServedPieces then later (after ++ take count (due_give haves))) → IsServing config haves due came written
+    → (HasServedPieces haves came written → HasServedPieces then came (written ++ take count (due_give haves)))
+    → records_answered then ≡ records_answered haves → IsServing config haves due came written
     → IsServing config then due came (written ++ take count (due_give haves))
-haves_wrote config haves then due came written count none on serving = record {
-  asked = serving.asked;
-  later = serving.later;
-  order = serving.order;
-  front = serving.front;
-  after = serving.after ++ take count (due_give haves);
-  parts = ap (λ (l : List ℕ). l ++ take count (due_give haves)) serving.parts
-      ∙ append_assoc serving.front serving.after (take count (due_give haves));
+haves_wrote config haves then due came written count on same serving = record {
   opens = serving.opens;
+  all = same ∙ serving.all;
+  none_due = serving.none_due;
+  serves = on serving.serves;
+}
+
+-- The same after a question.
+answers_wrote : (config : Configuration) (haves then : Serving) (due : List ℕ) (came : List Came) (written : List ℕ) (count : ℕ)
+    → due ≡ [] → ((later : List Came) (after : List ℕ) → HasServedPieces haves later after
+    → HasServedPieces then later (after ++ take count (due_give haves))) → records_answered then ≡ records_answered haves
+    → fault_of_serving then ≡ fault_of_serving haves → IsAnswering config haves due came written
+    → IsAnswering config then due came (written ++ take count (due_give haves))
+answers_wrote config haves then due came written count none on same fault h = record {
+  asked = h.asked;
+  later = h.later;
+  order = h.order;
+  front = h.front;
+  after = h.after ++ take count (due_give haves);
+  parts = ap (λ (l : List ℕ). l ++ take count (due_give haves)) h.parts
+      ∙ append_assoc h.front h.after (take count (due_give haves));
+  differ = h.differ;
+  question = h.question;
   waits = λ some. absurd (some none);
-  serves = on serving.later serving.after serving.serves;
+  serves = on (shown_once h.differ [] h.later) h.after h.serves;
+  records = λ sound. same ∙ h.records (sym fault ∙ sound);
 }
 
 -- If nothing is due, nothing more is written.
@@ -487,19 +539,21 @@ stops_wrote config haves then due came written count e on same idle stops = reco
 pub quiet_wrote_haves : (o : Opening) (f : Option SyncError) (config : Configuration) (haves then : Serving) (due : List ℕ) (came : List Came)
     (written : List ℕ) (count : ℕ) → due ≡ [] → ((later : List Came) (after : List ℕ) → HasServedPieces haves later after
     → HasServedPieces then later (after ++ take count (due_give haves)))
-    → fault_of_serving then ≡ fault_of_serving haves → due_give then ≡ drop count (due_give haves) → ServesFrom o f config haves due came written
+    → fault_of_serving then ≡ fault_of_serving haves → records_answered then ≡ records_answered haves
+    → due_give then ≡ drop count (due_give haves) → ServesFrom o f config haves due came written
     → ServesFrom o f config then due came (written ++ take count (due_give haves))
-quiet_wrote_haves (FirstLine part) None config haves then due came written count none on same left h = record {
+quiet_wrote_haves (FirstLine part) None config haves then due came written count none on same records left h = record {
   serves = on came written h.serves;
   sound = same ∙ h.sound;
   idle = left ∙ ap (drop count) h.idle ∙ drop_none count;
   bytes = h.bytes;
   none = none_written written (due_give haves) count h.idle h.none;
   none_due = none;
+  all = records ∙ h.all;
 }
-quiet_wrote_haves (FirstLine part) (Some e) config haves then due came written count none on same left h =
+quiet_wrote_haves (FirstLine part) (Some e) config haves then due came written count none on same records left h =
     stops_wrote config haves then due came written count e on same (left ∙ ap (drop count) h.idle ∙ drop_none count) h
-quiet_wrote_haves (Question question) None config haves then due came written count none on same left h = record {
+quiet_wrote_haves (Question question) None config haves then due came written count none on same records left h = record {
   held = h.held;
   was = h.was;
   sums = h.sums;
@@ -510,8 +564,11 @@ quiet_wrote_haves (Question question) None config haves then due came written co
   idle = left ∙ ap (drop count) h.idle ∙ drop_none count;
   none = none_written written (due_give haves) count h.idle h.none;
   none_due = none;
+  all = records ∙ h.all;
 }
-quiet_wrote_haves (Question question) (Some e) config haves then due came written count none on same left h =
+quiet_wrote_haves (Question question) (Some e) config haves then due came written count none on same records left h =
     stops_wrote config haves then due came written count e on same (left ∙ ap (drop count) h.idle ∙ drop_none count) h
-quiet_wrote_haves Over f config haves then due came written count none on same left h =
-    (h.0 ∙ sym same, haves_wrote config haves then due came written count none on h.1)
+quiet_wrote_haves Plain f config haves then due came written count none on same records left h =
+    (h.0 ∙ sym same, haves_wrote config haves then due came written count (on came written) records h.1)
+quiet_wrote_haves Answered f config haves then due came written count none on same records left h =
+    (h.0 ∙ sym same, answers_wrote config haves then due came written count none on records same h.1)

@@ -28,11 +28,11 @@ use Rattle.bucket_sums.proofs.SessionFacts.{both-held}
 -- ---- buckets
 
 -- What is left of a list from a place on.
-left_items : (xs : List ℕ) (place : ℕ) → place < length xs → drop place xs ≡ get_or xs place 0 ∷ drop (place + 1) xs
+pub left_items : (xs : List ℕ) (place : ℕ) → place < length xs → drop place xs ≡ get_or xs place 0 ∷ drop (place + 1) xs
 left_items xs place within = rw (add-one) (drop-cons xs place 0 within)
 
 -- An item of a list has what all have.
-item_has : (P : ℕ → Type 0) (xs : List ℕ) (place : ℕ) → AllByRecursion P xs → place < length xs → P (get_or xs place 0)
+pub item_has : (P : ℕ → Type 0) (xs : List ℕ) (place : ℕ) → AllByRecursion P xs → place < length xs → P (get_or xs place 0)
 item_has P [] place all within = absurd (omega (arith, within))
 item_has P (x ∷ xs) zero all within = all.0
 item_has P (x ∷ xs) (suc place) all within = item_has P xs place all.1 (omega (arith, within))
@@ -85,7 +85,7 @@ after_is c k bs place state (r ∷ gives) e few =
     ∙ ap (after_answers k state) (sym (left_items bs place (omega (arith, few))))
 
 -- A session without an error that is over has all answers.
-came_all : (plan : Option (List ℕ)) (f : Option SyncError) (answered : ℕ) (lines : AnswerLines) (m : Meaning) (came : List PulledPiece)
+pub came_all : (plan : Option (List ℕ)) (f : Option SyncError) (answered : ℕ) (lines : AnswerLines) (m : Meaning) (came : List PulledPiece)
     (rest written due : List ℕ) → f ≡ None → lines.bucket ≡ 256 → due ≡ [] → PullsPieces plan f answered lines m came rest (written ++ due)
     → HasPulledAll plan lines m came written
 came_all plan None answered lines m came rest written due sound over idle (inl on) = absurd (let below = on.below in omega (arith, below, over))

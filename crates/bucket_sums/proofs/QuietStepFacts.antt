@@ -1,5 +1,5 @@
 -- A connection that is served: one call, by what came before it.
-use Rattle.std.proofs.Common.{◌≡◌, ◌≢◌, ℕ, ◌+◌, ◌<◌, ◌≤◌, inl, inr, List, [], ◌∷◌, ◌++◌, length, take, drop}
+use Rattle.std.proofs.Common.{◌≡◌, ◌∙◌, ◌≢◌, ℕ, ◌+◌, ◌<◌, ◌≤◌, inl, inr, Bool, true, not, get_or, List, [], ◌∷◌, ◌++◌, length, take, drop}
 use Rattle.std.proofs.Common.{refl, sym, ap, subst, arith, drop-drop, length-drop}
 use Rattle.std.specs.Prelude.{Option, Some, None, Result, Ok, Err, IfOk, IsErrAnd, MatchOption, MatchResult}
 use Rattle.std.specs.List.{AllByRecursion}
@@ -14,19 +14,24 @@ use Rattle.replica_core.specs.declared.error.SyncError.TheVariants.{NoMemory}
 use Rattle.replica_texts.specs.Snapshots.{ended}
 use Rattle.replica_texts.specs.SoleLines.{written_header}
 use Rattle.replica_sync.specs.Pieces.{EndsLine, Continues, kept_part, piece_run}
-use Rattle.replica_sync.specs.ServedPieces.{Came, HasServedPieces, came_taken, due_give, fault_of_serving}
+use Rattle.replica_sync.specs.ServedPieces.{Came, HasServedPieces, came_taken, due_give, fault_of_serving, records_answered}
+use Rattle.replica_sync.specs.AnsweredFrom.{answered_from}
+use Rattle.replica_sync.specs.declared.answer_records.AnswerRecords.TheVariants.{All}
 use Rattle.replica_sync.specs.declared.line_part.LinePart.{LinePart}
 use Rattle.replica_sync.specs.declared.piece_serving.Serving.{Serving}
 use Rattle.bucket_sums.specs.Lines.{part_count}
 use Rattle.bucket_sums.specs.Questions.{IsPlain, longest_line, sums_answer}
+use Rattle.bucket_sums.specs.RecordsOnce.{has_feed, left_out_if, records_due, shown_at}
 use Rattle.bucket_sums.specs.Quiet.{IsAsking, IsOpening, ServesFrom, StopsOpening, fault_in, first_due}
 use Rattle.bucket_sums.specs.Serving.{HasTakenQuestion, fault_of_question, marks_made, own_sums_of}
 use Rattle.bucket_sums.specs.Sums.{sums_of}
 use Rattle.bucket_sums.specs.Inside.OpeningSteps.{RefusesOpeningLine}
 use Rattle.bucket_sums.specs.declared.quiet_serving.Opening.{Opening}
-use Rattle.bucket_sums.specs.declared.quiet_serving.Opening.TheVariants.{FirstLine, Over}
+use Rattle.bucket_sums.specs.declared.quiet_serving.Opening.TheVariants.{FirstLine, Plain, Answered}
 use Rattle.bucket_sums.specs.declared.sums_serving.SumsServing.{SumsServing}
-use Rattle.bucket_sums.proofs.QuietFacts.{asks_end, asks_on, fault_is, opened_haves, opening_fails, opening_have_fails, opens_on, opens_otherwise}
+use Rattle.bucket_sums.proofs.OnceFacts.{due_after, whole_shown}
+use Rattle.bucket_sums.proofs.QuietFacts.{answers_on, asks_end, asks_on}
+use Rattle.bucket_sums.proofs.QuietFacts.{fault_is, opened_haves, opening_fails, opening_have_fails, opens_on, opens_otherwise}
 use Rattle.bucket_sums.proofs.QuietFacts.{opens_question, quiet_wrote_haves, quiet_wrote_marks, serves_on}
 
 -- What follows from a session without an error, if what it opens with and the configuration are these.
@@ -63,22 +68,30 @@ plain_piece old piece new goes =
     All-from_recursion (λ b. b ≢ 10) piece
     (by_recursion_back old piece (recursion_from_All (λ b. b ≢ 10) (old ++ piece) (subst HasNoFeed goes.kept goes.plain)))
 
+-- If answers have all records, a piece is answered from what is held.
+pub with_all : (haves then : Serving) (m : Meaning) (came : List Came) (piece : List ℕ) (r : Result ℕ SyncError) (written : List ℕ)
+    → records_answered haves ≡ All → HasServedPieces then (came ++ came_taken piece (answered_from (records_answered haves) m) r ∷ []) written
+    → HasServedPieces then (came ++ came_taken piece m r ∷ []) written
+with_all haves then m came piece r written all serves =
+    subst (λ (k : Meaning). HasServedPieces then (came ++ came_taken piece k r ∷ []) written) (whole_shown (records_answered haves) m all) serves
+
 -- The haves take what comes within the first line.
 pub opening_within : (config : Configuration) (part next : LinePart) (haves then : Serving) (due : List ℕ) (m : Meaning) (came : List Came)
     (piece : List ℕ) (r : Result ℕ SyncError) (written : List ℕ) → Continues (piece_run longest_line (kept_part part) piece) (kept_part next)
-    → ((before : List Came) (after : List ℕ) → HasServedPieces haves before after → HasServedPieces then (before ++ came_taken piece m r ∷ []) after)
+    → ((before : List Came) (after : List ℕ) → HasServedPieces haves before after
+    → HasServedPieces then (before ++ came_taken piece (answered_from (records_answered haves) m) r ∷ []) after)
     → (due_give haves ≡ [] → HasNoFeed piece → IfOk r (λ used. used ≡ length piece))
-    → (due_give haves ≡ [] → HasNoFeed piece → due_give then ≡ [])
+    → (due_give haves ≡ [] → HasNoFeed piece → due_give then ≡ []) → records_answered then ≡ records_answered haves
     → MatchResult r (λ _. fault_of_serving then ≡ None) (λ e. fault_of_serving then ≡ Some e) → IsOpening part haves due came written
     → ServesFrom (FirstLine next) (fault_in r) config then due (came ++ came_taken piece m r ∷ []) written
-opening_within config part next haves then due m came piece (Ok used) written goes serves whole quiet fault h =
+opening_within config part next haves then due m came piece (Ok used) written goes serves whole quiet same fault h =
     let plain = plain_piece (kept_part part) piece (kept_part next) goes in
     opens_on (kept_part part) next then due m came piece used written goes (whole h.idle plain) h.bytes h.none h.none_due fault (quiet h.idle plain)
-    (serves came written h.serves)
-opening_within config part next haves then due m came piece (Err e) written goes serves whole quiet fault h =
+    (same ∙ h.all) (with_all haves then m came piece (Ok used) written h.all (serves came written h.serves))
+opening_within config part next haves then due m came piece (Err e) written goes serves whole quiet same fault h =
     let plain = plain_piece (kept_part part) piece (kept_part next) goes in
-    opening_have_fails config then due came (record { bytes = piece; held = m }) written e fault (serves came written h.serves) h.none h.none_due
-    (quiet h.idle plain)
+    opening_have_fails config then due came (record { bytes = piece; held = m }) written e fault
+    (with_all haves then m came piece (Err e) written h.all (serves came written h.serves)) h.none h.none_due (quiet h.idle plain)
 
 -- The first line is that of a question.
 pub opening_asks : (config : Configuration) (part : LinePart) (question : SumsServing) (haves then : Serving) (due : List ℕ) (m : Meaning)
@@ -86,19 +99,23 @@ pub opening_asks : (config : Configuration) (part : LinePart) (question : SumsSe
     → EndsLine (piece_run longest_line (kept_part part) piece) used (written_header config)
     → HasTakenQuestion config question (ended (written_header config)) → own_sums_of question ≡ sums_of (state_of m)
     → fault_of_question question ≡ None → HasServedPieces then [] [] → fault_of_serving then ≡ None → due_give then ≡ []
-    → IsOpening part haves due came written → IsAsking config question then due (came ++ record { bytes = take used piece; held = m } ∷ []) written
-opening_asks config part question haves then due m came piece used written ends takes own sound serves ready idle h =
-    opens_question config question then due m came (kept_part part) piece used written ends h.bytes h.none h.none_due takes own sound serves ready idle
+    → records_answered then ≡ All → IsOpening part haves due came written
+    → IsAsking config question then due (came ++ record { bytes = take used piece; held = m } ∷ []) written
+opening_asks config part question haves then due m came piece used written ends takes own sound serves ready idle all h =
+    opens_question config question then due m came (kept_part part) piece used written ends h.bytes h.none h.none_due takes own sound serves ready idle all
 
 -- The first line is another one.
 pub opening_haves : (config : Configuration) (part : LinePart) (haves then : Serving) (due : List ℕ) (m : Meaning) (came : List Came)
     (piece : List ℕ) (r : Result ℕ SyncError) (written : List ℕ) → IsPlain config (kept_part part ++ piece)
-    → ((before : List Came) (after : List ℕ) → HasServedPieces haves before after → HasServedPieces then (before ++ came_taken piece m r ∷ []) after)
+    → ((before : List Came) (after : List ℕ) → HasServedPieces haves before after
+    → HasServedPieces then (before ++ came_taken piece (answered_from (records_answered haves) m) r ∷ []) after)
+    → records_answered then ≡ records_answered haves
     → MatchResult r (λ _. fault_of_serving then ≡ None) (λ e. fault_of_serving then ≡ Some e) → IsOpening part haves due came written
-    → ServesFrom Over (fault_in r) config then due (came ++ came_taken piece m r ∷ []) written
-opening_haves config part haves then due m came piece r written plain serves fault h = (
+    → ServesFrom Plain (fault_in r) config then due (came ++ came_taken piece m r ∷ []) written
+opening_haves config part haves then due m came piece r written plain serves same fault h = (
   fault_is r (fault_of_serving then) fault,
-  opened_haves config then due m came (kept_part part) piece r written h.none_due h.none h.bytes plain (serves came written h.serves),
+  opened_haves config then due m came (kept_part part) piece r written h.none_due h.bytes plain (same ∙ h.all)
+      (with_all haves then m came piece r written h.all (serves came written h.serves)),
 )
 
 -- The first line is refused.
@@ -118,16 +135,18 @@ opening_out config part haves due came c written e out h = opening_fails config 
 -- ---- the question
 
 -- The question ends, and is answered.
-pub question_ends : (config : Configuration) (question then : SumsServing) (haves : Serving) (due marks : List ℕ) (m : Meaning)
-    (came : List Came) (piece : List ℕ) (used : ℕ) (written : List ℕ)
+pub question_ends : (config : Configuration) (question then : SumsServing) (haves later : Serving) (due marks : List ℕ) (m : Meaning)
+    (came : List Came) (piece : List ℕ) (used : ℕ) (written : List ℕ) (differ : Bool)
     → ((bytes : List ℕ) → HasTakenQuestion config question bytes → HasTakenQuestion config then (bytes ++ take used piece))
     → own_sums_of then ≡ own_sums_of question → fault_of_question then ≡ None → length (marks_made then) ≡ part_count
-    → length (own_sums_of then) ≡ part_count → marks ≡ sums_answer config (marks_made then) → IsAsking config question haves due came written
-    → ServesFrom Over None config haves marks (came ++ record { bytes = take used piece; held = m } ∷ []) written
-question_ends config question then haves due marks m came piece used written on own sound all sums is asks =
+    → length (own_sums_of then) ≡ part_count → marks ≡ sums_answer config (marks_made then) → differ ≡ get_or (marks_made then) 0 true
+    → (HasServedPieces haves [] [] → HasServedPieces later [] []) → records_answered later ≡ left_out_if (not differ) (records_answered haves)
+    → fault_of_serving later ≡ fault_of_serving haves → IsAsking config question haves due came written
+    → ServesFrom Answered None config later marks (came ++ record { bytes = take used piece; held = m } ∷ []) written
+question_ends config question then haves later due marks m came piece used written differ on own sound all sums is first keeps left fault asks =
     let now = asks_on config question then haves due m came piece used written on own sound asks in (
-      sym asks.ready,
-      asks_end config then haves due marks (came ++ record { bytes = take used piece; held = m } ∷ []) written all sums is now,
+      sym (fault ∙ asks.ready),
+      asks_end config then haves later due marks (came ++ record { bytes = take used piece; held = m } ∷ []) written differ all sums is first keeps left now,
     )
 
 -- Out of memory for the answer.
@@ -139,14 +158,62 @@ question_out config question haves due came c written e out asks =
 
 -- ---- haves
 
--- Haves come already.
-pub over_reads : (config : Configuration) (haves then : Serving) (due : List ℕ) (m : Meaning) (came : List Came) (piece : List ℕ)
+-- Haves come already, and each answer has all records.
+pub plain_reads : (config : Configuration) (haves then : Serving) (due : List ℕ) (m : Meaning) (came : List Came) (piece : List ℕ)
     (r : Result ℕ SyncError) (written : List ℕ)
-    → ((before : List Came) (after : List ℕ) → HasServedPieces haves before after → HasServedPieces then (before ++ came_taken piece m r ∷ []) after)
-    → MatchResult r (λ _. fault_of_serving then ≡ None) (λ e. fault_of_serving then ≡ Some e) → ServesFrom Over None config haves due came written
-    → ServesFrom Over (fault_in r) config then due (came ++ came_taken piece m r ∷ []) written
-over_reads config haves then due m came piece r written serves fault h =
-    (fault_is r (fault_of_serving then) fault, serves_on config haves then due came (came_taken piece m r) written serves h.1)
+    → ((before : List Came) (after : List ℕ) → HasServedPieces haves before after
+    → HasServedPieces then (before ++ came_taken piece (answered_from (records_answered haves) m) r ∷ []) after)
+    → records_answered then ≡ records_answered haves
+    → MatchResult r (λ _. fault_of_serving then ≡ None) (λ e. fault_of_serving then ≡ Some e) → ServesFrom Plain None config haves due came written
+    → ServesFrom Plain (fault_in r) config then due (came ++ came_taken piece m r ∷ []) written
+plain_reads config haves then due m came piece r written serves same fault h = (
+  fault_is r (fault_of_serving then) fault,
+  serves_on config haves then due came (came_taken piece m r) written
+      (λ old. with_all haves then m came piece r written h.1.all (serves came written old)) same h.1,
+)
+
+-- what came by a call, as it is answered from
+shown_taken : (differ : Bool) (before : List ℕ) (haves : Serving) (m : Meaning) (piece : List ℕ) (r : Result ℕ SyncError)
+    → records_answered haves ≡ records_due differ (has_feed before)
+    → came_taken piece (answered_from (records_answered haves) m) r ≡ shown_at differ before (came_taken piece m r)
+shown_taken differ before haves m piece (Ok used) is = ap (λ records. record { bytes = take used piece; held = answered_from records m }) is
+shown_taken differ before haves m piece (Err e) is = ap (λ records. record { bytes = piece; held = answered_from records m }) is
+
+-- Haves come after a question, and there is an error in what comes.
+pub answered_stops : (config : Configuration) (haves then : Serving) (due : List ℕ) (m : Meaning) (came : List Came) (piece : List ℕ)
+    (written : List ℕ) (e : SyncError)
+    → ((before : List Came) (after : List ℕ) → HasServedPieces haves before after
+    → HasServedPieces then (before ++ came_taken piece (answered_from (records_answered haves) m) (Err e) ∷ []) after)
+    → fault_of_serving then ≡ Some e → ServesFrom Answered None config haves due came written
+    → ServesFrom Answered (Some e) config then due (came ++ record { bytes = piece; held = m } ∷ []) written
+answered_stops config haves then due m came piece written e serves fault h = (
+  sym fault,
+  answers_on config haves then due came (record { bytes = piece; held = m }) written
+      (λ seen after differ before has old.
+      subst (λ (c : Came). HasServedPieces then (seen ++ c ∷ []) after) (shown_taken differ before haves m piece (Err e) (has (sym h.0)))
+      (serves seen after old))
+      (λ differ before has sound. absurd (let stopped = fault in cc)) h.1,
+)
+
+-- Haves come after a question. `then` is after the call, and `last` after the records were left out or not.
+pub answered_reads : (config : Configuration) (haves then last : Serving) (due : List ℕ) (m : Meaning) (came : List Came) (piece : List ℕ)
+    (used : ℕ) (written : List ℕ)
+    → ((before : List Came) (after : List ℕ) → HasServedPieces haves before after
+    → HasServedPieces then (before ++ came_taken piece (answered_from (records_answered haves) m) (Ok used) ∷ []) after)
+    → records_answered then ≡ records_answered haves → fault_of_serving then ≡ None
+    → ((before : List Came) (after : List ℕ) → HasServedPieces then before after → HasServedPieces last before after)
+    → records_answered last ≡ left_out_if (has_feed (take used piece)) (records_answered then) → fault_of_serving last ≡ fault_of_serving then
+    → ServesFrom Answered None config haves due came written
+    → ServesFrom Answered None config last due (came ++ record { bytes = take used piece; held = m } ∷ []) written
+answered_reads config haves then last due m came piece used written serves same sound keeps left fault h = (
+  sym (fault ∙ sound),
+  answers_on config haves last due came (record { bytes = take used piece; held = m }) written
+      (λ seen after differ before has old. keeps (seen ++ shown_at differ before (record { bytes = take used piece; held = m }) ∷ []) after
+      (subst (λ (c : Came). HasServedPieces then (seen ++ c ∷ []) after) (shown_taken differ before haves m piece (Ok used) (has (sym h.0)))
+      (serves seen after old)))
+      (λ differ before has calm. left ∙ ap (left_out_if (has_feed (take used piece))) (same ∙ has (sym h.0))
+      ∙ due_after differ before (take used piece)) h.1,
+)
 
 -- ---- what is due
 
@@ -193,8 +260,9 @@ marks_written o f config haves text from count came written less h =
 pub haves_written : (o : Opening) (f : Option SyncError) (config : Configuration) (haves then : Serving) (due : List ℕ) (came : List Came)
     (written : List ℕ) (count : ℕ) → due ≡ [] → ((later : List Came) (after : List ℕ) → HasServedPieces haves later after
     → HasServedPieces then later (after ++ take count (due_give haves)))
-    → fault_of_serving then ≡ fault_of_serving haves → due_give then ≡ drop count (due_give haves) → ServesFrom o f config haves due came written
+    → fault_of_serving then ≡ fault_of_serving haves → records_answered then ≡ records_answered haves
+    → due_give then ≡ drop count (due_give haves) → ServesFrom o f config haves due came written
     → ServesFrom o f config then due came (written ++ take count (first_due due (due_give haves)))
-haves_written o f config haves then due came written count none on same left h =
+haves_written o f config haves then due came written count none on same records left h =
     subst (λ (l : List ℕ). ServesFrom o f config then due came (written ++ take count l)) (sym (first_none due (due_give haves) none))
-    (quiet_wrote_haves o f config haves then due came written count none on same left h)
+    (quiet_wrote_haves o f config haves then due came written count none on same records left h)

@@ -28,7 +28,7 @@ use Rattle.bucket_sums.proofs.LawFacts.{length-marks, same_ids, same_records}
 exact-receipts : IsExactOn IsReceipt receipt_cmp
 exact-receipts a b p q e = one_receipt a b p q e
 
-exact-records : IsExactOn IsDistrust distrust_cmp
+pub exact-records : IsExactOn IsDistrust distrust_cmp
 exact-records a b p q e = one_distrust a b e
 
 exact-ids : IsExactOn Always id_cmp
@@ -73,14 +73,14 @@ held-of-id state bucket r has =
 -- ---- one answer
 
 -- receipts and records of their form, in their orders
-record IsFormed (state : State) : Type 0 where
+pub record IsFormed (state : State) : Type 0 where
   pub receipts : AllByRecursion IsReceipt state.held
   pub records : AllByRecursion IsDistrust state.records
   pub rising : IsStrictlySortedBy receipt_cmp state.held
   pub records_rising : IsStrictlySortedBy distrust_cmp state.records
 
 -- What a replica holds is such.
-formed : (m : Meaning) → IsMeaning m → IsFormed (state_of m)
+pub formed : (m : Meaning) → IsMeaning m → IsFormed (state_of m)
 formed m valid = record { receipts = valid.receipts; records = valid.distrusts; rising = valid.rising; records_rising = valid.records_rising }
 
 module _ (k : Meaning) (valid : IsMeaning k) where
@@ -94,7 +94,7 @@ module _ (k : Meaning) (valid : IsMeaning k) where
       (λ s h. each-from IsReceipt k.held valid.receipts s (filter-from (lacking state bucket) k.held s h).0)
 
   -- An answer keeps the forms and the orders.
-  formed-answer : (state : State) (bucket : ℕ) → IsFormed state → IsFormed (after_answer k state bucket)
+  pub formed-answer : (state : State) (bucket : ℕ) → IsFormed state → IsFormed (after_answer k state bucket)
   formed-answer state bucket own = record {
     receipts = with_items-all IsReceipt receipt_cmp (given state bucket) state.held (given-receipts state bucket) own.receipts;
     records = with_items-all IsDistrust distrust_cmp k.records state.records valid.distrusts own.records;

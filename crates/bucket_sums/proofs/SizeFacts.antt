@@ -1,11 +1,11 @@
 -- How many bytes a question and its answer have.
-use Rattle.std.proofs.Common.{◌≡◌, ◌∙◌, ℕ, ◌+◌, ◌*◌, Bool, List, [], ◌∷◌, ◌++◌, length, map, ap, arith, length-append}
+use Rattle.std.proofs.Common.{◌≡◌, ℕ, ◌+◌, ◌*◌, Bool, List, [], ◌∷◌, length, ap, arith, length-append}
 use Rattle.std.specs.List.{AllByRecursion}
 use Rattle.fed_config.specs.Configuration.{Configuration}
 use Rattle.replica_sync.specs.ServedPieces.{Came, bytes_came}
 use Rattle.replica_texts.specs.Snapshots.{ended, text_of_lines}
 use Rattle.replica_texts.specs.SoleLines.{written_header}
-use Rattle.bucket_sums.specs.Lines.{IsSumLine, mark_of, marks_line, part_count}
+use Rattle.bucket_sums.specs.Lines.{IsSumLine, marks_line, part_count}
 use Rattle.bucket_sums.specs.Questions.{sums_answer}
 use Rattle.bucket_sums.specs.Quiet.{AnswersQuestion}
 
@@ -24,9 +24,9 @@ lines_size (line ∷ lines) each =
     omega (arith, one, first, both, later)
 
 -- a question that is taken whole
-pub question_size : (config : Configuration) (asked : List Came) (said : List ℕ) → AnswersQuestion config asked said
+pub question_size : (config : Configuration) (asked : List Came) (said : List ℕ) (differ : Bool) → AnswersQuestion config asked said differ
     → length (bytes_came asked) ≡ length (written_header config) + 16706
-question_size config asked said h =
+question_size config asked said differ h =
     let is = ap length h.bytes in
     let first = ended_size (written_header config) in
     let both = length-append (ended (written_header config)) (text_of_lines h.lines) in

@@ -6,6 +6,7 @@ pub mod Sessions
 pub mod Lines
 pub mod Questions
 pub mod Serving
+pub mod RecordsOnce
 pub mod Asking
 pub mod Quiet
 pub mod QuietPulls

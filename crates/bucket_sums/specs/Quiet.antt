@@ -1,6 +1,6 @@
 -- A connection that is served: a question of sums or none, and then haves.
-use Rattle.std.specs.Prelude.{◌≡◌, ℕ, ◌⊎◌, List, [], ◌∷◌, ◌++◌, length, take, drop, Option, None}
-use Rattle.std.specs.Prelude.{Some, Result, Ok, Err, ⊤}
+use Rattle.std.specs.Prelude.{◌≡◌, ℕ, ◌⊎◌, Bool, true, List, [], ◌∷◌, ◌++◌, length, take, drop}
+use Rattle.std.specs.Prelude.{Option, None, Some, Result, Ok, Err, ⊤, slice_index_or}
 use Rattle.std.specs.List.{AllByRecursion}
 use Rattle.fed_config.specs.Configuration.{Configuration}
 use Rattle.receipt_core.specs.Acceptance.{Meaning}
@@ -11,15 +11,18 @@ use Rattle.replica_texts.specs.Snapshots.{text_of_lines}
 use Rattle.replica_texts.specs.SoleLines.{written_header}
 use Rattle.replica_sync.specs.Pieces.{kept_part}
 use Rattle.replica_sync.specs.ServedPieces.{Came, HasServedPieces, IsStill, bytes_came, due_give}
-use Rattle.replica_sync.specs.ServedPieces.{fault_of_serving, kept_have}
+use Rattle.replica_sync.specs.ServedPieces.{fault_of_serving, kept_have, records_answered}
 use Rattle.replica_sync.specs.declared.line_part.LinePart.{LinePart}
+use Rattle.replica_sync.specs.declared.answer_records.AnswerRecords.TheVariants.{All}
 use Rattle.replica_sync.specs.declared.piece_serving.Serving.{Serving}
 use Rattle.bucket_sums.specs.Lines.{IsSumLine, differences, part_count}
 use Rattle.bucket_sums.specs.Questions.{IsPlain, StopsAtLine, sums_answer}
+use Rattle.bucket_sums.specs.RecordsOnce.{has_feed, records_due, shown_once}
 use Rattle.bucket_sums.specs.Serving.{HasTakenQuestion, fault_of_question, own_sums_of}
 use Rattle.bucket_sums.specs.Sums.{sums_of}
 use Rattle.bucket_sums.specs.declared.quiet_serving.Opening.{Opening}
-use Rattle.bucket_sums.specs.declared.quiet_serving.Opening.TheVariants.{FirstLine, Question, Over}
+use Rattle.bucket_sums.specs.declared.quiet_serving.Opening.TheVariants.{FirstLine, Question, Plain}
+use Rattle.bucket_sums.specs.declared.quiet_serving.Opening.TheVariants.{Answered}
 use Rattle.bucket_sums.specs.declared.quiet_serving.QuietServing.{QuietServing}
 use Rattle.bucket_sums.specs.declared.sums_serving.SumsServing.{SumsServing}
 
@@ -42,7 +45,8 @@ due_quiet s = first_due (due_marks s) (due_give s.haves)
 abbrev pub HasNoQuestion : Opening → Type 0
 HasNoQuestion (FirstLine part) = ⊤
 HasNoQuestion (Question question) = ⊥
-HasNoQuestion Over = ⊤
+HasNoQuestion Plain = ⊤
+HasNoQuestion Answered = ⊤
 
 -- neither a question nor a have is begun
 abbrev pub IsBetween : QuietServing → Type 0
@@ -64,6 +68,7 @@ pub record IsOpening (part : LinePart) (haves : Serving) (due : List ℕ) (came 
   pub serves : HasServedPieces haves came written
   pub sound : fault_of_serving haves ≡ None
   pub idle : due_give haves ≡ []
+  pub all : records_answered haves ≡ All
   pub bytes : bytes_came came ≡ kept_part part
   pub none : written ≡ []
   pub none_due : due ≡ []
@@ -80,6 +85,7 @@ pub record IsAsking (config : Configuration) (question : SumsServing) (haves : S
   pub serves : HasServedPieces haves [] []
   pub ready : fault_of_serving haves ≡ None
   pub idle : due_give haves ≡ []
+  pub all : records_answered haves ≡ All
   pub none : written ≡ []
   pub none_due : due ≡ []
 
@@ -99,9 +105,10 @@ pub record StopsOpening (config : Configuration) (haves : Serving) (due : List �
 
 -- ---- what follows it
 
--- What came first is this question, and it is answered by its marks against what was held.
-pub record AnswersQuestion (config : Configuration) (asked : List Came)
-    (said : List ℕ) : Type 0 where
+-- What came first is this question, and it is answered by its marks against what was held. The
+-- first mark says whether the records differ.
+pub record AnswersQuestion (config : Configuration) (asked : List Came) (said : List ℕ)
+    (differ : Bool) : Type 0 where
   pub held : Meaning
   pub was : (m : Meaning) → IsStill m asked → held ≡ m
   pub lines : List (List ℕ)
@@ -109,6 +116,7 @@ pub record AnswersQuestion (config : Configuration) (asked : List Came)
   pub all : length lines ≡ part_count
   pub bytes : bytes_came asked ≡ text_of_lines (written_header config ∷ lines)
   pub said_is : said ≡ sums_answer config (differences lines (sums_of (state_of held)))
+  pub records : differ ≡ slice_index_or (differences lines (sums_of (state_of held))) 0 true
 
 -- No question came: what was given with one of the pieces showed that the first line is another
 -- one.
@@ -122,13 +130,17 @@ pub record OpensPlainly (config : Configuration) (came : List Came) : Type 0 whe
   pub bytes : shows.bytes ≡ take used piece
   pub is : IsPlain config (bytes_came before ++ piece)
 
--- what came before the haves, and what is said to it: nothing, or a question and its answer
-abbrev pub OpensWith : Configuration → List Came → List Came → List ℕ → Type 0
-OpensWith config asked later said = ((asked ≡ []) × ((said ≡ []) × OpensPlainly config later))
-    ⊎ AnswersQuestion config asked said
-
--- Haves come, after a question or from the beginning on.
+-- Haves come from the beginning on, and each answer has all records.
 pub record IsServing (config : Configuration) (haves : Serving) (due : List ℕ) (came : List Came)
+    (written : List ℕ) : Type 0 where
+  pub opens : OpensPlainly config came
+  pub all : records_answered haves ≡ All
+  pub none_due : due ≡ []
+  pub serves : HasServedPieces haves came written
+
+-- Haves come after a question. The first answer has the records if they differ, and no other has
+-- any.
+pub record IsAnswering (config : Configuration) (haves : Serving) (due : List ℕ) (came : List Came)
     (written : List ℕ) : Type 0 where
   pub asked : List Came
   pub later : List Came
@@ -136,9 +148,12 @@ pub record IsServing (config : Configuration) (haves : Serving) (due : List ℕ)
   pub front : List ℕ
   pub after : List ℕ
   pub parts : written ≡ front ++ after
-  pub opens : OpensWith config asked later (front ++ due)
+  pub differ : Bool
+  pub question : AnswersQuestion config asked (front ++ due) differ
   pub waits : (due ≡ [] → ⊥) → (after ≡ [])
-  pub serves : HasServedPieces haves later after
+  pub serves : HasServedPieces haves (shown_once differ [] later) after
+  pub records : fault_of_serving haves ≡ None
+      → records_answered haves ≡ records_due differ (has_feed (bytes_came later))
 
 -- ---- the machine
 
@@ -152,8 +167,10 @@ ServesFrom (Question question) None config haves due came written = IsAsking con
     due came written
 ServesFrom (Question question) (Some e) config haves due came written = StopsOpening config haves
     due came written e
-ServesFrom Over fault config haves due came written = (fault ≡ fault_of_serving haves)
+ServesFrom Plain fault config haves due came written = (fault ≡ fault_of_serving haves)
     × IsServing config haves due came written
+ServesFrom Answered fault config haves due came written = (fault ≡ fault_of_serving haves)
+    × IsAnswering config haves due came written
 
 abbrev pub ServesQuietly : Option SyncError → Configuration → QuietServing → List Came → List ℕ
     → Type 0

@@ -25,6 +25,7 @@ ghost use Rattle.bucket_sums.specs.Lines.{part_count};
 ghost use Rattle.bucket_sums.specs.Questions.{sums_answer};
 ghost use Rattle.bucket_sums.specs.Quiet.{AnswersQuestion};
 ghost use Rattle.bucket_sums.specs.QuietPulls.{AsksMarked};
+ghost use Rattle.bucket_sums.specs.RecordsOnce.{shown_once};
 ghost use Rattle.bucket_sums.specs.Sessions.{after_answers, buckets_asked};
 ghost use Rattle.bucket_sums.specs.Sums.{HasDistinctSums, ids_text, marks_between};
 
@@ -60,8 +61,9 @@ pub fn sums_sessions()
         ≡ joined (state_of m) (state_of k) }
 {}
 
-/// After a session over sums the asker holds what it held joined with what the other held, and
-/// nothing else, exactly as after one about all buckets: if no two lists of what both hold have
+/// After a session over sums with a replica whose answers all have its records, the asker holds
+/// what it held joined with what the other held, and nothing else, exactly as after one about all
+/// buckets: if no two lists of what both hold have
 /// one SHA-256, no two receipts of both have one id, nothing else changes what is held, the buckets
 /// that are asked about are those of the marks of both, and the haves were served.
 pub fn quiet_sessions()
@@ -79,7 +81,8 @@ pub fn quiet_sessions()
 {}
 
 /// What both sides of a session over sums do is one session. `written` is what the asker wrote,
-/// and `said` what the other wrote to its question; `replied` is what it wrote to the haves.
+/// and `said` what the other wrote to its question; `replied` is what it wrote to the haves, of
+/// which the first answer has the records if they differ, and no other has any.
 ///
 /// - `marks`: the marks that the asker got are those of what both hold.
 /// - `joins`: after the session the asker holds what it held joined with what the other held, and
@@ -87,27 +90,26 @@ pub fn quiet_sessions()
 ///   one id, and nothing else changes what is held.
 pub fn both_sides()
     ensures marks { (p : Pulling) (m k : Meaning) (config : Configuration) (came : List PulledPiece)
-        (asked : List Came) (written said rest left more : List ℕ)
+        (asked : List Came) (written said rest left more : List ℕ) (differ : Bool)
         → config_id_of m.config ≡ config_id_of config → (marked : AsksMarked p m came written)
-        → AnswersQuestion config asked said → IsStill k asked → bytes_came asked ++ rest ≡ written
+        → AnswersQuestion config asked said differ → IsStill k asked
+        → bytes_came asked ++ rest ≡ written
         → bytes_pulled marked.asked ++ left ≡ said ++ more
         → marked.marks ≡ marks_between (state_of m) (state_of k) }
     ensures joins { (p : Pulling) (s : Serving) (m k held : Meaning) (came : List PulledPiece)
-        (asked later : List Came) (written said replied left : List ℕ)
+        (asked later : List Came) (written said replied left : List ℕ) (differ : Bool)
         → IsMeaning m → IsMeaning k → IsMeaning held
         → config_id_of m.config ≡ config_id_of k.config
         → HasDistinctSums (state_of m) (state_of k)
         → HasDistinctIds (joined (state_of m) (state_of k))
         → AsksMarked p m came written → AreAlone m came held → fault_of_pulling p ≡ None
         → IsOverPulling p → due_have p ≡ []
-        → AnswersQuestion k.config asked said → IsStill k asked → IsStill k later
-        → HasServedPieces s later replied → fault_of_serving s ≡ None → kept_have s ≡ []
-        → due_give s ≡ [] → bytes_came (asked ++ later) ≡ written
+        → AnswersQuestion k.config asked said differ → IsStill k asked → IsStill k later
+        → HasServedPieces s (shown_once differ [] later) replied → fault_of_serving s ≡ None
+        → kept_have s ≡ [] → due_give s ≡ [] → bytes_came (asked ++ later) ≡ written
         → bytes_pulled came ++ left ≡ said ++ replied
         → state_of held ≡ joined (state_of m) (state_of k) }
-{
-    replica_sync::laws::served_pieces();
-}
+{}
 
 /// Whatever the marks are that the other side writes, at most one have for each bucket is asked:
 /// there are 256 at most, and each is about a bucket.
@@ -123,7 +125,7 @@ pub fn asked_buckets()
 /// of 64 digits in a question, and one line of 257 marks in an answer.
 pub fn message_sizes()
     ensures question { (config : Configuration) (asked : List Came) (said : List ℕ)
-        → AnswersQuestion config asked said
+        (differ : Bool) → AnswersQuestion config asked said differ
         → length (bytes_came asked) ≡ length (written_header config) + 16706 }
     ensures answer { (config : Configuration) (marks : List Bool) → length marks ≡ part_count
         → length (sums_answer config marks) ≡ length (written_header config) + 259 }

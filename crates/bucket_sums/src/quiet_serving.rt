@@ -3,8 +3,10 @@ ghost use Rattle.std.specs.Prelude.{◌≡◌, ◌≤◌, ◌<◌, ◌++◌, ◌
 ghost use Rattle.std.specs.Prelude.{IfOk, IfErr, OnOk, MatchResult, drop, length, take, vec_len};
 ghost use Rattle.fed_config.specs.Configuration.{Configuration};
 ghost use Rattle.replica_core.specs.Session.{state_of};
-ghost use Rattle.replica_sync.specs.ServedPieces.{Came, came_taken};
+ghost use Rattle.replica_sync.specs.ServedPieces.{Came, HasServedPieces, came_taken, due_give};
+ghost use Rattle.replica_sync.specs.ServedPieces.{fault_of_serving, records_answered};
 ghost use Rattle.bucket_sums.specs.Keeping.{AreKeptSums};
+ghost use Rattle.bucket_sums.specs.RecordsOnce.{has_feed, left_out_if};
 ghost use Rattle.bucket_sums.specs.Inside.QuietSteps.{limit_of_opening};
 ghost use Rattle.bucket_sums.specs.Questions.{longest_line};
 
@@ -22,16 +24,19 @@ pub(crate) enum Opening {
     FirstLine(LinePart),
     /// It is a question of sums, which has not ended.
     Question(SumsServing),
-    /// It came, and haves come now.
-    Over,
+    /// It is not a question, and haves come.
+    Plain,
+    /// It was a question, which is answered, and haves come now.
+    Answered,
 }
 
 /// A session in which another replica asks, without the connection: it is given the bytes of the
 /// stream in pieces of any size, and says what is to be written.
 ///
 /// If the first line is that of a question of sums, the question is answered with what is held when
-/// that line ends, and haves come after it. Else haves come from the beginning on, and all is as
-/// with a [`Serving`].
+/// that line ends, and haves come after it. If the records of distrust differ, the answer to the
+/// first of these has all records, and no other answer has any. Else haves come from the beginning
+/// on, and all is as with a [`Serving`].
 #[derive(Drop)]
 pub struct QuietServing {
     opening: Opening,
@@ -129,14 +134,20 @@ impl QuietServing {
     {
         let config = closure.config();
         match &mut self.opening {
-            Opening::Over => self.haves.read(alloc, closure, piece),
+            Opening::Plain => self.haves.read(alloc, closure, piece),
+            Opening::Answered => {
+                let used = self.haves.read(alloc, closure, piece)?;
+                leave_out_if(&mut self.haves, has_line_feed(&piece[..used]));
+                Ok(used)
+            }
             Opening::Question(question) => {
                 let used = question.read_lines(alloc, config, piece)?;
                 if question.has_asked() {
                     let marks = question.answer(alloc, config)?;
+                    leave_out_if(&mut self.haves, !question.records_differ());
                     self.marks = marks;
                     self.written = 0;
-                    self.opening = Opening::Over;
+                    self.opening = Opening::Answered;
                 }
                 Ok(used)
             }
@@ -149,7 +160,7 @@ impl QuietServing {
                     Ok(used)
                 }
                 FirstLine::Haves => {
-                    self.opening = Opening::Over;
+                    self.opening = Opening::Plain;
                     self.haves.read(alloc, closure, piece)
                 }
             },
@@ -199,10 +210,29 @@ impl QuietServing {
         match &self.opening {
             Opening::Question(_) => Err(SyncError::Truncated),
             // An error of the haves is the session's, so here they have none.
-            Opening::FirstLine(_) | Opening::Over => match self.haves.end() {
+            Opening::FirstLine(_) | Opening::Plain | Opening::Answered => match self.haves.end() {
                 Ok(()) => Ok(()),
                 Err(_) => Err(SyncError::Truncated),
             },
         }
     }
+}
+
+// Leaves the records out of the answers from now on, if this is true.
+fn leave_out_if(haves: &mut Serving, is_due: bool)
+    ensures serves { (came : List Came) (written : List ℕ)
+        → HasServedPieces haves.old came written → HasServedPieces haves.new came written }
+    ensures records { records_answered haves.new ≡ left_out_if is_due (records_answered haves.old) }
+    ensures due { due_give haves.new ≡ due_give haves.old }
+    ensures fault { fault_of_serving haves.new ≡ fault_of_serving haves.old }
+{
+    if is_due {
+        haves.leave_out_records();
+    }
+}
+
+fn has_line_feed(bytes: &[u8]) -> bool
+    ensures { result ≡ has_feed bytes.now }
+{
+    bytes.contains(&b'\n')
 }

@@ -1,6 +1,6 @@
 //! A question that comes in pieces, and the answer to it.
 ghost use Rattle.std.specs.Prelude.{◌≡◌, ◌↔◌, ◌≤◌, ◌⊎◌, ◌++◌, [], List, ℕ, None, Some, length};
-ghost use Rattle.std.specs.Prelude.{IsTrue, IfOk, IfErr, OnOk, MatchResult};
+ghost use Rattle.std.specs.Prelude.{IsTrue, IfOk, IfErr, OnOk, MatchResult, slice_index_or, true};
 ghost use Rattle.fed_config.specs.Configuration.{Configuration};
 ghost use Rattle.replica_core.specs.declared.error.SyncError.TheVariants.{Truncated};
 ghost use Rattle.replica_texts.specs.Snapshots.{ended};
@@ -169,6 +169,17 @@ impl SumsServing {
         text.extend_from_slice(marks.as_slice())?;
         text.extend_from_slice(b"\n")?;
         Ok(text)
+    }
+
+    /// Whether the sum of the records of distrust is another one. Before its line came this is
+    /// true.
+    pub fn records_differ(&self) -> bool
+        ensures { result ≡ slice_index_or (marks_made self.now) 0 true }
+    {
+        match self.question.sums().marks().first() {
+            Some(mark) => *mark,
+            None => true,
+        }
     }
 
     /// Whether the stream may end here: the question has ended.

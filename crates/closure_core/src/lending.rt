@@ -1,7 +1,7 @@
 //! What a closure lends, in order and without memory: three iterators over slices. Their value in
 //! contracts is the list that is left. Those who implement `Closure` make them, by the numbers of
 //! `nodes` and the rows of `record`; `specs/Inside/` says what these and their flags mean.
-ghost use Rattle.std.specs.Prelude.{◌≡◌, length, IfSome, None, option_copied};
+ghost use Rattle.std.specs.Prelude.{◌≡◌, [], length, IfSome, None, option_copied};
 ghost use Rattle.std.specs.List.{last_or};
 ghost use Rattle.std.specs.Iterator.{YieldsFirstBy, YieldsFirstRef, item_count};
 ghost use Rattle.bundle_doc.specs.Bundle.{doc_id_of};
@@ -163,6 +163,16 @@ impl<'a> Distrusts<'a> {
         Distrusts {
             domains,
             rest: records,
+        }
+    }
+
+    /// None of them.
+    pub fn emptied(self) -> Self
+        ensures { result ≡ [] }
+    {
+        Distrusts {
+            domains: self.domains,
+            rest: &self.rest[..0],
         }
     }
 }

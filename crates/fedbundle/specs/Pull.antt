@@ -4,7 +4,7 @@ use Rattle.std.specs.Prelude.{◌≡◌, ℕ, ◌⊎◌, Result, Ok, Err}
 use Rattle.replica_core.specs.declared.error.SyncError.TheVariants.{Io as StreamFailed}
 use Rattle.replica_sync.specs.SessionRun.{session_run}
 use Rattle.replica_sync.specs.Pulling.{Pulls}
-use Rattle.replica_sync.specs.declared.pulling.PullFault.{PullFault}
+use Rattle.replica_core.specs.declared.error.PullFault.{PullFault}
 use Rattle.fedbundle.specs.CommandRun.{CommandRun, StateRun, PrintsText, WritesNothing}
 use Rattle.command_exits.specs.DeviceRuns.{DeviceRun}
 use Rattle.fedbundle.specs.CommandRun.{CutsOff}

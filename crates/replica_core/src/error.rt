@@ -45,6 +45,16 @@ pub enum SyncError {
     NoMemory,
 }
 
+/// Why a session ended before its last answer was taken whole.
+#[derive(Clone, Copy, Debug, PartialEq, Eq, Error)]
+#[error("{why} taken {taken}")]
+pub struct PullFault {
+    /// The error. Lines are counted from 1 over all answers of the session.
+    pub why: SyncError,
+    /// How many receipts were taken before it that were not held.
+    pub taken: u64,
+}
+
 impl From<AllocError> for SyncError {
     ghost from_gives = { λ _ e. e ≡ NoMemory };
 

@@ -1,5 +1,5 @@
 //! Answers.
-ghost use Rattle.std.specs.Prelude.{◌≡◌, length, map};
+ghost use Rattle.std.specs.Prelude.{◌≡◌, [], length, map};
 ghost use Rattle.std.specs.Iterator.{YieldsFirstRef, item_count};
 ghost use Rattle.std.specs.List.Sorted.{IsStrictlySortedBy};
 ghost use Rattle.replica_core.specs.State.{id_cmp};
@@ -87,6 +87,21 @@ impl<'a> Answer<'a> {
         ensures { result ≡ length self.now.content.records }
     {
         self.records
+    }
+
+    /// The same receipts, and no record.
+    pub fn without_records(self) -> Self
+        ensures { result ≡ record {
+          bucket = self.entry.bucket;
+          config = self.entry.config;
+          content = record { held = self.entry.content.held; records = [] };
+        } }
+    {
+        Answer {
+            records: 0,
+            distrusts: self.distrusts.emptied(),
+            ..self
+        }
     }
 
     /// The records of distrust, and the receipts, each in their order.

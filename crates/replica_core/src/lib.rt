@@ -29,7 +29,7 @@ pub use absorbing::absorb;
 pub use answering::answer;
 pub use asking::have;
 pub use entry::Entry;
-pub use error::SyncError;
+pub use error::{PullFault, SyncError};
 pub use event::Event;
 pub use give::Give;
 pub use have_message::Have;

@@ -9,7 +9,7 @@ mod WorldFacts
 mod BringsFacts
 mod CutFacts
 pub mod ServedPieceFacts
-mod ServeLawFacts
+pub mod ServeLawFacts
 mod NewEntryFacts
 mod NewsFacts
 pub mod PullLinesFacts

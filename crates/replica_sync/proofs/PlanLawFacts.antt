@@ -18,11 +18,13 @@ use Rattle.replica_sync.specs.Plans.{bucket_at, asked_count}
 use Rattle.replica_sync.specs.PulledPieces.{AreAlone, ArePulledGives, PulledGive, PulledPiece, bytes_pulled, gives_of, haves_planned, haves_pulled, pieces_of}
 use Rattle.replica_sync.specs.Pulling.{after_gives, have_in}
 use Rattle.replica_sync.specs.PullSessions.{HasPulledAll}
+use Rattle.replica_sync.specs.ServedPieces.{HaveAndHeld, gives_in_turn}
 use Rattle.replica_sync.specs.Serving.{ServesAll, gives_text}
 use Rattle.replica_sync.specs.SessionRun.{known_run}
 use Rattle.replica_sync.specs.declared.answer_lines.AnswerLines.{AnswerLines}
 use Rattle.replica_sync.proofs.OwnMessageFacts.{answer-given}
 use Rattle.replica_sync.proofs.PullLawFacts.{alone_last, alone_takes, halves, of_config, with_content}
+use Rattle.replica_sync.proofs.ServeLawFacts.{haves_in}
 use Rattle.replica_sync.proofs.SessionFacts.{give_texts, joined-texts, same-haves}
 use Rattle.replica_sync.proofs.UnderstandingFacts.{all-gives, own-have}
 use Rattle.replica_sync.proofs.WelcomeFacts.{IsRisingState, meaning-within, rising-joined, rising-meaning, within-after}
@@ -155,3 +157,36 @@ plan_answered plan m k held came written replied rest count below valid other ke
     let answers = length-map haves (give_of k) in
     one_list gives (all-gives k haves) rest [] done.forms (gives_formed k haves other each) (omega (arith, asked, answers))
     (ap (λ (l : List ℕ). l ++ rest) (sym done.text) ∙ begins ∙ text ∙ sym (append-nil (give_texts (all-gives k haves))))
+
+-- What is answered to each have, of what was held when it ended.
+abbrev pub gives_each : List HaveAndHeld → List GiveMessage
+gives_each asked = map (λ (a : HaveAndHeld). give_of a.held a.have) asked
+
+-- The haves and the answers of a session are those that the other side took and made.
+pub record AreAnswered (plan : Option (List ℕ)) (c : Configuration) (m : Meaning) (gives : List GiveMessage) (asked : List HaveAndHeld) : Type 0 where
+  pub haves : haves_planned plan c 0 (state_of m) gives ≡ haves_in asked
+  pub gives_are : gives ≡ gives_each asked
+
+-- If the other side answered what was asked, of whatever it held, and its answers are what came, they are those that it gave.
+pub plan_answered_each : (plan : Option (List ℕ)) (m held : Meaning) (d : Configuration) (came : List PulledPiece) (written replied rest : List ℕ)
+    (asked : List HaveAndHeld) → AreBelow plan → IsMeaning m → IsMeaning held → config_id_of m.config ≡ config_id_of d
+    → (done : PlanDone plan m held came written) → AllByRecursion (IsHaveOf d) (haves_in asked) → written ≡ flat_map have_text (haves_in asked)
+    → AllByRecursion IsGive (gives_each asked) → replied ≡ gives_in_turn asked → bytes_pulled came ++ rest ≡ replied
+    → AreAnswered plan m.config m done.gives asked
+plan_answered_each plan m held d came written replied rest asked below valid kept same done own text forms said begins =
+    let gives = done.gives in
+    let haves = haves_planned plan m.config 0 (state_of m) gives in
+    let many = done.many in
+    let each = haves_own plan m.config d 0 (state_of m) gives below same (rising-meaning m valid) (subst IsMeaning done.meaning kept)
+    (omega (arith, many)) in
+    let one = same-haves d haves (haves_in asked) each own (sym done.asked ∙ text) in
+    let planned = length_planned plan m.config 0 (state_of m) gives in
+    let taken = ap length one in
+    let number = length-map asked (λ (a : HaveAndHeld). a.have) in
+    let answers = length-map asked (λ (a : HaveAndHeld). give_of a.held a.have) in
+    record {
+      haves = one;
+      gives_are = one_list gives (gives_each asked) rest [] done.forms forms (omega (arith, planned, taken, number, answers))
+          (ap (λ (l : List ℕ). l ++ rest) (sym done.text) ∙ begins ∙ said
+          ∙ sym (flat_map-map give_text (λ (a : HaveAndHeld). give_of a.held a.have) asked) ∙ sym (append-nil (give_texts (gives_each asked))));
+    }

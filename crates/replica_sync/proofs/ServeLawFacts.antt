@@ -95,7 +95,7 @@ still_first m (c ∷ first) last later still =
 -- ---- what is answered
 
 -- the haves
-abbrev haves_in : List HaveAndHeld → List HaveMessage
+abbrev pub haves_in : List HaveAndHeld → List HaveMessage
 haves_in asked = map (λ (a : HaveAndHeld). a.have) asked
 
 haves_own : (m : Meaning) (asked : List HaveAndHeld) → AllByRecursion IsOwnHave asked → AreHeldAt m (map line_of_have asked)
@@ -138,6 +138,29 @@ answers_still m came rest output answers still =
           ∙ sym (length-map answers.asked (λ (a : HaveAndHeld). a.have));
       written = answers.written ∙ gives_still m answers.asked held;
     }
+
+-- The haves of the bytes that came, and the answers to them, however what was held changed.
+pub record AnsweredEach (came : List Came) (written : List ℕ) : Type 0 where
+  pub asked : List HaveAndHeld
+  pub own : AllByRecursion IsOwnHave asked
+  pub lines : (lines_came came).lines ≡ map line_of_have asked
+  pub text : bytes_came came ≡ flat_map have_text (haves_in asked)
+  pub said : written ≡ gives_in_turn asked
+
+pub answered_each : (f : Option SyncError) (came : List Came) (rest written due : List ℕ) → f ≡ None → rest ≡ [] → due ≡ []
+    → ServesPieces f came rest (written ++ due) → AnsweredEach came written
+answered_each None came rest written due sound none idle answers = record {
+  asked = answers.asked;
+  own = answers.each;
+  lines = ap (λ (l : CameLines). l.lines) answers.lines;
+  text = sym (pieces_text (record { lines = []; rest = [] }) came)
+      ∙ ap (λ (l : CameLines). text_of_held l.lines ++ l.rest) answers.lines
+      ∙ ap (λ (l : List ℕ). l ++ rest) (haves_text answers.asked)
+      ∙ ap (λ (l : List ℕ). flat_map have_text (haves_in answers.asked) ++ l) none
+      ∙ append-nil (flat_map have_text (haves_in answers.asked));
+  said = sym (append-nil written) ∙ ap (λ (l : List ℕ). written ++ l) (sym idle) ∙ answers.written;
+}
+answered_each (Some e) came rest written due sound none idle answers = absurd (cc)
 
 -- ---- the session
 

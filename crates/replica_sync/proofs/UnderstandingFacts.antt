@@ -26,7 +26,7 @@ use Rattle.replica_core.specs.declared.error.SyncError.{SyncError}
 use Rattle.replica_core.specs.declared.error.SyncError.TheVariants.{BadHeader, ConfigDiffers, VersionDiffers, NotCanonical, NotRising, BadCount, Truncated}
 use Rattle.replica_core.specs.declared.error.SyncError.TheVariants.{Refused, Io, NoMemory}
 use Rattle.replica_sync.specs.SessionRun.{known_run, session_run, IsWritten}
-use Rattle.replica_sync.specs.declared.pulling.PullFault.{PullFault}
+use Rattle.replica_core.specs.declared.error.PullFault.{PullFault}
 use Rattle.replica_texts.specs.Messages.{have_text, give_text}
 use Rattle.replica_texts.specs.Haves.{IsHaveOf}
 use Rattle.replica_sync.specs.Serving.{ServesAll, ServesUpTo, gives_text}

@@ -5,6 +5,7 @@ pub mod Pulling
 pub mod Events
 pub mod Pieces
 pub mod Plans
+pub mod AnsweredFrom
 pub mod ServedPieces
 pub mod PulledPieces
 pub mod PullSessions

@@ -15,7 +15,7 @@ use Rattle.replica_texts.specs.Snapshots.{is_io}
 use Rattle.replica_texts.specs.Gives.{IsGive, GiveBegins, RefusesHead, RefusesNextEntry}
 use Rattle.replica_texts.specs.Gives.{next_entry_number}
 use Rattle.replica_sync.specs.SessionRun.{SessionRun, IsWritten}
-use Rattle.replica_sync.specs.declared.pulling.PullFault.{PullFault}
+use Rattle.replica_core.specs.declared.error.PullFault.{PullFault}
 
 -- It is an answer of this configuration about the bucket.
 pub record IsGiveAbout (config : Configuration) (bucket : ℕ) (give : GiveMessage) : Type 0 where

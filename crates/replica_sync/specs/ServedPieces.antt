@@ -9,6 +9,7 @@ use Rattle.replica_core.specs.declared.error.SyncError.{SyncError}
 use Rattle.replica_texts.specs.Messages.{as_any_have, any_have_text, give_text}
 use Rattle.replica_texts.specs.Haves.{IsHaveOf, RefusesFurther}
 use Rattle.replica_sync.specs.Pieces.{kept_part}
+use Rattle.replica_sync.specs.declared.answer_records.AnswerRecords.{AnswerRecords}
 use Rattle.replica_sync.specs.declared.piece_serving.Serving.{Serving}
 
 -- ---- what came
@@ -108,6 +109,10 @@ ServesPieces (Some e) came rest output = AnswersUpTo came output e
 abbrev pub HasServedPieces : Serving → List Came → List ℕ → Type 0
 HasServedPieces serving came written = ServesPieces (fault_of_serving serving) came
     (kept_have serving) (written ++ due_give serving)
+
+-- which records the next answer has
+abbrev pub records_answered : Serving → AnswerRecords
+records_answered serving = serving.records
 
 -- what came by a call: the bytes that it took; or all, if there is an error among them
 abbrev pub came_taken : List ℕ → Meaning → Result ℕ SyncError → Came

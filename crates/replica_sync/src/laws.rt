@@ -22,7 +22,7 @@ ghost use Rattle.replica_sync.specs.SessionRun.{ReadSame, SessionRun, known_run,
 ghost use Rattle.replica_sync.specs.Events.{EndsCut, whole_exchanges};
 ghost use Rattle.replica_sync.specs.Pulling.{HasDistinctIds, Pulls, PullsAll, PullsUpTo};
 ghost use Rattle.replica_texts.specs.WrittenSnapshot.{written_snapshot};
-ghost use Rattle.replica_sync.specs.declared.pulling.PullFault.{PullFault};
+ghost use Rattle.replica_core.specs.declared.error.PullFault.{PullFault};
 ghost use Rattle.replica_sync.specs.Pieces.{EndsLine, Continues, PieceRun};
 ghost use Rattle.replica_sync.specs.PulledPieces.{AreAlone, PulledPiece, bytes_pulled};
 ghost use Rattle.replica_sync.specs.PullSessions.{HasPulledPieces, IsOverPulling, count_of_pulling};

@@ -2,15 +2,17 @@
 //!
 //! A session is a machine without a socket, a file or a clock: bytes go in, as the pieces in which
 //! they come, and bytes go out. `line_part` makes whole lines out of pieces. `piece_serving`
-//! answers the haves that come so, and `text_sink` keeps an answer. `piece_pulling` asks about the
-//! buckets of a `bucket_plan`, and takes the answers that come so: `answer_lines` takes their
-//! lines, and `news` what they say: `new_entry` immediately, or records of distrust together.
+//! answers the haves that come so, with the records that `answer_records` says, and `text_sink`
+//! keeps an answer. `piece_pulling` asks about the buckets of a `bucket_plan`, and takes the
+//! answers that come so: `answer_lines` takes their lines, and `news` what they say: `new_entry`
+//! immediately, or records of distrust together.
 //!
 //! `serving` and `pulling` are whole sessions over a source and a sink. `pulling` gives the lines
 //! of its source to the same `answer_lines`.
 #![tactic(auto)]
 
 mod answer_lines;
+mod answer_records;
 mod bucket_plan;
 pub mod laws;
 mod line_part;
@@ -22,12 +24,13 @@ mod pulling;
 mod serving;
 mod text_sink;
 
+pub use answer_records::AnswerRecords;
 pub use line_part::{LinePart, PieceEnd};
 pub use piece_pulling::Pulling;
 pub use piece_serving::Serving;
-pub use pulling::{PullFault, pull};
+pub use pulling::pull;
 pub use replica_core::{
-    Answer, Event, Give, Have, Lacking, SyncError, absorb, answer, have, run_world,
+    Answer, Event, Give, Have, Lacking, PullFault, SyncError, absorb, answer, have, run_world,
 };
 pub use replica_texts::{
     Wanted, next_entry, read_first_line, read_give, read_give_line, read_have, read_have_line,

@@ -8,8 +8,12 @@ ghost use Rattle.replica_texts.specs.Messages.{give_text};
 ghost use Rattle.byte_lines.specs.Limits.{line_limit};
 ghost use Rattle.byte_lines.specs.Lines.{HasNoFeed};
 ghost use Rattle.replica_sync.specs.Pieces.{longest};
+ghost use Rattle.replica_sync.specs.AnsweredFrom.{answered_from};
 ghost use Rattle.replica_sync.specs.Inside.ServingSteps.{AnswersLine};
+ghost use Rattle.replica_sync.specs.declared.answer_records.AnswerRecords.TheVariants.{All};
+ghost use Rattle.replica_sync.specs.declared.answer_records.AnswerRecords.TheVariants.{LeftOut};
 
+use crate::answer_records::AnswerRecords;
 use crate::line_part::{LinePart, PieceEnd};
 use crate::text_sink::TextSink;
 use closure_core::Closure;
@@ -28,6 +32,8 @@ const LONGEST_HAVE: usize = 8_388_608;
 #[derive(Drop)]
 pub struct Serving {
     part: LinePart,
+    // Which records the next answer has.
+    records: AnswerRecords,
     // The answer that is being written, and how much of it was.
     answer: Vec<u8>,
     written: usize,
@@ -39,6 +45,7 @@ pub struct Serving {
 impl Serving {
     ghost use Rattle.replica_sync.specs.ServedPieces.{Came, HasServedPieces, came_taken};
     ghost use Rattle.replica_sync.specs.ServedPieces.{due_give, fault_of_serving, kept_have};
+    ghost use Rattle.replica_sync.specs.ServedPieces.{records_answered};
     ghost use Rattle.replica_sync.specs.Inside.ServingSteps.{RefusesPiece, TakesHave};
 
     /// The beginning of a session.
@@ -46,13 +53,26 @@ impl Serving {
         ensures begins { HasServedPieces result [] [] }
         ensures sound { fault_of_serving result ≡ None }
         ensures idle { due_give result ≡ [] }
+        ensures records { records_answered result ≡ All }
     {
         Serving {
             part: LinePart::new(alloc, LONGEST_HAVE),
+            records: AnswerRecords::All,
             answer: Vec::new(alloc),
             written: 0,
             fault: None,
         }
+    }
+
+    /// Leaves the records of distrust out of all answers from now on.
+    pub fn leave_out_records(&mut self)
+        ensures serves { (came : List Came) (written : List ℕ)
+            → HasServedPieces self.old came written → HasServedPieces self.new came written }
+        ensures records { records_answered self.new ≡ LeftOut }
+        ensures due { due_give self.new ≡ due_give self.old }
+        ensures fault { fault_of_serving self.new ≡ fault_of_serving self.old }
+    {
+        self.records = AnswerRecords::LeftOut;
     }
 
     /// Takes the next bytes of the stream, up to the end of a have at most, and returns how many
@@ -77,7 +97,9 @@ impl Serving {
     ) -> Result<usize, SyncError>
         ensures serves { (came : List Came) (written : List ℕ)
             → HasServedPieces self.old came written → HasServedPieces self.new
-            (came ++ came_taken piece.now (C.state closure.now).meaning result ∷ []) written }
+            (came ++ came_taken piece.now (answered_from (records_answered self.old)
+            (C.state closure.now).meaning) result ∷ []) written }
+        ensures records { records_answered self.new ≡ records_answered self.old }
         ensures taken { IfOk result (λ used. (used ≤ length piece.now)
             × ((used ≡ length piece.now) ⊎ (0 < length (due_give self.new)))) }
         ensures whole { due_give self.old ≡ [] → HasNoFeed piece.now
@@ -110,10 +132,13 @@ impl Serving {
         piece: &[u8],
     ) -> Result<usize, SyncError>
         requires idle { due_give self.old ≡ [] }
-        ensures ok { IfOk result (λ used. TakesHave (C.state closure.now).meaning
+        ensures ok { IfOk result (λ used. TakesHave
+            (answered_from (records_answered self.old) (C.state closure.now).meaning)
             (kept_have self.old) piece.now used (kept_have self.new) (due_give self.new)) }
-        ensures refused { IfErr result (λ e. RefusesPiece (C.state closure.now).meaning
+        ensures refused { IfErr result (λ e. RefusesPiece
+            (answered_from (records_answered self.old) (C.state closure.now).meaning)
             (kept_have self.old) piece.now e) }
+        ensures records { records_answered self.new ≡ records_answered self.old }
         ensures quiet { IfErr result (λ e. due_give self.new ≡ []) }
         ensures fault { self.new.fault ≡ self.old.fault }
     {
@@ -121,7 +146,7 @@ impl Serving {
             PieceEnd::Within => Ok(piece.len()),
             PieceEnd::TooLong => Err(SyncError::BadHeader),
             PieceEnd::Line(used) => {
-                let answer = give_of_line(alloc, closure, self.part.line())?;
+                let answer = give_of_line(alloc, closure, self.records, self.part.line())?;
                 self.answer = answer;
                 self.written = 0;
                 Ok(used)
@@ -144,6 +169,7 @@ impl Serving {
             → HasServedPieces self.new came (written ++ take count (due_give self.old)) }
         ensures due { due_give self.new ≡ drop count (due_give self.old) }
         ensures fault { fault_of_serving self.new ≡ fault_of_serving self.old }
+        ensures records { records_answered self.new ≡ records_answered self.old }
     {
         self.written += count;
         if self.written == self.answer.len() {
@@ -177,25 +203,41 @@ impl Serving {
     }
 }
 
-// The answer to the have whose line this is, of what the closure holds.
-fn give_of_line<C: Closure>(alloc: Global, closure: &C, text: &[u8]) -> Result<Vec<u8>, SyncError>
+// The answer to the have whose line this is, of what the closure holds, with these records.
+fn give_of_line<C: Closure>(
+    alloc: Global,
+    closure: &C,
+    records: AnswerRecords,
+    text: &[u8],
+) -> Result<Vec<u8>, SyncError>
     ensures ok { IfOk result
-        (λ give. AnswersLine (C.state closure.now).meaning text.now give.items) }
+        (λ give. AnswersLine (answered_from records (C.state closure.now).meaning) text.now
+        give.items) }
     ensures refused { IfErr result
         (RefusesHaveLine (Some (C.state closure.now).meaning.config) text.now) }
 {
     let have = read_have_line(alloc, closure.config(), text)?;
-    let give = give_to(alloc, closure, &have)?;
+    let give = give_to(alloc, closure, records, &have)?;
     Ok(give)
 }
 
-// The answer to the have, of what the closure holds.
-fn give_to<C: Closure>(alloc: Global, closure: &C, have: &Have) -> Result<Vec<u8>, AllocError>
-    ensures { IfOk result
-        (λ text. text.items ≡ give_text (give_of (C.state closure.now).meaning have.now)) }
+// The answer to the have, of what the closure holds, with these records.
+fn give_to<C: Closure>(
+    alloc: Global,
+    closure: &C,
+    records: AnswerRecords,
+    have: &Have,
+) -> Result<Vec<u8>, AllocError>
+    ensures { IfOk result (λ text. text.items
+        ≡ give_text (give_of (answered_from records (C.state closure.now).meaning) have.now)) }
 {
     let mut sink = TextSink::new(alloc);
-    match write_answer(alloc, answer(closure, have), &mut sink) {
+    let whole = answer(closure, have);
+    let given = match records {
+        AnswerRecords::All => whole,
+        AnswerRecords::LeftOut => whole.without_records(),
+    };
+    match write_answer(alloc, given, &mut sink) {
         Ok(()) => Ok(sink.into_text()),
         Err(_) => Err(AllocError),
     }

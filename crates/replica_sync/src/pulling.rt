@@ -17,20 +17,9 @@ use crate::answer_lines::AnswerLines;
 use crate::news::News;
 use byte_lines::{Line, LineBuf, Sink, Source};
 use closure_core::Closure;
-use replica_core::{SyncError, have};
+use replica_core::{PullFault, SyncError, have};
 use replica_texts::write_have;
 use std::alloc::Global;
-use thiserror::Error;
-
-/// Why a session ended before its last answer was taken whole.
-#[derive(Clone, Copy, Debug, PartialEq, Eq, Error)]
-#[error("{why} taken {taken}")]
-pub struct PullFault {
-    /// The error. Lines are counted from 1 over all answers of the session.
-    pub why: SyncError,
-    /// How many receipts were taken before it that were not held.
-    pub taken: u64,
-}
 
 /// Asks about each bucket in order, from 0 to 255, and takes each answer line by line. Returns how
 /// many receipts are held now that were not.

@@ -1,27 +1,58 @@
-use Rattle.std.proofs.Common.{◌∙◌, ◌++◌, ◌∷◌, [], refl, sym, subst, take}
+use Rattle.std.proofs.Common.{◌∙◌, ◌++◌, ◌∷◌, [], refl, sym, ap, subst, take}
 use Rattle.std.specs.Prelude.{None, Some}
 use Rattle.replica_core.specs.declared.error.SyncError.TheVariants.{NoMemory}
-use Rattle.replica_sync.specs.ServedPieces.{came_taken}
+use Rattle.replica_sync.specs.ServedPieces.{came_taken, records_answered}
+use Rattle.bucket_sums.specs.RecordsOnce.{left_out_if}
 use Rattle.bucket_sums.specs.Quiet.{ServesFrom, due_marks, fault_in}
-use Rattle.bucket_sums.specs.declared.quiet_serving.Opening.TheVariants.{FirstLine, Question, Over}
+use Rattle.bucket_sums.specs.declared.quiet_serving.Opening.TheVariants.{FirstLine, Question, Plain, Answered}
 use Rattle.bucket_sums.proofs.QuietFacts.{asks_on, asks_stops}
-use Rattle.bucket_sums.proofs.QuietStepFacts.{failed, opening_asks, opening_haves, opening_out, opening_stops, opening_within, over_reads}
+use Rattle.bucket_sums.proofs.QuietStepFacts.{failed, opening_asks, opening_haves, opening_out, opening_stops, opening_within, plain_reads}
+use Rattle.bucket_sums.proofs.QuietStepFacts.{answered_reads, answered_stops}
 use Rattle.bucket_sums.proofs.QuietStepFacts.{question_ends, question_out, step_from}
 use Rattle.bucket_sums.proofs.quiet_serving.QuietServing.advance.Goals as goal
 
-pub returns-in-Over-clause-serves : goal.returns-in-Over-clause-serves
-returns-in-Over-clause-serves g c config came written own kept h =
+pub returns-in-Plain-clause-serves : goal.returns-in-Plain-clause-serves
+returns-in-Plain-clause-serves g c config came written own kept h =
     let self = c.args.self.now in
     let m = (g.C.Closure.state c.args.closure.now).meaning in
-    let k = c.config-config.result.now in
-    let same = c.config-config.ensures.config ∙ own in
     let piece = c.args.piece.now in
     let due = due_marks self in
     let then = c.read.new.self in
     let r = c.read.result in
-    subst (λ o. ServesFrom o (fault_in r) config then due (came ++ came_taken piece m r ∷ []) written) (sym c.in-Over.is)
-    (over_reads config self.haves then due m came piece r written c.read.ensures.serves c.read.ensures.fault
-    (subst (λ o. ServesFrom o None config self.haves due came written) c.in-Over.is h))
+    subst (λ o. ServesFrom o (fault_in r) config then due (came ++ came_taken piece m r ∷ []) written) (sym c.in-Plain.is)
+    (plain_reads config self.haves then due m came piece r written c.read.ensures.serves c.read.ensures.records c.read.ensures.fault
+    (subst (λ o. ServesFrom o None config self.haves due came written) c.in-Plain.is h))
+
+pub returns-in_err-used-in-Answered-clause-serves : goal.returns-in_err-used-in-Answered-clause-serves
+returns-in_err-used-in-Answered-clause-serves g c config came written own kept h =
+    let self = c.args.self.now in
+    let m = (g.C.Closure.state c.args.closure.now).meaning in
+    let piece = c.args.piece.now in
+    let due = due_marks self in
+    let err = c.in_err-used-in-Answered in
+    let e = err.field-0.0 in
+    let then = c.read-in-Answered.new.self in
+    let exit = c.from_residual in
+    failed self.opening config then due m came piece written exit.result e exit.ensures.1
+    (subst (λ o. ServesFrom o (Some e) config then due (came ++ record { bytes = piece; held = m } ∷ []) written) (sym c.in-Answered.is)
+    (answered_stops config self.haves then due m came piece written e err.ensures.serves err.ensures.fault
+    (subst (λ o. ServesFrom o None config self.haves due came written) c.in-Answered.is h)))
+
+pub returns-in_ok-used-in-Answered-clause-serves : goal.returns-in_ok-used-in-Answered-clause-serves
+returns-in_ok-used-in-Answered-clause-serves g c config came written own kept h =
+    let self = c.args.self.now in
+    let m = (g.C.Closure.state c.args.closure.now).meaning in
+    let piece = c.args.piece.now in
+    let due = due_marks self in
+    let ok = c.in_ok-used-in-Answered in
+    let used = ok.used in
+    let then = c.read-in-Answered.new.self in
+    let last = c.leave_out_if.new.haves in
+    let left = c.leave_out_if.ensures in
+    subst (λ o. ServesFrom o None config last due (came ++ record { bytes = take used piece; held = m } ∷ []) written) (sym c.in-Answered.is)
+    (answered_reads config self.haves then last due m came piece used written ok.ensures.serves c.read-in-Answered.ensures.records ok.ensures.fault
+    left.serves (left.records ∙ ap (λ b. left_out_if b (records_answered then)) c.has_line_feed.ensures) left.fault
+    (subst (λ o. ServesFrom o None config self.haves due came written) c.in-Answered.is h))
 
 pub returns-in_err-used-in-Question-clause-serves : goal.returns-in_err-used-in-Question-clause-serves
 returns-in_err-used-in-Question-clause-serves g c config came written own kept h =
@@ -35,7 +66,8 @@ returns-in_err-used-in-Question-clause-serves g c config came written own kept h
     let new = c.read_lines.new.self in
     let err = c.in_err-used-in-Question in
     let e = err.field-0.0 in
-    failed (Question new) config self.haves due m came piece written c.from_residual.result e c.from_residual.ensures.1
+    let exit = c.from_residual-in_err-used-in-Question in
+    failed (Question new) config self.haves due m came piece written exit.result e exit.ensures.1
     (step_from self.opening (Question old) k config self.haves due came written
     (λ d. ServesFrom (Question new) (Some e) d self.haves due (came ++ record { bytes = piece; held = m } ∷ []) written) c.in-Question.is same
     (λ asks. asks_stops k old new self.haves due m came piece written e err.ensures.takes err.ensures.fault asks) h)
@@ -69,10 +101,13 @@ returns-in_ok-marks-in-Question-clause-serves g c config came written own kept h
     let read = c.in_ok-used-in-Question in
     let used = read.used in
     let marks = c.in_ok-marks-in-Question in
+    let later = c.leave_out_if-then-has_asked.new.haves in
+    let left = c.leave_out_if-then-has_asked.ensures in
     step_from self.opening (Question old) k config self.haves due came written
-    (λ d. ServesFrom Over None d self.haves marks.marks.items (came ++ record { bytes = take used piece; held = m } ∷ []) written) c.in-Question.is same
-    (λ asks. question_ends k old new self.haves due marks.marks.items m came piece used written read.ensures.takes c.read_lines.ensures.own
-    read.ensures.fault (c.has_asked.ensures.asked.0 c.if-has_asked.true) c.has_asked.ensures.all marks.ensures asks) h
+    (λ d. ServesFrom Answered None d later marks.marks.items (came ++ record { bytes = take used piece; held = m } ∷ []) written) c.in-Question.is same
+    (λ asks. question_ends k old new self.haves later due marks.marks.items m came piece used written c.records_differ.result read.ensures.takes
+    c.read_lines.ensures.own read.ensures.fault (c.has_asked.ensures.asked.0 c.if-has_asked.true) c.has_asked.ensures.all marks.ensures
+    c.records_differ.ensures (left.serves [] []) left.records left.fault asks) h
 
 pub returns-else-has_asked-clause-serves : goal.returns-else-has_asked-clause-serves
 returns-else-has_asked-clause-serves g c config came written own kept h =
@@ -124,7 +159,7 @@ returns-in-Within-clause-serves g c config came written own kept h =
     step_from self.opening (FirstLine part) k config self.haves due came written
     (λ d. ServesFrom (FirstLine next) (fault_in r) d then due (came ++ came_taken piece m r ∷ []) written) c.in-FirstLine.is same
     (λ opens. opening_within k part next self.haves then due m came piece r written goes c.read-in-Within.ensures.serves
-    c.read-in-Within.ensures.whole c.read-in-Within.ensures.quiet c.read-in-Within.ensures.fault opens) h
+    c.read-in-Within.ensures.whole c.read-in-Within.ensures.quiet c.read-in-Within.ensures.records c.read-in-Within.ensures.fault opens) h
 
 pub returns-in_err-own-in-Sums-clause-serves : goal.returns-in_err-own-in-Sums-clause-serves
 returns-in_err-own-in-Sums-clause-serves g c config came written own kept h =
@@ -160,7 +195,7 @@ returns-in_ok-own-in-Sums-clause-serves g c config came written own kept h =
     (λ d. ServesFrom (Question question) None d then due (came ++ record { bytes = take used piece; held = m } ∷ []) written) c.in-FirstLine.is same
     (λ opens. opening_asks k part question self.haves then due m came piece used written ends (c.after_first_line.ensures.begins k)
     (c.after_first_line.ensures.own ∙ c.in_ok-own-in-Sums.ensures.sums kept) c.after_first_line.ensures.sound c.new.ensures.begins c.new.ensures.sound
-    c.new.ensures.idle opens) h
+    c.new.ensures.idle c.new.ensures.records opens) h
 
 pub returns-in-Haves-clause-serves : goal.returns-in-Haves-clause-serves
 returns-in-Haves-clause-serves g c config came written own kept h =
@@ -176,5 +211,6 @@ returns-in-Haves-clause-serves g c config came written own kept h =
     let r = c.read-in-Haves.result in
     let plain = rw c.in-Haves.is at c.in_ok-take_first_line-in-FirstLine.ensures.ok in
     step_from self.opening (FirstLine part) k config self.haves due came written
-    (λ d. ServesFrom Over (fault_in r) d then due (came ++ came_taken piece m r ∷ []) written) c.in-FirstLine.is same
-    (λ opens. opening_haves k part self.haves then due m came piece r written plain c.read-in-Haves.ensures.serves c.read-in-Haves.ensures.fault opens) h
+    (λ d. ServesFrom Plain (fault_in r) d then due (came ++ came_taken piece m r ∷ []) written) c.in-FirstLine.is same
+    (λ opens. opening_haves k part self.haves then due m came piece r written plain c.read-in-Haves.ensures.serves c.read-in-Haves.ensures.records
+    c.read-in-Haves.ensures.fault opens) h

@@ -9,4 +9,5 @@ returns c config = record {
   bytes = sym c.new.ensures.empty;
   none = refl;
   none_due = c.new-3.ensures.items;
+  all = c.new-2.ensures.records;
 }

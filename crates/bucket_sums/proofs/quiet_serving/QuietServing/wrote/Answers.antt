@@ -19,5 +19,5 @@ returns-else-self-len c =
     record {
       serves = λ config came written h.
           haves_written self.opening self.fault config self.haves c.wrote.new.self (due_marks self) came written c.args.count none
-          c.wrote.ensures.serves c.wrote.ensures.fault c.wrote.ensures.due h;
+          c.wrote.ensures.serves c.wrote.ensures.fault c.wrote.ensures.records c.wrote.ensures.due h;
     }
