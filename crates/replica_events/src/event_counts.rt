@@ -1,5 +1,6 @@
 //! Events that may come often: for each kind one line a second is written, which says how many
 //! there were.
+use crate::error_stream::ErrorStream;
 use crate::event_log::{LogEvent, log_event, log_times};
 use std::alloc::Global;
 use std::io::Eprint;
@@ -32,7 +33,14 @@ impl EventCounts {
 
     /// An event came. The first of its kind is written immediately, and so is one that is not
     /// counted.
-    pub fn note<R: Eprint>(&mut self, rt: &R, alloc: Global, event: LogEvent, now: Instant) {
+    pub fn note<R: Eprint>(
+        &mut self,
+        rt: &R,
+        alloc: Global,
+        errors: &mut ErrorStream,
+        event: LogEvent,
+        now: Instant,
+    ) {
         for kind in &mut self.kinds {
             if kind.event.is_counted_with(&event) {
                 kind.event = event;
@@ -40,7 +48,7 @@ impl EventCounts {
                 return;
             }
         }
-        log_event(rt, alloc, event);
+        log_event(rt, alloc, errors, event);
         if event.is_counted_with(&event) {
             // Without memory each is written.
             let _ = self.kinds.push(CountedKind {
@@ -52,11 +60,17 @@ impl EventCounts {
     }
 
     /// Writes a line for each kind of which some came since the last one, a second after that.
-    pub fn print_out<R: Eprint>(&mut self, rt: &R, alloc: Global, now: Instant) {
+    pub fn print_out<R: Eprint>(
+        &mut self,
+        rt: &R,
+        alloc: Global,
+        errors: &mut ErrorStream,
+        now: Instant,
+    ) {
         let second = Duration::from_secs(COUNT_SECONDS);
         for kind in &mut self.kinds {
             if kind.times > 0 && now.duration_since(kind.stated) >= second {
-                log_times(rt, alloc, kind.event, kind.times);
+                log_times(rt, alloc, errors, kind.event, kind.times);
                 kind.times = 0;
                 kind.stated = now;
             }
@@ -65,10 +79,10 @@ impl EventCounts {
     }
 
     /// Writes a line for each kind of which some came since the last one: the replica ends.
-    pub fn print_all<R: Eprint>(&mut self, rt: &R, alloc: Global) {
+    pub fn print_all<R: Eprint>(&mut self, rt: &R, alloc: Global, errors: &mut ErrorStream) {
         for kind in &self.kinds {
             if kind.times > 0 {
-                log_times(rt, alloc, kind.event, kind.times);
+                log_times(rt, alloc, errors, kind.event, kind.times);
             }
         }
         self.kinds.clear();

@@ -1,5 +1,6 @@
 //! Events on standard error: a line for each, pairs of a name and a value in a fixed order. They
 //! contain no data that a peer supplied. `event_counts` writes one line for several events.
+use crate::error_stream::ErrorStream;
 use change_view::{HeldChange, NewEntries, push_event};
 use peer_talks::Ending;
 use replica_sync::SyncError;
@@ -46,30 +47,36 @@ pub enum LogEvent {
     AuditFault(SyncError),
 }
 
-/// Writes the event's line immediately. If it cannot be written, nothing else changes.
-pub fn log_event<R: Eprint>(rt: &R, alloc: Global, event: LogEvent) {
+/// Writes the event's line now, or leaves it out: an [`ErrorStream`] does not wait.
+pub fn log_event<R: Eprint>(rt: &R, alloc: Global, errors: &mut ErrorStream, event: LogEvent) {
     if let Ok(line) = format!(in alloc; "{event}\n") {
-        let _ = rt.eprint(line);
+        errors.write(rt, alloc, line.as_str());
     }
 }
 
-/// Writes the line of a change that is on the disk. If it cannot be written, nothing else changes.
-pub fn log_change<R: Eprint>(rt: &R, alloc: Global, change: &HeldChange) {
+/// Writes the line of a change that is on the disk, or leaves it out.
+pub fn log_change<R: Eprint>(rt: &R, alloc: Global, errors: &mut ErrorStream, change: &HeldChange) {
     let mut line = Vec::new(alloc);
     if push_event(&mut line, change).is_ok()
         && line.push(b'\n').is_ok()
         && let Ok(text) = str::from_utf8(line.as_slice())
     {
-        let _ = rt.eprint(text);
+        errors.write(rt, alloc, text);
     }
 }
 
 /// Writes one line for this many events of a kind. This event is the last of them.
-pub(crate) fn log_times<R: Eprint>(rt: &R, alloc: Global, event: LogEvent, times: u64) {
+pub(crate) fn log_times<R: Eprint>(
+    rt: &R,
+    alloc: Global,
+    errors: &mut ErrorStream,
+    event: LogEvent,
+    times: u64,
+) {
     if times < 2 {
-        log_event(rt, alloc, event);
+        log_event(rt, alloc, errors, event);
     } else if let Ok(line) = format!(in alloc; "{event} times={times}\n") {
-        let _ = rt.eprint(line);
+        errors.write(rt, alloc, line.as_str());
     }
 }
 

@@ -1,10 +1,13 @@
 //! What a running replica reports on standard error.
 //!
 //! `event_log` writes a line for each event, and `event_counts` counts what may come often.
+//! `error_stream` leaves out what would have to wait, and says how much that was.
 #![tactic(auto)]
 
+mod error_stream;
 mod event_counts;
 mod event_log;
 
+pub use error_stream::ErrorStream;
 pub use event_counts::EventCounts;
 pub use event_log::{LogEvent, log_change, log_event};

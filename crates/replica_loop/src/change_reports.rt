@@ -4,7 +4,7 @@ use change_view::push_audit_line;
 use closure_core::Closure;
 use peer_talks::HeldState;
 use replica_connections::{ConnectionTable, Talk};
-use replica_events::log_change;
+use replica_events::{ErrorStream, log_change};
 use std::alloc::{AllocError, Global};
 use std::io::Eprint;
 
@@ -36,12 +36,17 @@ pub(crate) fn audit_lines<C: Closure>(
 
 /// Reports what requests have changed in this turn, which is on the disk. What peers brought is
 /// reported at the end of their sessions.
-pub(crate) fn log_changes<R: Eprint>(rt: &R, alloc: Global, table: &ConnectionTable) {
+pub(crate) fn log_changes<R: Eprint>(
+    rt: &R,
+    alloc: Global,
+    errors: &mut ErrorStream,
+    table: &ConnectionTable,
+) {
     for conn in table.all() {
         if let Talk::Local(talk) = &conn.talk
             && let Some(made) = talk.change()
         {
-            log_change(rt, alloc, &made.change);
+            log_change(rt, alloc, errors, &made.change);
         }
     }
 }

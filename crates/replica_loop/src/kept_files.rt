@@ -6,7 +6,7 @@ use peer_talks::HeldState;
 use progress_line::ProgressMode;
 use replica_connections::ConnectionTable;
 use replica_core::SyncError;
-use replica_events::{LogEvent, log_event};
+use replica_events::{ErrorStream, LogEvent, log_event};
 use state_files::{
     AppendFault, AppendStep, AuditFile, FoldFault, Journal, KeepStep, Keeping, LostFile, StateLock,
     begin_again, fold_state, save_snapshot,
@@ -91,6 +91,7 @@ impl KeptFiles {
         &mut self,
         rt: &R,
         alloc: Global,
+        errors: &mut ErrorStream,
         held: &HeldState<C>,
         table: &ConnectionTable,
         path: &str,
@@ -104,7 +105,7 @@ impl KeptFiles {
             };
             let done = match step {
                 KeepStep::Audit(step) => self.audit_step(rt, lines.as_slice(), step),
-                KeepStep::State => self.keep_state(rt, alloc, held, table, path),
+                KeepStep::State => self.keep_state(rt, alloc, errors, held, table, path),
             };
             if let Err(fault) = done {
                 self.keeping.failed();
@@ -155,6 +156,7 @@ impl KeptFiles {
         &mut self,
         rt: &R,
         alloc: Global,
+        errors: &mut ErrorStream,
         held: &HeldState<C>,
         table: &ConnectionTable,
         path: &str,
@@ -163,13 +165,13 @@ impl KeptFiles {
             if held.fresh.is_empty() && !table.has_changes() {
                 return Ok(());
             }
-            return Ok(self.begin_again(rt, alloc, &held.sides.next, path)?);
+            return Ok(self.begin_again(rt, alloc, errors, &held.sides.next, path)?);
         }
         match self.append(rt, held.fresh.as_slice(), table, path) {
             Ok(()) => Ok(()),
             Err(AppendFault::File(fault)) => Err(KeepFault::State(fault)),
             Err(AppendFault::Lost(lost)) => {
-                self.mend(rt, alloc, &held.sides.next, path, lost)?;
+                self.mend(rt, alloc, errors, &held.sides.next, path, lost)?;
                 Ok(())
             }
         }
@@ -194,20 +196,21 @@ impl KeptFiles {
         &mut self,
         rt: &R,
         alloc: Global,
+        errors: &mut ErrorStream,
         closure: &C,
         path: &str,
         lost: LostFile,
     ) -> Result<(), FileFault> {
-        log_event(rt, alloc, LogEvent::Lost(lost));
+        log_event(rt, alloc, errors, LogEvent::Lost(lost));
         match lost {
             LostFile::Lock => Err(lost.fault()),
             LostFile::Journal => {
                 if let Err(fault) = save_snapshot(rt, alloc, closure, path, self.progress) {
-                    log_event(rt, alloc, LogEvent::FoldFault(fault.why));
+                    log_event(rt, alloc, errors, LogEvent::FoldFault(fault.why));
                 }
                 Err(lost.fault())
             }
-            LostFile::State => self.begin_again(rt, alloc, closure, path),
+            LostFile::State => self.begin_again(rt, alloc, errors, closure, path),
         }
     }
 
@@ -215,12 +218,13 @@ impl KeptFiles {
         &mut self,
         rt: &R,
         alloc: Global,
+        errors: &mut ErrorStream,
         closure: &C,
         path: &str,
     ) -> Result<(), FileFault> {
         self.journal = begin_again(rt, alloc, closure, path, self.progress)?;
         self.is_unsettled = false;
-        self.note_fold(rt, alloc);
+        self.note_fold(rt, alloc, errors);
         Ok(())
     }
 
@@ -230,6 +234,7 @@ impl KeptFiles {
         &mut self,
         rt: &R,
         alloc: Global,
+        errors: &mut ErrorStream,
         closure: &C,
         path: &str,
     ) -> Result<(), FileFault> {
@@ -237,9 +242,9 @@ impl KeptFiles {
             return Ok(());
         }
         match self.journal.lost_file(rt, &self.lock, path) {
-            Ok(None) => self.fold_journal(rt, alloc, closure, path),
-            Ok(Some(lost)) => return self.mend(rt, alloc, closure, path, lost),
-            Err(fault) => self.put_off(rt, alloc, fault),
+            Ok(None) => self.fold_journal(rt, alloc, errors, closure, path),
+            Ok(Some(lost)) => return self.mend(rt, alloc, errors, closure, path, lost),
+            Err(fault) => self.put_off(rt, alloc, errors, fault),
         }
         Ok(())
     }
@@ -248,27 +253,34 @@ impl KeptFiles {
         &mut self,
         rt: &R,
         alloc: Global,
+        errors: &mut ErrorStream,
         closure: &C,
         path: &str,
     ) {
         match fold_state(rt, alloc, closure, path, &mut self.journal, self.progress) {
-            Ok(true) => self.note_fold(rt, alloc),
+            Ok(true) => self.note_fold(rt, alloc, errors),
             Ok(false) => self.journal.put_off(),
-            Err(FoldFault::Kept(fault)) => self.put_off(rt, alloc, fault),
+            Err(FoldFault::Kept(fault)) => self.put_off(rt, alloc, errors, fault),
             Err(FoldFault::Emptying(fault)) => {
                 self.is_unsettled = true;
-                log_event(rt, alloc, LogEvent::FoldFault(fault.why));
+                log_event(rt, alloc, errors, LogEvent::FoldFault(fault.why));
             }
         }
     }
 
-    fn note_fold<R: Eprint>(&mut self, rt: &R, alloc: Global) {
+    fn note_fold<R: Eprint>(&mut self, rt: &R, alloc: Global, errors: &mut ErrorStream) {
         self.folds = self.folds.saturating_add(1);
-        log_event(rt, alloc, LogEvent::Fold(self.snapshot_bytes()));
+        log_event(rt, alloc, errors, LogEvent::Fold(self.snapshot_bytes()));
     }
 
-    fn put_off<R: Eprint>(&mut self, rt: &R, alloc: Global, fault: FileFault) {
+    fn put_off<R: Eprint>(
+        &mut self,
+        rt: &R,
+        alloc: Global,
+        errors: &mut ErrorStream,
+        fault: FileFault,
+    ) {
         self.journal.put_off();
-        log_event(rt, alloc, LogEvent::FoldFault(fault.why));
+        log_event(rt, alloc, errors, LogEvent::FoldFault(fault.why));
     }
 }

@@ -6,7 +6,7 @@ use closure_core::Closure;
 use command_exits::{CommandError, Exit, Step};
 use mio::Events;
 use peer_talks::HeldState;
-use replica_events::{LogEvent, log_event};
+use replica_events::{ErrorStream, LogEvent, log_event};
 use replica_sockets::file_at_step;
 use state_files::{
     BegunSides, FoundFiles, GivenConfigs, StateBeginning, StateLock, has_journal, is_marked,
@@ -49,6 +49,7 @@ pub fn run_replica<R: Runtime<File = File, A = Global> + Net>(
     settings: &Settings<'_, '_>,
 ) -> Result<(), Exit> {
     let alloc = rt.alloc();
+    let mut errors = ErrorStream::new(rt, alloc);
     let lock = lock(rt, alloc, settings.state)?;
     let settled = settle_previous::<ExchangeClosure, R>(rt, alloc, configs, settings.state);
     file_at_step(Step::Save, settled)?;
@@ -56,12 +57,13 @@ pub fn run_replica<R: Runtime<File = File, A = Global> + Net>(
     let begun: BegunSides<ExchangeClosure> = load(
         rt,
         alloc,
+        &mut errors,
         configs,
         &mut beginning,
         settings.state,
     )?;
     let mut held = HeldState::new(alloc, begun.sides, begun.fresh);
-    run_held(rt, alloc, &mut held, lock, beginning, settings)
+    run_held(rt, alloc, errors, &mut held, lock, beginning, settings)
 }
 
 fn lock<R: Files<File = File>>(rt: &R, alloc: Global, path: &str) -> Result<StateLock, Exit> {
@@ -104,6 +106,7 @@ fn find<R: Files<File = File>>(
 fn load<C: Closure, R: Files<File = File> + Clock + Eprint>(
     rt: &R,
     alloc: Global,
+    errors: &mut ErrorStream,
     configs: &GivenConfigs,
     beginning: &mut StateBeginning,
     path: &str,
@@ -111,12 +114,12 @@ fn load<C: Closure, R: Files<File = File> + Clock + Eprint>(
     let begun: BegunSides<C> = beginning.load(rt, alloc, configs, path)?;
     match beginning.save(rt, alloc, &begun, path) {
         Err(fault) if beginning.is_resumed() => {
-            log_event(rt, alloc, LogEvent::FoldFault(fault.why));
+            log_event(rt, alloc, errors, LogEvent::FoldFault(fault.why));
         }
         saved => file_at_step(Step::Save, saved)?,
     }
     if let Some(offered) = begun.carried {
-        log_event(rt, alloc, LogEvent::CarryOver(offered));
+        log_event(rt, alloc, errors, LogEvent::CarryOver(offered));
     }
     Ok(begun)
 }
@@ -124,12 +127,21 @@ fn load<C: Closure, R: Files<File = File> + Clock + Eprint>(
 fn run_held<C: Closure, R: Files<File = File> + Net + Clock + Print + Eprint>(
     rt: &R,
     alloc: Global,
+    errors: ErrorStream,
     held: &mut HeldState<C>,
     lock: StateLock,
     beginning: StateBeginning,
     settings: &Settings<'_, '_>,
 ) -> Result<(), Exit> {
-    let mut running = RunningReplica::begin(rt, alloc, &held.sides, lock, beginning, settings)?;
+    let mut running = RunningReplica::begin(
+        rt,
+        alloc,
+        errors,
+        &held.sides,
+        lock,
+        beginning,
+        settings,
+    )?;
     if held.sides.previous.is_none() {
         file_at_step(Step::Save, remove_previous(rt, alloc, settings.state))?;
     }
@@ -155,11 +167,11 @@ fn run_turns<C: Closure, R: Files<File = File> + Net + Clock + Eprint>(
             Ok(true) => break,
             Ok(false) => {}
             Err(KeepFault::State(fault)) => {
-                log_event(rt, alloc, LogEvent::Journal(fault.why));
+                running.log(rt, alloc, LogEvent::Journal(fault.why));
                 return Err(Exit::of_file(Step::Journal, fault));
             }
             Err(KeepFault::Audit(fault)) => {
-                log_event(rt, alloc, LogEvent::AuditFault(fault.why));
+                running.log(rt, alloc, LogEvent::AuditFault(fault.why));
                 return Err(Exit::of_file(Step::Audit, fault));
             }
         }

@@ -8,7 +8,7 @@ use crate::settings::Settings;
 use crate::turn_counts::TurnCounts;
 use change_view::NewEntries;
 use closure_core::Closure;
-use command_exits::{Exit, Step};
+use command_exits::{Exit, FileFault, Step};
 use fair_turns::Work;
 use health_pages::LoopCounts;
 use local_answers::{PageLimits, PageSource};
@@ -20,7 +20,7 @@ use peer_talks::{
 use replica_connections::{
     ConnectionTable, LiveConnection, LocalTalk, PageTalk, Surroundings, Talk,
 };
-use replica_events::{EventCounts, LogEvent, log_event};
+use replica_events::{ErrorStream, EventCounts, LogEvent, log_event};
 use replica_sockets::{Arrival, Listeners, Rights, Socket, at_step, file_at_step};
 use replica_sync::SyncError;
 use side_by_side::{Side, Sides};
@@ -63,6 +63,7 @@ pub(crate) struct RunningReplica {
     // The configuration that is changed from, as `status` shows it.
     previous: Option<PreviousStatus>,
     files: KeptFiles,
+    errors: ErrorStream,
     events: EventCounts,
     now: Instant,
     // The Unix second at which it began; 0 if the clock had none.
@@ -82,6 +83,7 @@ impl RunningReplica {
     pub(crate) fn begin<C: Closure, R: Files<File = File> + Net + Clock + Eprint>(
         rt: &R,
         alloc: Global,
+        mut errors: ErrorStream,
         sides: &Sides<C>,
         lock: StateLock,
         beginning: StateBeginning,
@@ -94,7 +96,7 @@ impl RunningReplica {
         let journal = file_at_step(Step::Journal, begun)?;
         // All that is held is on the disk by now, so a line that is left is of a change that is
         // kept.
-        let audit = begin_audit(rt, alloc, sides, settings.audit, began)?;
+        let audit = begin_audit(rt, alloc, &mut errors, sides, settings.audit, began)?;
         let previous = previous_status(sides);
         let mut peers = Peers::new(alloc, settings.peers, settings.every, now)?;
         if previous.is_some() {
@@ -106,6 +108,7 @@ impl RunningReplica {
             peers,
             previous,
             files: KeptFiles::new(lock, journal, audit, settings.progress),
+            errors,
             events: EventCounts::new(alloc),
             now,
             began,
@@ -128,7 +131,7 @@ impl RunningReplica {
         if let Err(error) = self.listeners.poll.poll(events, Some(wait)) {
             // A signal came, as when the process was stopped and continued.
             if error.kind() != ErrorKind::Interrupted {
-                self.events.note(rt, alloc, LogEvent::Poll, self.now);
+                self.note(rt, alloc, LogEvent::Poll);
                 thread::sleep(rt, Duration::from_millis(PAUSE_MILLIS));
             }
         }
@@ -255,7 +258,7 @@ impl RunningReplica {
 
     fn report_once<R: Eprint>(&mut self, rt: &R, alloc: Global, event: LogEvent) {
         if !self.has_reported {
-            self.events.note(rt, alloc, event, self.now);
+            self.note(rt, alloc, event);
             self.has_reported = true;
         }
     }
@@ -300,7 +303,7 @@ impl RunningReplica {
         };
         self.peers.end(due.number, session, self.now, None);
         let event = LogEvent::Pull(due.address, NOTHING_NEW, Duration::ZERO, ending);
-        log_event(rt, alloc, event);
+        self.log(rt, alloc, event);
     }
 
     fn connect<R: Net>(&mut self, rt: &R, talk: PullTalk, peer: SocketAddr) -> Result<(), Ending> {
@@ -382,9 +385,9 @@ impl RunningReplica {
         path: &str,
     ) -> Result<(), KeepFault> {
         let moment = unix_seconds(rt).unwrap_or(0);
-        match self.files.keep(rt, alloc, held, &self.table, path, moment) {
+        match self.files.keep(rt, alloc, &mut self.errors, held, &self.table, path, moment) {
             Ok(()) => {
-                log_changes(rt, alloc, &self.table);
+                log_changes(rt, alloc, &mut self.errors, &self.table);
                 pass_on_requests(alloc, held, &self.table);
                 held.settle(alloc);
                 self.table.settle();
@@ -417,12 +420,24 @@ impl RunningReplica {
                 note_previous(rt, &mut self.previous, conn);
                 self.counts.note_end(conn, ending);
                 if let Some(event) = event_of(conn, ending, time, is_verbose) {
-                    self.events.note(rt, alloc, event, self.now);
+                    self.events
+                        .note(rt, alloc, &mut self.errors, event, self.now);
                 }
             }
         }
         self.table.remove_ended();
-        self.events.print_out(rt, alloc, self.now);
+        self.events.print_out(rt, alloc, &mut self.errors, self.now);
+    }
+
+    /// Writes the state file again if its journal is long.
+    pub(crate) fn fold<C: Closure, R: Files<File = File> + Clock + Eprint>(
+        &mut self,
+        rt: &R,
+        alloc: Global,
+        closure: &C,
+        path: &str,
+    ) -> Result<(), FileFault> {
+        self.files.fold(rt, alloc, &mut self.errors, closure, path)
     }
 
     /// The turn that began when the wait ended is over.
@@ -432,9 +447,21 @@ impl RunningReplica {
         }
     }
 
-    /// Reports what was only counted.
+    /// Reports an event.
+    pub(crate) fn log<R: Eprint>(&mut self, rt: &R, alloc: Global, event: LogEvent) {
+        log_event(rt, alloc, &mut self.errors, event);
+    }
+
+    // Reports an event that may come often.
+    fn note<R: Eprint>(&mut self, rt: &R, alloc: Global, event: LogEvent) {
+        self.events
+            .note(rt, alloc, &mut self.errors, event, self.now);
+    }
+
+    /// Reports what was only counted, and how many lines were left out.
     pub(crate) fn print_all<R: Eprint>(&mut self, rt: &R, alloc: Global) {
-        self.events.print_all(rt, alloc);
+        self.events.print_all(rt, alloc, &mut self.errors);
+        self.errors.say_lost(rt, alloc);
     }
 
     /// Removes the sockets' files, if they are still those of this replica.
@@ -581,6 +608,7 @@ fn new_of(talk: &PullTalk) -> NewEntries {
 fn begin_audit<C: Closure, R: Files<File = File> + Eprint>(
     rt: &R,
     alloc: Global,
+    errors: &mut ErrorStream,
     sides: &Sides<C>,
     path: Option<&str>,
     moment: u64,
@@ -591,7 +619,7 @@ fn begin_audit<C: Closure, R: Files<File = File> + Eprint>(
     let begun = AuditFile::begin(rt, alloc, sides, path, moment);
     let (audit, cut) = file_at_step(Step::Audit, begun)?;
     if cut > 0 {
-        log_event(rt, alloc, LogEvent::AuditCut(cut));
+        log_event(rt, alloc, errors, LogEvent::AuditCut(cut));
     }
     Ok(Some(audit))
 }
@@ -614,9 +642,7 @@ pub(crate) fn turn<C: Closure, R: Files<File = File> + Net + Clock + Eprint>(
     running.commit(rt, alloc, held, settings.state)?;
     running.write();
     running.end_connections(rt, alloc, settings.is_verbose);
-    running
-        .files
-        .fold(rt, alloc, &held.sides.next, settings.state)?;
+    running.fold(rt, alloc, &held.sides.next, settings.state)?;
     running.note_turn(rt);
     Ok(running.has_ended())
 }
