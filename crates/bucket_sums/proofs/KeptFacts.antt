@@ -29,6 +29,7 @@ use Rattle.bucket_sums.specs.Inside.KeptSteps.{ArePartSums, IsRisingBoth, IsSumO
 use Rattle.bucket_sums.specs.declared.kept_sums.CountedSum.{CountedSum}
 use Rattle.bucket_sums.specs.declared.kept_sums.KeptSums.{KeptSums}
 use Rattle.bucket_sums.proofs.SumFacts.{bytes_of}
+use Rattle.receipt_core.proofs.LimitFacts.{receipt_limit-most}
 
 -- ---- sorted lists, one among another
 
@@ -213,7 +214,7 @@ pub few_in_bucket : (m : Meaning) (bucket : ℕ) → IsMeaning m → length (rec
 few_in_bucket m bucket valid =
     let parts = length-filter_both (is_in_bucket bucket) (λ r. not (is_in_bucket bucket r)) (λ r. refl) m.held in
     let few = valid.few in
-    omega (arith, parts, few)
+    omega (arith, parts, few, receipt_limit-most m.config)
 
 -- The bytes of sums that are taken out are those of the sums.
 pub sums_taken_out : (parts : List CountedSum) → map bytes_of (map (λ (k : CountedSum). k.sum) parts) ≡ sums_in parts

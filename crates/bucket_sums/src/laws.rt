@@ -63,9 +63,9 @@ pub fn sums_sessions()
 
 /// After a session over sums with a replica whose answers all have its records, the asker holds
 /// what it held joined with what the other held, and nothing else, exactly as after one about all
-/// buckets: if no two lists of what both hold have
-/// one SHA-256, no two receipts of both have one id, nothing else changes what is held, the buckets
-/// that are asked about are those of the marks of both, and the haves were served.
+/// buckets: if no two lists of what both hold have one SHA-256, no two receipts of both have one
+/// id, nothing else changes what is held, the buckets that are asked about are those of the marks
+/// of both, and the haves were served.
 pub fn quiet_sessions()
     ensures { (p : Pulling) (m k held : Meaning) (came : List PulledPiece)
         (written replied rest : List ℕ) (count : ℕ)

@@ -11,6 +11,7 @@ use Rattle.receipt_core.specs.Receipt.{Receipt}
 use Rattle.receipt_core.specs.Acceptance.{Meaning, distrust_of}
 use Rattle.bundle_view.specs.Inside.Search.{AreTrusted}
 use Rattle.closure_core.proofs.ContainsFacts.{contains_first, contains_later, contains_none, contains_cases}
+use Rattle.receipt_core.specs.Limits.{most_receipts}
 
 -- ---- receipts one after another
 
@@ -67,7 +68,7 @@ module _ (records : List Distrust) (all taken rest others : List Receipt) (x : R
 
 -- after the last receipt those that were taken are all that may be vouched for
 pub sifted_all : (m : Meaning) (records : List Distrust) (all taken rest : List Receipt) → records ≡ m.records
-    → all ≡ m.held → rest ≡ [] → length m.held ≤ 65536 → AreSifted records all taken rest → AreTrusted m taken
+    → all ≡ m.held → rest ≡ [] → length m.held ≤ most_receipts → AreSifted records all taken rest → AreTrusted m taken
 sifted_all m records all taken rest e f none few s = record {
   exactly = λ r. (
     λ has. let h = s.trusted r has in (subst (λ rs. Contains rs r) f h.0, λ d. h.1 (subst (λ xs. Contains xs (distrust_of r.endpoint.domain r)) (sym e) d)),

@@ -125,8 +125,8 @@ pub record HasLowDocument (m : Meaning) (fetched : FetchedBundle) : Type 0 where
   pub read : IsDocument fetched.bytes document
   pub misses : MissesFloor m.config fetched.domain document
 
--- The document is below its floor; or the receipt is new, and 65,536 are held; or memory was
--- wanted, for the tree of all bytes that are within the limit.
+-- The document is below its floor; or the receipt is new, and as many are held as may be; or memory
+-- was wanted, for the tree of all bytes that are within the limit.
 abbrev pub RefusesTaking : Meaning → FetchedBundle → TakeError → Type 0
 RefusesTaking m fetched BelowFloor = HasLowDocument m fetched
 RefusesTaking m fetched Full = (r : Receipt) × IsObservation m fetched r × IsOneTooMany m r

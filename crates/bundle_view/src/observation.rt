@@ -48,7 +48,7 @@ pub struct Verdict {
 /// - [`ObserveError::Document`]: the bytes are not a document, for the cause of [`Document::read`]
 ///   that is in it,
 /// - [`ObserveError::Take`] with `BelowFloor`: the document is below the floor of the domain,
-/// - [`ObserveError::Take`] with `Full`: the receipt is not held, and 65,536 are.
+/// - [`ObserveError::Take`] with `Full`: the receipt is not held, and no more may be.
 ///
 /// If memory ran out it is [`ObserveError::Take`] with `NoMemory`, which never comes if the verdict
 /// is refused or the bytes are too many.
@@ -110,8 +110,8 @@ pub fn observed_receipt<C: Closure>(
 /// from now on.
 ///
 /// # Errors
-/// What is held is as before. [`ObserveError::Take`] with `Full`: the receipt is not held, and
-/// 65,536 are; or with `NoMemory`: memory ran out.
+/// What is held is as before. [`ObserveError::Take`] with `Full`: the receipt is not held, and as
+/// many are held as may be; or with `NoMemory`: memory ran out.
 pub fn take_observed<C: Closure>(closure: &mut C, receipt: Receipt) -> Result<(), ObserveError>
     ensures { (fetched : FetchedBundle)
         → IsObservation (C.state closure.old).meaning fetched receipt → MatchResult result

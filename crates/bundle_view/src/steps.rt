@@ -16,7 +16,7 @@ ghost use Rattle.bundle_view.specs.Inside.Search.{AreVisited};
 ghost use Rattle.bundle_view.specs.Inside.Search.{FollowsOffers, HasSearched, IsBackFrom};
 ghost use Rattle.bundle_view.specs.Inside.Search.{IsSearchBegun};
 ghost use Rattle.bundle_view.specs.Inside.Search.{IsEdgeDue, Stride};
-ghost use Rattle.receipt_core.specs.Limits.{receipt_limit};
+ghost use Rattle.receipt_core.specs.Limits.{most_receipts};
 
 use crate::trusted_receipts::TrustedReceipt;
 use bundle_doc::Document;
@@ -54,7 +54,7 @@ pub(crate) fn search<'a>(
     document: &Document,
 ) -> Result<Option<usize>, AllocError>
     requires sorted { IsSortedByKey need_of triple_cmp waiting.now }
-    requires few { length waiting.now ≤ receipt_limit }
+    requires few { length waiting.now ≤ most_receipts }
     requires empty { steps.old.items ≡ [] }
     ensures { IfOk result (HasSearched seeds.now waiting.now steps.new.items
         (document_of domain.now document.now)) }
@@ -113,7 +113,7 @@ fn follow_all<'a>(
     document: &Document,
 ) -> Result<Option<usize>, AllocError>
     requires sorted { IsSortedByKey need_of triple_cmp waiting.now }
-    requires few { length waiting.now ≤ receipt_limit }
+    requires few { length waiting.now ≤ most_receipts }
     requires visits { AreVisited waiting.now visited.old steps.old.items 1 }
     requires empty { steps.old.items ≡ [] }
     ensures { IfOk result (HasSearched seeds.now waiting.now steps.new.items
@@ -167,7 +167,7 @@ fn follow_step<'a>(
     place: usize,
 ) -> Result<(), AllocError>
     requires sorted { IsSortedByKey need_of triple_cmp waiting.now }
-    requires few { length waiting.now ≤ receipt_limit }
+    requires few { length waiting.now ≤ most_receipts }
     requires within { place < length steps.old.items }
     requires visits { (s : Stride) → slice_get steps.old.items place ≡ Some s
         → AreVisited waiting.now visited.old steps.old.items (s.length + 1) }

@@ -45,7 +45,7 @@ pub record HasTaken (old : HeldAndRoom) (r : Receipt) (new : HeldAndRoom)
     (accepted_now : ℕ) : Type 0 where
   pub fits : IsFitting old.meaning.config r
   pub unheld : Contains old.meaning.held r → ⊥
-  pub few : length old.meaning.held < receipt_limit
+  pub few : length old.meaning.held < receipt_limit old.meaning.config
   pub meaning : new.meaning ≡ record old.meaning { held = with_receipt r old.meaning.held }
   pub gain : IsGain old.meaning new.meaning accepted_now
   pub receipts : old.room.receipts ≤ new.room.receipts + 1
@@ -76,7 +76,7 @@ Takes old r new result = MatchResult result (TakesOk old r new) (HasRefused old 
 pub record HasDistrusted (old : Meaning) (x : Distrust) (new : Meaning) (lost : ℕ) : Type 0 where
   pub domain : HasDomain old.config x.domain
   pub unheld : Contains old.records x → ⊥
-  pub few : length old.records < record_limit
+  pub few : length old.records < record_limit old.config
   pub meaning : new ≡ record old { records = with_distrust x old.records }
   pub loss : IsGain new old lost
 
@@ -112,8 +112,8 @@ union_of m other = record {
 -- Receipts and records are those of both, and n receipts were not held.
 pub record HasMerged (old other new : Meaning) (n : ℕ) : Type 0 where
   pub of_config : IsOfConfig old other
-  pub few : length (all_receipts old other) ≤ receipt_limit
-  pub few_records : length (all_records old other) ≤ record_limit
+  pub few : length (all_receipts old other) ≤ receipt_limit old.config
+  pub few_records : length (all_records old other) ≤ record_limit old.config
   pub meaning : new ≡ union_of old other
   pub count : length (all_receipts old other) ≡ length old.held + n
 

@@ -59,17 +59,17 @@ RefusesFit c r _ = ⊥
 abbrev pub IsBeyond : Room → Receipt → Type 0
 IsBeyond room r = 0 < room.receipts → length (offers_of (pair_of r)) ≤ room.offers → ⊥
 
--- The receipt fits and is new, and 65,536 are held.
+-- The receipt fits and is new, and as many are held as may be.
 pub record IsOneTooMany (m : Meaning) (r : Receipt) : Type 0 where
   pub fits : IsFitting m.config r
   pub unheld : Contains m.held r → ⊥
-  pub full : receipt_limit ≤ length m.held
+  pub full : receipt_limit m.config ≤ length m.held
 
 -- Nothing else was in the way, and memory had to be asked for.
 pub record WantsMemory (m : Meaning) (room : Room) (r : Receipt) : Type 0 where
   pub fits : IsFitting m.config r
   pub unheld : Contains m.held r → ⊥
-  pub few : length m.held < receipt_limit
+  pub few : length m.held < receipt_limit m.config
   pub beyond : IsBeyond room r
 
 abbrev pub RefusesReceipt : Meaning → Room → Receipt → TakeError → Type 0
@@ -82,11 +82,11 @@ RefusesReceipt m room r _ = ⊥
 
 -- ---- one record of distrust
 
--- The configuration has the domain, and the record would be one more than the 4,096 that are held.
+-- The configuration has the domain, the record is new, and as many are held as may be.
 pub record IsOneRecordTooMany (m : Meaning) (x : Distrust) : Type 0 where
   pub domain : HasDomain m.config x.domain
   pub unheld : Contains m.records x → ⊥
-  pub full : record_limit ≤ length m.records
+  pub full : record_limit m.config ≤ length m.records
 
 abbrev pub RefusesDistrust : Meaning → Distrust → TakeError → Type 0
 RefusesDistrust m x UnknownDomain = HasDomain m.config x.domain → ⊥
@@ -126,14 +126,14 @@ HasBelowFloor m other = (r : Receipt) × Contains other.held r × IsBelowFloor m
 
 -- Both together are more than one holds.
 abbrev pub AreTooMany : Meaning → Meaning → Type 0
-AreTooMany m other = (receipt_limit < length (all_receipts m other)) ⊎ (record_limit
-    < length (all_records m other))
+AreTooMany m other = (receipt_limit m.config < length (all_receipts m other))
+    ⊎ (record_limit m.config < length (all_records m other))
 
 -- Nothing else was in the way, and a receipt had to be copied.
 pub record WantsCopies (m other : Meaning) : Type 0 where
   pub of_config : IsOfConfig m other
-  pub few : length (all_receipts m other) ≤ receipt_limit
-  pub few_records : length (all_records m other) ≤ record_limit
+  pub few : length (all_receipts m other) ≤ receipt_limit m.config
+  pub few_records : length (all_records m other) ≤ record_limit m.config
   pub receipt : Receipt
   pub has : Contains other.held receipt
   pub unheld : Contains m.held receipt → ⊥

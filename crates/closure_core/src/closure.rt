@@ -14,12 +14,6 @@ use receipt_core::Receipt;
 use spiffe_name::TrustDomain;
 use std::alloc::{AllocError, Global};
 
-/// The most receipts that are held.
-pub const MOST_RECEIPTS: usize = 65_536;
-
-/// The most records of distrust that are held.
-pub const MOST_RECORDS: usize = 4_096;
-
 /// Memory ran out.
 pub type NoMemory = AllocError;
 
@@ -30,8 +24,9 @@ pub type NoMemory = AllocError;
 ///
 /// A document vouches for a receipt if it is of the endpoint's trust domain, has the voucher's
 /// id and an X.509 authority with the receipt's key, and that key is not distrusted in that domain.
-/// A receipt that no accepted document vouches for is pending, and is still held. At most 65,536
-/// receipts and 4,096 records of distrust are held.
+/// A receipt that no accepted document vouches for is pending, and is still held. How many receipts
+/// and records of distrust are held at most is what the configuration's limits say, and never more
+/// than 65,536 receipts and 4,096 records.
 pub trait Closure: Drop {
     ghost use Rattle.receipt_core.specs.Acceptance.{Meaning, IsMeaning, IsMember};
     ghost use Rattle.closure_core.specs.AcceptedList.{IsAcceptedList, IsPendingCount, document_of};
@@ -65,7 +60,7 @@ pub trait Closure: Drop {
     ///   domain,
     /// - [`TakeError::WrongEndpoint`]: that relationship has another endpoint,
     /// - [`TakeError::BelowFloor`]: the receipt's document is below the floor of its domain,
-    /// - [`TakeError::Full`]: the receipt is not held, and 65,536 are,
+    /// - [`TakeError::Full`]: the receipt is not held, and no more may be,
     /// - [`TakeError::NoMemory`]: memory ran out. Never if the receipt and its offers are within
     ///   [`Closure::room`].
     fn take(&mut self, receipt: Receipt) -> Result<Taken, Refused>
@@ -82,7 +77,7 @@ pub trait Closure: Drop {
     ///   the domain of a record of the other,
     /// - [`TakeError::WrongEndpoint`]: it has another endpoint for the domain of a receipt,
     /// - [`TakeError::BelowFloor`]: it has a floor that the document of a receipt does not reach,
-    /// - [`TakeError::Full`]: there would be more than 65,536 receipts, or more than 4,096 records,
+    /// - [`TakeError::Full`]: there would be more receipts, or more records, than may be held,
     /// - [`TakeError::NoMemory`]: memory ran out.
     fn merge(&mut self, other: &Self) -> Result<usize, TakeError>
         ensures { Merges (state self.old) (state other.now).meaning (state self.new) result };
@@ -92,7 +87,7 @@ pub trait Closure: Drop {
     /// # Errors
     /// What is held is as before. The first of these that holds:
     /// - [`TakeError::UnknownDomain`]: the domain is not one of the configuration,
-    /// - [`TakeError::Full`]: the record is not held, and 4,096 are.
+    /// - [`TakeError::Full`]: the record is not held, and no more may be.
     fn distrust(&mut self, domain: &TrustDomain, key: KeyId) -> Result<Distrusted, TakeError>
         ensures meaning { TakesDistrust (state self.old).meaning
             (record { domain = domain.now; key = key }) (state self.new).meaning result }

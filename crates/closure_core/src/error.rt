@@ -16,7 +16,7 @@ pub enum TakeError {
     /// or it has none.
     #[error("G6 BelowFloor")]
     BelowFloor,
-    /// 65,536 receipts, or 4,096 records of distrust, are the most that are held.
+    /// No more receipts, or no more records of distrust, may be held.
     #[error("G3 Full")]
     Full,
     /// Memory ran out.

@@ -22,7 +22,7 @@ use Rattle.receipt_core.proofs.RisingFacts.{with_item-all}
 use Rattle.std.specs.Bool.{IsTrue}
 use Rattle.std.specs.Prelude.{◌↔◌, Bool, Option, None, IfSome}
 use Rattle.closure_core.specs.Inside.Records.{distrust_by, distrusts_of, AreWithin}
-use Rattle.closure_parts.specs.Records.{record_cmp, InsertsRecord}
+use Rattle.closure_parts.specs.Records.{KeptRecords, record_cmp, InsertsRecord}
 use Rattle.closure_parts.specs.declared.records.Insertion.{Insertion}
 use Rattle.closure_parts.specs.declared.records.Insertion.TheVariants.{Added, There, Full as NoPlace}
 use Rattle.closure_core.specs.declared.record.Record.{Record}
@@ -31,6 +31,7 @@ use Rattle.closure_core.proofs.ContainsFacts.{contains_none, IsMapped, mapped, c
 use Rattle.closure_core.proofs.RisingFacts.{rising_same, with_items_has, with_items_gets, with_items_rising, with_item_rising, with_item_longer, each_has}
 use Rattle.closure_parts.proofs.RecordFacts.{distrusts_rising, distrusts_with, record_of, record_total}
 use Rattle.closure_parts.proofs.HeldFacts.{picked_all, length_in_order}
+use Rattle.receipt_core.specs.Limits.{record_limit}
 
 -- the domains that a configuration names, in the order of its parts
 abbrev names_of : Configuration → List (List ℕ)
@@ -179,10 +180,12 @@ all_distrusts c is (r ∷ rs) within keys =
     (record { domain = domain_text c is (get_or (domains_of c) r.domain []) (own_domain c r within.0); key = keys.0 }, all_distrusts c is rs within.1 keys.1)
 
 -- What is held is a meaning: its receipts and records are in order, fit and are within limits.
-pub hoard_meaning : (c : Configuration) (stock : ArenaView Receipt) (buckets : Option Sequence) (records : List Record)
-    → IsWellHeld c stock buckets records
-    → IsMeaning (record { config = c; held = in_order stock; records = distrusts_of (domains_of c) records })
-hoard_meaning c stock buckets records is =
+pub hoard_meaning : (c : Configuration) (stock : ArenaView Receipt) (buckets : Option Sequence) (kept : KeptRecords)
+    → IsWellHeld c stock buckets kept
+    → IsMeaning (record { config = c; held = in_order stock; records = distrusts_of (domains_of c) kept.records })
+hoard_meaning c stock buckets kept is =
+    let records = kept.records in
+    let limit = is.limit in
     let size : length (in_order stock) ≡ length stock.items = length_in_order stock is.arranged in
     let few = is.few in
     let few_records = is.few_records in
@@ -228,7 +231,7 @@ none_bucketed (Some order) empty = record {
 
 -- A closure without receipts and records holds what is to be held.
 pub hoard_none : (c : Configuration) → IsConfiguration c → (buckets : Option Sequence) → IfSome buckets (λ order. order.items ≡ [])
-    → IsWellHeld c (record { items = []; order = []; capacity = 0 }) buckets []
+    → IsWellHeld c (record { items = []; order = []; capacity = 0 }) buckets (record { records = []; limit = record_limit c })
 hoard_none c is buckets empty = record {
   configuration = is;
   receipts = tt;
@@ -241,25 +244,28 @@ hoard_none c is buckets empty = record {
   keys = tt;
   records_rising = no_record_rises;
   few_records = omega arith;
+  limit = refl;
 }
 
 -- ---- one record more
 
 -- What is held with a list of records is held with an equal one.
-hoard_with : (c : Configuration) (stock : ArenaView Receipt) (buckets : Option Sequence) (old new : List Record)
+hoard_with : (c : Configuration) (stock : ArenaView Receipt) (buckets : Option Sequence) (old new : KeptRecords)
     → IsWellHeld c stock buckets old → new ≡ old → IsWellHeld c stock buckets new
 hoard_with c stock buckets old new hoard e = subst (IsWellHeld c stock buckets) (sym e) hoard
 
 -- What is held is still well held after a record was added, was there, or had no place.
-pub hoard_add : (c : Configuration) (stock : ArenaView Receipt) (buckets : Option Sequence) (old new : List Record) (x : Record)
+pub hoard_add : (c : Configuration) (stock : ArenaView Receipt) (buckets : Option Sequence) (old new : KeptRecords) (x : Record)
     → IsWellHeld c stock buckets old → x.domain < length (domains_of c) → IsDigest x.key.0 → (a : Insertion)
     → InsertsRecord old x new a → IsWellHeld c stock buckets new
 hoard_add c stock buckets old new x hoard below key There h = hoard_with c stock buckets old new hoard h.1
 hoard_add c stock buckets old new x hoard below key NoPlace h = hoard_with c stock buckets old new hoard h.now
 hoard_add c stock buckets old new x hoard below key Added h =
-    let longer = with_item_longer record_total x old in
+    let longer = with_item_longer record_total x old.records in
     let few = h.few in
-    let size : length new ≡ length (with_item record_cmp x old) = ap length h.now in
+    let now : new.records ≡ with_item record_cmp x old.records = ap (λ (k : KeptRecords). k.records) h.now in
+    let same : new.limit ≡ old.limit = ap (λ (k : KeptRecords). k.limit) h.now in
+    let size : length new.records ≡ length (with_item record_cmp x old.records) = ap length now in
     record {
       configuration = hoard.configuration;
       receipts = hoard.receipts;
@@ -268,12 +274,13 @@ hoard_add c stock buckets old new x hoard below key Added h =
       few = hoard.few;
       arranged = hoard.arranged;
       bucketed = hoard.bucketed;
-      within = subst (AreWithin (length (domains_of c))) (sym h.now)
-          (with_item-all (λ (r : Record). r.domain < length (domains_of c)) record_cmp x old below hoard.within);
-      keys = subst (AllByRecursion (λ (r : Record). IsDigest r.key.0)) (sym h.now)
-          (with_item-all (λ (r : Record). IsDigest r.key.0) record_cmp x old key hoard.keys);
-      records_rising = subst (IsStrictlySortedBy record_cmp) (sym h.now) (with_item_rising record_total x old hoard.records_rising);
+      within = subst (AreWithin (length (domains_of c))) (sym now)
+          (with_item-all (λ (r : Record). r.domain < length (domains_of c)) record_cmp x old.records below hoard.within);
+      keys = subst (AllByRecursion (λ (r : Record). IsDigest r.key.0)) (sym now)
+          (with_item-all (λ (r : Record). IsDigest r.key.0) record_cmp x old.records key hoard.keys);
+      records_rising = subst (IsStrictlySortedBy record_cmp) (sym now) (with_item_rising record_total x old.records hoard.records_rising);
       few_records = omega arith;
+      limit = same ∙ hoard.limit;
     }
 
 -- the meaning that has these receipts and records
@@ -287,30 +294,30 @@ lacks : (c : Configuration) (old : List Record) (x : Record) → x.domain < leng
 lacks c old x below within unheld has = unheld (record_of (domains_of c) x old (are_domains c).rising below within has)
 
 -- What was done to the records by numbers is what is to be done to the records of distrust.
-pub added_or_refused : (c : Configuration) (held : List Receipt) (old new : List Record) (x : Record)
-    → x.domain < length (domains_of c) → AreWithin (length (domains_of c)) old → (a : Insertion)
+pub added_or_refused : (c : Configuration) (held : List Receipt) (old new : KeptRecords) (x : Record)
+    → x.domain < length (domains_of c) → AreWithin (length (domains_of c)) old.records → old.limit ≡ record_limit c → (a : Insertion)
     → InsertsRecord old x new a
-    → AddsOrRefuses (meaning_with c held old) (distrust_by (domains_of c) x) (meaning_with c held new)
+    → AddsOrRefuses (meaning_with c held old.records) (distrust_by (domains_of c) x) (meaning_with c held new.records)
     (addition_result a)
-added_or_refused c held old new x below within There h =
-    (contains_map (distrust_by (domains_of c)) old x h.0, ap (λ rs. meaning_with c held rs) h.1)
-added_or_refused c held old new x below within NoPlace h =
+added_or_refused c held old new x below within limit There h =
+    (contains_map (distrust_by (domains_of c)) old.records x h.0, ap (λ (k : KeptRecords). meaning_with c held k.records) h.1)
+added_or_refused c held old new x below within limit NoPlace h =
     let full = h.full in (
       record {
         domain = own_domain c x below;
-        unheld = lacks c old x below within h.unheld;
-        full = omega (arith, length-map old (distrust_by (domains_of c)));
+        unheld = lacks c old.records x below within h.unheld;
+        full = omega (arith, length-map old.records (distrust_by (domains_of c)));
       },
-      ap (λ rs. meaning_with c held rs) h.now,
+      ap (λ (k : KeptRecords). meaning_with c held k.records) h.now,
     )
-added_or_refused c held old new x below within Added h =
+added_or_refused c held old new x below within limit Added h =
     let few = h.few in
-    let records : distrusts_of (domains_of c) new ≡ with_distrust (distrust_by (domains_of c) x) (distrusts_of (domains_of c) old) =
-    ap (distrusts_of (domains_of c)) h.now ∙ distrusts_with (domains_of c) x old (are_domains c).rising below within in
+    let records : distrusts_of (domains_of c) new.records ≡ with_distrust (distrust_by (domains_of c) x) (distrusts_of (domains_of c) old.records) =
+    ap (λ (k : KeptRecords). distrusts_of (domains_of c) k.records) h.now ∙ distrusts_with (domains_of c) x old.records (are_domains c).rising below within in
     record {
       domain = own_domain c x below;
-      unheld = lacks c old x below within h.unheld;
-      few = omega (arith, length-map old (distrust_by (domains_of c)));
+      unheld = lacks c old.records x below within h.unheld;
+      few = omega (arith, length-map old.records (distrust_by (domains_of c)));
       meaning = λ i. record { config = c; held = held; records = records i };
     }
 

@@ -35,7 +35,8 @@ use Rattle.closure_core.specs.AcceptedList.{is_in_bucket, receipts_in}
 use Rattle.closure_core.specs.declared.error.TakeError.{TakeError}
 use Rattle.closure_core.specs.declared.error.TakeError.TheVariants.{UnknownDomain, WrongEndpoint, BelowFloor, Full, NoMemory, ConfigDiffers}
 use Rattle.closure_core.proofs.ContainsFacts.{contains_first, contains_later, contains_none, contains_cases}
-use Rattle.closure_core.specs.declared.record.Record.{Record}
+use Rattle.closure_parts.specs.Records.{KeptRecords}
+use Rattle.receipt_core.specs.Limits.{receipt_limit}
 use Rattle.closure_parts.proofs.RecordFacts.{split_lacks}
 
 -- ---- the items with some numbers
@@ -157,7 +158,7 @@ bucket_inserts items buckets r spot arranged other gap =
 -- ---- one receipt more
 
 -- All receipts are in the order of buckets after one is put into its gap.
-pub bucketed_more : (c : Configuration) (stock : ArenaView Receipt) (buckets newer : Sequence) (items : List Receipt) (records : List Record)
+pub bucketed_more : (c : Configuration) (stock : ArenaView Receipt) (buckets newer : Sequence) (items : List Receipt) (records : KeptRecords)
     (r : Receipt) (place spot : ℕ) → IsWellHeld c stock (Some buckets) records → IsReceipt r
     → IsMissing (λ s. receipt_cmp s r) (in_order stock) place
     → IsGap (λ n. compared_at (λ x. bucket_cmp x r) stock.items n) buckets.items spot → items ≡ stock.items ++ r ∷ []
@@ -184,9 +185,9 @@ bucketed_more c stock buckets newer items records r place spot hoard is missing 
     }
 
 -- What is held is still in order after a receipt is taken.
-pub hoard_more : (c : Configuration) (stock new : ArenaView Receipt) (buckets newer : Option Sequence) (records : List Record)
+pub hoard_more : (c : Configuration) (stock new : ArenaView Receipt) (buckets newer : Option Sequence) (records : KeptRecords)
     (r : Receipt) (place : ℕ) → IsWellHeld c stock buckets records → IsReceipt r → IsFitting c r
-    → length stock.items < 65536 → IsMissing (λ s. receipt_cmp s r) (in_order stock) place
+    → length stock.items < receipt_limit c → IsMissing (λ s. receipt_cmp s r) (in_order stock) place
     → new.items ≡ stock.items ++ r ∷ []
     → in_order new ≡ insert (in_order stock) place r → new.order ≡ insert stock.order place (length stock.items)
     → IfSome newer (AreBucketed new.items) → IsWellHeld c new newer records
@@ -204,6 +205,7 @@ hoard_more c stock new buckets newer records r place hoard is fits few missing i
       keys = hoard.keys;
       records_rising = hoard.records_rising;
       few_records = hoard.few_records;
+      limit = hoard.limit;
       receipts = subst (AllByRecursion IsReceipt) (sym items) (all_more IsReceipt stock.items r hoard.receipts is);
       fitting = subst (AllByRecursion (IsFitting c)) (sym items) (all_more (IsFitting c) stock.items r hoard.fitting fits);
       rising = subst (IsStrictlySortedBy receipt_cmp) (missing_inserts (in_order stock) r place missing ∙ sym ordered)

@@ -2,23 +2,19 @@
 use Rattle.std.proofs.Common.{◌≡◌, ℕ, ◌+◌, ◌<◌, ◌≤◌, ◌⊎◌, inl, inr, Bool, true, false, List, [], ◌∷◌, length, Less, Equal, Greater}
 use Rattle.std.proofs.Common.{ltb, refl, sym, ap, ◌∙◌, subst, arith}
 use Rattle.std.specs.declared.cmp.Ordering.{Ordering}
-use Rattle.std.specs.Cmp.{tied_itself}
-use Rattle.std.specs.Cmp.Lexicographic.{on_texts}
 use Rattle.std.specs.List.{Contains}
-use Rattle.std.specs.List.Sorted.{IsStrictlySortedBy}
 use Rattle.std.specs.Prelude.{Result, Ok, Err, IsOk, OnOk, MatchBool}
 use Rattle.std.proofs.lemmas.Bool.{ltb-true, ltb-false}
 use Rattle.std.specs.Result.{is_err}
 use Rattle.std.specs.Prelude.{sum_by}
 use Rattle.std.proofs.lemmas.List.Sums.{sum_by-cons}
-use Rattle.std.proofs.lemmas.Map.Keys.{sorted_head, sorted_tail}
-use Rattle.fed_config.specs.Configuration.{Configuration, IsConfiguration, relationship_cmp}
-use Rattle.fed_config.specs.declared.relationship.Relationship.{Relationship}
+use Rattle.fed_config.specs.Configuration.{Configuration, IsConfiguration}
 use Rattle.receipt_core.specs.declared.distrust.Distrust.{Distrust}
 use Rattle.receipt_core.specs.Order.{receipt_total}
 use Rattle.receipt_core.specs.Receipt.{Receipt, receipt_cmp, distrust_cmp, pair_of, offers_of}
 use Rattle.receipt_core.specs.Rising.{placed, with_item, with_items}
 use Rattle.receipt_core.specs.Acceptance.{IsFitting, Meaning, IsMeaning}
+use Rattle.receipt_core.specs.Limits.{receipt_limit}
 use Rattle.closure_core.specs.Changes.{HeldAndRoom, Takes, HasMerged, HasMergedInRoom, TakesOk}
 use Rattle.closure_parts.specs.Held.{AddsRecord, AddsOrRefuses}
 use Rattle.closure_parts.specs.declared.records.Insertion.{Insertion}
@@ -33,9 +29,9 @@ use Rattle.closure_core.specs.declared.error.TakeError.TheVariants.{UnknownDomai
 use Rattle.closure_core.specs.declared.outcome.Refused.{Refused}
 use Rattle.closure_core.specs.declared.outcome.Taken.{Taken}
 use Rattle.closure_core.specs.declared.outcome.Taken.TheVariants.{New as TakenNew, Already as TakenAlready}
-use Rattle.closure_core.proofs.ContainsFacts.{contains_first, contains_later, contains_none, contains_cases}
+use Rattle.closure_core.proofs.ContainsFacts.{contains_first, contains_later}
 use Rattle.closure_core.proofs.FitFacts.{fits_known, fits_right, fits_above}
-use Rattle.closure_core.proofs.RisingFacts.{with_item_longer, each_has}
+use Rattle.closure_core.proofs.RisingFacts.{with_item_longer}
 use Rattle.closure_core.proofs.UnionFacts.{receipt_sets, record_sets, always}
 
 -- A list of length 0 is empty.
@@ -109,7 +105,7 @@ took start now new all later r is joining (TakenNew accepted) h =
       welcome = record {
         fitting = λ s has. subst (λ (c : Configuration). IsFitting c s) (sym (ap (λ (m : Meaning). m.config) h.meaning))
             (joining.welcome.fitting s (contains_later r later s has));
-        few = omega arith;
+        few = omega (arith, ap (λ (m : Meaning). receipt_limit m.config) h.meaning);
         room = record { receipts = omega arith; offers = omega (arith, offers_first r later) };
       };
       receipts = omega (arith, spent);
@@ -354,7 +350,7 @@ share_welcome m other roomy now share records is same e room roomier =
     let more_offers = roomier.offers in
     record {
       fitting = λ r has. subst (λ (c : Configuration). IsFitting c r) (sym config) (is.mergeable.of_config.fitting r (is.copies.each r has));
-      few = omega arith;
+      few = omega (arith, ap receipt_limit config);
       room = subst (λ (k : Room). IsRoomier (record {
         receipts = length share.copies.items;
         offers =

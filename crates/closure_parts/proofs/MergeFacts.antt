@@ -2,7 +2,7 @@
 use Rattle.std.proofs.Common.{◌≡◌, ℕ, ◌+◌, ◌<◌, ◌≤◌, ◌⊎◌, ◌↔◌, inl, inr, Bool, true, false, not, nat_eq, List, [], ◌∷◌}
 use Rattle.std.proofs.Common.{◌++◌, length, refl, sym, ap, ◌∙◌, subst, arith, append_assoc, append-nil}
 use Rattle.std.specs.declared.cmp.Ordering.{Ordering}
-use Rattle.std.specs.Bool.{IsTrue, MatchBool}
+use Rattle.std.specs.Bool.{IsTrue}
 use Rattle.std.specs.Cmp.Lexicographic.{same_text}
 use Rattle.std.specs.Option.{is_some}
 use Rattle.std.specs.Prelude.{Option, Some, None}
@@ -113,6 +113,13 @@ pub record IsCounted {X : Type 0} (set all rest : List X) (count limit : ℕ) : 
   pub lacking : (m : ℕ) → IsLacking set rest m → IsLacking set all (count + m)
   pub few : count + length rest ≤ limit
 
+-- Before the first item none is counted: the loop's beginning.
+pub IsCounted-start : {X : Type 0} (set all : List X) (limit : ℕ) → length all ≤ limit → IsCounted set all all 0 limit
+IsCounted-start set all limit few = record {
+  lacking = λ m h. subst (IsLacking set all) (omega arith) h;
+  few = omega (arith, few);
+}
+
 -- An item that is held is not counted.
 pub IsCounted-held : {X : Type 0} (set all rest later : List X) (x : X) (count limit : ℕ)
     → IsCounted set all rest count limit → rest ≡ x ∷ later → Contains set x → IsCounted set all later count limit
@@ -172,6 +179,16 @@ pub record IsCopied (held all rest copies : List Receipt) : Type 0 where
   pub each : (r : Receipt) → Contains copies r → Contains all r
   pub unheld : (r : Receipt) → Contains copies r → Contains held r → ⊥
   pub counted : IsCounted held all rest (length copies) 65536
+
+-- Before the first receipt none is copied: the loop's beginning.
+pub IsCopied-start : (held all : List Receipt) → length all ≤ 65536 → IsCopied held all all []
+IsCopied-start held all few = record {
+  joined = refl;
+  within = λ r has. has;
+  each = λ r has. absurd (contains_none r has);
+  unheld = λ r has. absurd (contains_none r has);
+  counted = IsCounted-start held all 65536 few;
+}
 
 -- A receipt that is held is not copied.
 pub IsCopied-held : (held all rest later copies : List Receipt) (r : Receipt) → IsStrictlySortedBy receipt_cmp held

@@ -150,9 +150,9 @@ record_of domains x records rising within all has =
     subst (Contains records) same found.has
 
 -- Without records all is kept as it should be.
-pub no_records : (capacity : ℕ) → 4096 ≤ capacity → AreRecords [] capacity
+pub no_records : (limit capacity : ℕ) → limit ≤ capacity → AreRecords (record { records = []; limit = limit }) capacity
 unfolding IsStrictlySortedBy
-no_records capacity room = record { rising = tt; few = omega arith; room = room }
+no_records limit capacity room = record { rising = tt; few = omega arith; room = room }
 
 -- ---- one record more
 
@@ -163,10 +163,11 @@ pub with_record : (xs new : List Record) (x : Record) (place : ℕ) → IsStrict
 with_record xs new x place rising split within e = e ∙ sym (with_item_at record_total x xs place within split.0 split.1)
 
 -- The records are kept as they should be after one more.
-pub more_records : (xs new : List Record) (x : Record) (place capacity room : ℕ) → AreRecords xs capacity
-    → length xs < 4096 → place ≤ length xs → new ≡ insert xs place x → new ≡ with_item record_cmp x xs → capacity ≤ room
-    → AreRecords new room
-more_records xs new x place capacity room are few within inserted e wider =
+pub more_records : (xs new : List Record) (x : Record) (limit place capacity room : ℕ)
+    → AreRecords (record { records = xs; limit = limit }) capacity → length xs < limit → place ≤ length xs
+    → new ≡ insert xs place x → new ≡ with_item record_cmp x xs → capacity ≤ room
+    → AreRecords (record { records = new; limit = limit }) room
+more_records xs new x limit place capacity room are few within inserted e wider =
     let size : length new ≡ length xs + 1 = ap length inserted ∙ length-insert xs place x within in
     let old = are.room in
     record {

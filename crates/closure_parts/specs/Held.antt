@@ -17,14 +17,13 @@ use Rattle.receipt_core.specs.Acceptance.{IsFitting, Meaning}
 use Rattle.sorted_order.specs.Sought.{IsMissing}
 use Rattle.sorted_order.specs.Sequence.{Sequence}
 use Rattle.sorted_order.specs.ArenaView.{ArenaView, Arranges, in_order, picked}
-use Rattle.closure_parts.specs.Records.{record_cmp}
+use Rattle.closure_parts.specs.Records.{record_cmp, KeptRecords}
 use Rattle.closure_core.specs.Inside.Records.{AreWithin}
 use Rattle.closure_core.specs.Refusals.{IsOfUnknownDomain, IsOfWrongEndpoint, IsBelowFloor}
 use Rattle.closure_core.specs.Refusals.{IsOneTooMany, RefusesDistrust}
 use Rattle.closure_core.specs.declared.error.TakeError.{TakeError}
 use Rattle.closure_core.specs.declared.error.TakeError.TheVariants.{UnknownDomain, WrongEndpoint}
 use Rattle.closure_core.specs.declared.error.TakeError.TheVariants.{BelowFloor, Full}
-use Rattle.closure_core.specs.declared.record.Record.{Record}
 use Rattle.closure_parts.specs.declared.held.Lookup.{Lookup}
 use Rattle.closure_parts.specs.declared.held.Lookup.TheVariants.{Present, Absent}
 use Rattle.closure_parts.specs.declared.records.Insertion.{Insertion}
@@ -67,27 +66,29 @@ abbrev pub capacity_with : ℕ → Option Sequence → ℕ
 capacity_with receipts None = receipts
 capacity_with receipts (Some buckets) = min receipts buckets.capacity
 
--- The receipts fit and are in order, also in that of buckets if it is kept, and so are the records.
+-- The receipts fit and are in order, also in that of buckets if it is kept, and so are the records;
+-- there are no more of either than the configuration lets there be.
 pub record IsWellHeld (c : Configuration) (stock : ArenaView Receipt) (buckets : Option Sequence)
-    (records : List Record) : Type 0 where
+    (kept : KeptRecords) : Type 0 where
   pub configuration : IsConfiguration c
   pub receipts : AllByRecursion IsReceipt stock.items
   pub fitting : AllByRecursion (IsFitting c) stock.items
   pub rising : IsStrictlySortedBy receipt_cmp (in_order stock)
-  pub few : length stock.items ≤ receipt_limit
+  pub few : length stock.items ≤ receipt_limit c
   pub arranged : Arranges stock.order (length stock.items)
   pub bucketed : IfSome buckets (AreBucketed stock.items)
-  pub within : AreWithin (length (domains_of c)) records
-  pub keys : AllByRecursion (λ r. IsDigest r.key.0) records
-  pub records_rising : IsStrictlySortedBy record_cmp records
-  pub few_records : length records ≤ record_limit
+  pub within : AreWithin (length (domains_of c)) kept.records
+  pub keys : AllByRecursion (λ r. IsDigest r.key.0) kept.records
+  pub records_rising : IsStrictlySortedBy record_cmp kept.records
+  pub few_records : length kept.records ≤ kept.limit
+  pub limit : kept.limit ≡ record_limit c
 
 -- The receipt fits and is not held, and there may be one more; its place in the order is known.
 pub record IsAbsent (m : Meaning) (r : Receipt) (place : ℕ) : Type 0 where
   pub is : IsReceipt r
   pub fits : IsFitting m.config r
   pub unheld : Contains m.held r → ⊥
-  pub few : length m.held < receipt_limit
+  pub few : length m.held < receipt_limit m.config
   pub missing : IsMissing (λ s. receipt_cmp s r) m.held place
 
 abbrev pub IsPlaced : Meaning → Receipt → Lookup → Type 0
@@ -105,7 +106,7 @@ RefusesNew m r _ = ⊥
 pub record HasAdded (old : Meaning) (x : Distrust) (new : Meaning) : Type 0 where
   pub domain : HasDomain old.config x.domain
   pub unheld : Contains old.records x → ⊥
-  pub few : length old.records < record_limit
+  pub few : length old.records < record_limit old.config
   pub meaning : new ≡ record old { records = with_distrust x old.records }
 
 abbrev pub AddsRecord : Meaning → Distrust → Meaning → Insertion → Type 0

@@ -17,8 +17,8 @@ use Rattle.receipt_core.specs.Limits.{receipt_limit, record_limit}
 -- Both together are of one configuration, and no more than one holds.
 pub record IsMergeable (m other : Meaning) : Type 0 where
   pub of_config : IsOfConfig m other
-  pub few : length (all_receipts m other) ≤ receipt_limit
-  pub few_records : length (all_records m other) ≤ record_limit
+  pub few : length (all_receipts m other) ≤ receipt_limit m.config
+  pub few_records : length (all_records m other) ≤ record_limit m.config
 
 -- The other has a receipt that is not held.
 abbrev pub HasNew : Meaning → Meaning → Type 0
@@ -59,7 +59,7 @@ first_cause_of _ why = why
 -- These are of domains of the configuration, and together with what is held no more than one holds.
 pub record AreKnown (m : Meaning) (records : List Distrust) : Type 0 where
   pub domains : (x : Distrust) → Contains records x → HasDomain m.config x.domain
-  pub few : length (with_items distrust_cmp records m.records) ≤ record_limit
+  pub few : length (with_items distrust_cmp records m.records) ≤ record_limit m.config
 
 -- No more room has gone than that of these receipts and their offers.
 pub record HasSpentOn (old : Room) (taken : List Receipt) (new : Room) : Type 0 where
@@ -69,7 +69,7 @@ pub record HasSpentOn (old : Room) (taken : List Receipt) (new : Room) : Type 0 
 -- These fit, there may be this many more, and there is room for them.
 pub record FitWithinRoom (old : HeldAndRoom) (receipts : List Receipt) : Type 0 where
   pub fitting : (r : Receipt) → Contains receipts r → IsFitting old.meaning.config r
-  pub few : length old.meaning.held + length receipts ≤ receipt_limit
+  pub few : length old.meaning.held + length receipts ≤ receipt_limit old.meaning.config
   pub room : IsRoomier (record { receipts = length receipts; offers = offers_count receipts })
       old.room
 

@@ -8,31 +8,35 @@ use Rattle.receipt_core.specs.Rising.{with_item}
 use Rattle.closure_core.specs.declared.record.Record.{Record}
 use Rattle.closure_parts.specs.declared.records.Insertion.{Insertion}
 use Rattle.closure_parts.specs.declared.records.Insertion.TheVariants.{Added, There, Full}
-use Rattle.receipt_core.specs.Limits.{record_limit}
 
 -- records are ordered by key, and then by the numbers of their domains
 abbrev pub record_cmp : Record → Record → Ordering
 record_cmp a b = ordering_then (key_cmp a.key b.key) (nat_cmp a.domain b.domain)
 
--- what is kept of records
-pub record AreRecords (records : List Record) (capacity : ℕ) : Type 0 where
-  pub rising : IsStrictlySortedBy record_cmp records
-  pub few : length records ≤ record_limit
-  pub room : record_limit ≤ capacity
+-- records, and how many there may be
+pub record KeptRecords : Type 0 where
+  pub records : List Record
+  pub limit : ℕ
+
+-- They rise and are not too many, and there is room for as many as there may be.
+pub record AreRecords (kept : KeptRecords) (capacity : ℕ) : Type 0 where
+  pub rising : IsStrictlySortedBy record_cmp kept.records
+  pub few : length kept.records ≤ kept.limit
+  pub room : kept.limit ≤ capacity
 
 -- It is held now, and was not.
-pub record IsAdded (old : List Record) (r : Record) (new : List Record) : Type 0 where
-  pub unheld : Contains old r → ⊥
-  pub few : length old < record_limit
-  pub now : new ≡ with_item record_cmp r old
+pub record IsAdded (old : KeptRecords) (r : Record) (new : KeptRecords) : Type 0 where
+  pub unheld : Contains old.records r → ⊥
+  pub few : length old.records < old.limit
+  pub now : new ≡ record old { records = with_item record_cmp r old.records }
 
 -- There is no place for it.
-pub record IsPast (old : List Record) (r : Record) (new : List Record) : Type 0 where
-  pub unheld : Contains old r → ⊥
-  pub full : record_limit ≤ length old
+pub record IsPast (old : KeptRecords) (r : Record) (new : KeptRecords) : Type 0 where
+  pub unheld : Contains old.records r → ⊥
+  pub full : old.limit ≤ length old.records
   pub now : new ≡ old
 
-abbrev pub InsertsRecord : List Record → Record → List Record → Insertion → Type 0
+abbrev pub InsertsRecord : KeptRecords → Record → KeptRecords → Insertion → Type 0
 InsertsRecord old r new Added = IsAdded old r new
-InsertsRecord old r new There = Contains old r × (new ≡ old)
+InsertsRecord old r new There = Contains old.records r × (new ≡ old)
 InsertsRecord old r new Full = IsPast old r new

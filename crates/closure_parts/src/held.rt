@@ -16,12 +16,10 @@ ghost use Rattle.receipt_core.specs.Limits.{receipt_limit, record_limit};
 use crate::probes::{InBucket, OfReceipt, PlaceInBuckets};
 use crate::receipt_hint::receipt_hint;
 use crate::records::{Insertion, Records};
-use closure_core::{
-    Distrusts, MOST_RECEIPTS, NoMemory, Receipts, Record, TakeError, check_fit, record_of,
-};
+use closure_core::{Distrusts, NoMemory, Receipts, Record, TakeError, check_fit, record_of};
 use fed_config::Config;
 use jwk_set::KeyId;
-use receipt_core::Receipt;
+use receipt_core::{Receipt, receipt_limit, record_limit};
 use sorted_order::{Arena, Lent, Order};
 use spiffe_name::TrustDomain;
 use std::alloc::Global;
@@ -58,7 +56,7 @@ impl Model for Held {
       config = h.config;
       arrived = h.receipts.items;
       held = in_order h.receipts;
-      records = distrusts_of (domains_of h.config) h.records;
+      records = distrusts_of (domains_of h.config) h.records.records;
       capacity = capacity_with h.receipts.capacity h.buckets;
     } };
 
@@ -82,7 +80,7 @@ impl Held {
             config: config.try_clone(alloc)?,
             receipts: Arena::new(alloc),
             buckets,
-            records: Records::new(alloc)?,
+            records: Records::new(alloc, record_limit(config))?,
         })
     }
 
@@ -99,8 +97,8 @@ impl Held {
     /// Whether the receipt is held, or else its place.
     ///
     /// # Errors
-    /// The receipt does not fit, and why [`check_fit`] says. Or it
-    /// is not held, and there may be no more: `Full`.
+    /// The receipt does not fit, and why [`check_fit`] says. Or it is not held, and there may be no
+    /// more: `Full`.
     pub fn standing(&self, receipt: &Receipt) -> Result<Lookup, TakeError>
         ensures { MatchResult result (IsPlaced (meaning_of self.now) receipt.now)
             (RefusesNew (meaning_of self.now) receipt.now) }
@@ -111,7 +109,7 @@ impl Held {
         let sought = OfReceipt::new(self.receipts.items(), receipt);
         match self.receipts.find_by_guess(&sought) {
             Ok(_) => Ok(Lookup::Present),
-            Err(_) if self.receipts.len() >= MOST_RECEIPTS => Err(TakeError::Full),
+            Err(_) if self.receipts.len() >= receipt_limit(&self.config) => Err(TakeError::Full),
             Err(place) => Ok(Lookup::Absent(place)),
         }
     }
@@ -244,15 +242,15 @@ impl Held {
 
     /// How many more receipts there may be.
     pub(crate) fn receipts_left(&self) -> usize
-        ensures { length self.now.held + result ≡ receipt_limit }
+        ensures { length self.now.held + result ≡ receipt_limit self.now.config }
     {
         let _valid = self.config();
-        MOST_RECEIPTS - self.receipts.len()
+        receipt_limit(&self.config) - self.receipts.len()
     }
 
     /// How many more records of distrust there may be.
     pub(crate) fn records_left(&self) -> usize
-        ensures { length self.now.records + result ≡ record_limit }
+        ensures { length self.now.records + result ≡ record_limit self.now.config }
     {
         self.records.left()
     }

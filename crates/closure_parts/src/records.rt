@@ -1,11 +1,10 @@
-//! The records of distrust that a closure keeps: a sorted vector of at most 4,096, whose room is
-//! made at the start.
+//! The records of distrust that a closure keeps: a sorted vector of at most a given number, whose
+//! room is made at the start.
 ghost use Rattle.std.specs.Prelude.{◌≡◌, ◌+◌, ◌≤◌, ◌↔◌, [], length, Contains, IfOk, IsTrue};
 ghost use Rattle.std.specs.List.Sorted.{IsStrictlySortedBy};
 ghost use Rattle.closure_parts.specs.Records.{InsertsRecord, record_cmp};
-ghost use Rattle.receipt_core.specs.Limits.{record_limit};
 
-use closure_core::{MOST_RECORDS, Record};
+use closure_core::Record;
 use std::alloc::{AllocError, Global};
 use std::marker::Model;
 
@@ -20,52 +19,54 @@ pub enum Insertion {
     Full,
 }
 
-/// Records of distrust in their order, with room for 4,096.
+/// Records of distrust in their order, with room for the most that there may be.
 #[derive(Drop)]
 pub(crate) struct Records {
     items: Vec<Record>,
+    limit: usize,
 }
 
 impl Model for Records {
-    ghost use Rattle.std.specs.Prelude.{List, vec_capacity};
-    ghost use Rattle.closure_core.specs.declared.record.Record.{Record};
-    ghost use Rattle.closure_parts.specs.Records.{AreRecords};
+    ghost use Rattle.std.specs.Prelude.{vec_capacity};
+    ghost use Rattle.closure_parts.specs.Records.{AreRecords, KeptRecords};
 
-    ghost Value = { List Record };
+    ghost Value = { KeptRecords };
 
-    ghost view = { λ r. r.items.items };
+    ghost view = { λ r. record { records = r.items.items; limit = r.limit } };
 
-    ghost invariant = { λ r. AreRecords r.items.items (vec_capacity r.items) };
+    ghost invariant = { λ r. AreRecords (record { records = r.items.items; limit = r.limit })
+        (vec_capacity r.items) };
 }
 
 impl Records {
-    pub(crate) fn new(alloc: Global) -> Result<Records, AllocError>
-        ensures { IfOk result (λ r. r ≡ []) }
+    pub(crate) fn new(alloc: Global, limit: usize) -> Result<Records, AllocError>
+        ensures { IfOk result (λ r. r ≡ record { records = []; limit = limit }) }
     {
         Ok(Records {
-            items: Vec::with_capacity(alloc, MOST_RECORDS)?,
+            items: Vec::with_capacity(alloc, limit)?,
+            limit,
         })
     }
 
     pub(crate) fn as_slice(&self) -> &[Record]
-        ensures records { result.now ≡ self.now }
-        ensures rising { IsStrictlySortedBy record_cmp self.now }
-        ensures few { length self.now ≤ record_limit }
+        ensures records { result.now ≡ self.now.records }
+        ensures rising { IsStrictlySortedBy record_cmp self.now.records }
+        ensures few { length self.now.records ≤ self.now.limit }
     {
         self.items.as_slice()
     }
 
     pub(crate) fn holds(&self, sought: &Record) -> bool
-        ensures { IsTrue result ↔ Contains self.now sought.now }
+        ensures { IsTrue result ↔ Contains self.now.records sought.now }
     {
         self.items.binary_search(sought).is_ok()
     }
 
     /// How many more there may be.
     pub(crate) fn left(&self) -> usize
-        ensures { length self.now + result ≡ record_limit }
+        ensures { length self.now.records + result ≡ self.now.limit }
     {
-        MOST_RECORDS - self.items.len()
+        self.limit - self.items.len()
     }
 
     pub(crate) fn alloc(&self) -> Global {
@@ -78,7 +79,7 @@ impl Records {
     {
         match self.items.binary_search(&entry) {
             Ok(_) => Insertion::There,
-            Err(_) if self.items.len() >= MOST_RECORDS => Insertion::Full,
+            Err(_) if self.items.len() >= self.limit => Insertion::Full,
             Err(place) => {
                 // There is room, so it is never refused.
                 let _ = self.items.insert(place, entry);

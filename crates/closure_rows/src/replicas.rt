@@ -1,8 +1,8 @@
 //! The replicas that rows act on.
 use crate::fault::RowFault;
-use crate::words::{first_word, text_of};
+use crate::words::{count, first_word, text_of};
 use closure_core::Closure;
-use fed_config::Config;
+use fed_config::{Config, Limits};
 use poll_log::PollLog;
 use row_script::Script;
 use std::alloc::{AllocError, Global};
@@ -50,20 +50,33 @@ fn two_replicas<C: Closure>(alloc: Global, config: &Config) -> Result<Pair<C>, A
 }
 
 /// Makes a replica of the configuration of that name, after the argument that says over which
-/// closures, which is here from now on.
+/// closures, which is here from now on. Two numbers may follow: how many receipts and how many
+/// records of distrust it may hold.
 pub(crate) fn make<C: Closure>(
     alloc: Global,
     script: &Script,
     pair: &mut Pair<C>,
     words: &str,
 ) -> Result<(), RowFault> {
-    let (over, name) = first_word(words);
+    let (over, words) = first_word(words);
     if over != "both" && over != "index" {
         return Err(RowFault::UnknownWord);
     }
-    let config = Config::read(alloc, text_of(script, name)?)?;
+    let (name, limits) = first_word(words);
+    let mut config = Config::read(alloc, text_of(script, name)?)?;
+    if !limits.is_empty() {
+        config.set_limits(limits_of(limits)?);
+    }
     pair.here = C::new(alloc, &config)?;
     Ok(())
+}
+
+fn limits_of(words: &str) -> Result<Limits, RowFault> {
+    let (receipts, records) = first_word(words);
+    Ok(Limits {
+        receipts: count(receipts)?,
+        records: count(records)?,
+    })
 }
 
 /// Swaps the two replicas.

@@ -33,12 +33,19 @@ use Rattle.fed_config.specs.declared.relationship.Relationship.{Relationship}
 use Rattle.fed_config.specs.declared.seed.Seed.{Seed}
 use Rattle.fed_config.proofs.MeaningFacts.{same_written}
 use Rattle.fed_config.proofs.ReadFacts.{map_length, single_in}
+use Rattle.fed_config.specs.declared.limits.Limits.{Limits}
+use Rattle.fed_config.specs.Limits.{usual_limits}
+use Rattle.fed_config.proofs.LimitFacts.{IsConfiguration-limits}
 
 -- ---- what the canonical text writes
 
 -- a configuration from its parts
-abbrev configuration_of : List Relationship → List Seed → List Floor → Configuration
-configuration_of relationships seeds floors = record { relationships = relationships; seeds = seeds; floors = floors }
+abbrev configuration_of : List Relationship → List Seed → List Floor → Limits → Configuration
+configuration_of relationships seeds floors limits = record { relationships = relationships; seeds = seeds; floors = floors; limits = limits }
+
+-- the configuration with the usual limits
+abbrev usual : Configuration → Configuration
+usual c = record c { limits = usual_limits }
 
 -- a relationship as it is written in the canonical text
 text_of : Relationship → RelationshipText
@@ -65,10 +72,10 @@ each_seed_text [] = tt
 each_seed_text (s ∷ ss) = (record { count = (_, refl, refl); bundle = refl; domain = refl }, each_seed_text ss)
 
 -- the value of a configuration says its texts, and has a third member if there are floors
-says_parts : (rs : List Relationship) (ss : List Seed) (fs : List Floor)
-    → SaysWritten (config_tree (configuration_of rs ss fs)) (texts_of (configuration_of rs ss fs))
+says_parts : (rs : List Relationship) (ss : List Seed) (fs : List Floor) (limits : Limits)
+    → SaysWritten (config_tree (configuration_of rs ss fs limits)) (texts_of (configuration_of rs ss fs limits))
 unfolding texts_of
-says_parts rs ss [] = record {
+says_parts rs ss [] limits = record {
   floors = inl ((_, refl, refl), refl);
   relationships = map relationship_tree rs;
   has_relationships = refl;
@@ -77,7 +84,7 @@ says_parts rs ss [] = record {
   has_seeds = refl;
   each_seed = each_seed_text ss;
 }
-says_parts rs ss (f ∷ fs) = record {
+says_parts rs ss (f ∷ fs) limits = record {
   floors = inr ((_, refl, refl), refl);
   relationships = map relationship_tree rs;
   has_relationships = refl;
@@ -88,7 +95,7 @@ says_parts rs ss (f ∷ fs) = record {
 }
 
 says_texts : (c : Configuration) → SaysWritten (config_tree c) (texts_of c)
-says_texts c = says_parts c.relationships c.seeds c.floors
+says_texts c = says_parts c.relationships c.seeds c.floors c.limits
 
 -- a text whose bytes pass the test for ASCII is UTF-8: for the names of members
 ascii : (t : List ℕ) → are_ascii t ≡ true → IsUtf8 t
@@ -174,8 +181,9 @@ unfolding seed_from
 same_seed s u a b = let same : seed_from s.domain s.document ≡ seed_from u.domain u.document = cc in same
 
 -- configurations with equal parts are equal
-same_configuration : (b c : Configuration) → b.relationships ≡ c.relationships → b.seeds ≡ c.seeds → b.floors ≡ c.floors → b ≡ c
-same_configuration b c p q r = let same : configuration_of b.relationships b.seeds b.floors ≡ configuration_of c.relationships c.seeds c.floors = cc in same
+same_configuration : (b c : Configuration) → b.relationships ≡ c.relationships → b.seeds ≡ c.seeds → b.floors ≡ c.floors
+    → b.limits ≡ c.limits → b ≡ c
+same_configuration b c p q r l = let same : configuration_of b.relationships b.seeds b.floors b.limits ≡ configuration_of c.relationships c.seeds c.floors c.limits = cc in same
 
 -- a strictly sorted list is the list of its own set
 itself : {X : Type 0} (cmp : X → X → Ordering) (xs : List X) → IsStrictlySortedBy cmp xs → IsSetOf cmp xs xs
@@ -291,19 +299,20 @@ module _ (plain_domain : (text : List ℕ) → IsDomainText text → IsPlainText
         same_seed s u (ap (λ t. t.domain) e) (one_document s.document u.document p.bundle q.bundle (ap compact_text bundles))
 
     -- configurations with equal texts are equal
-    one_of : (b c : Configuration) → IsConfiguration b → IsConfiguration c → texts_of b ≡ texts_of c → b ≡ c
+    one_of : (b c : Configuration) → IsConfiguration b → IsConfiguration c → b.limits ≡ c.limits → texts_of b ≡ texts_of c → b ≡ c
     unfolding texts_of
-    one_of b c p q e =
+    one_of b c p q l e =
         same_configuration b c
         (map_one IsRelationship text_of one_relationship b.relationships c.relationships p.each_relationship q.each_relationship (ap (λ w. w.relationships) e))
-        (map_one IsSeed seed_text_of one_seed b.seeds c.seeds p.each_seed q.each_seed (ap (λ w. w.seeds) e)) (ap (λ w. w.floors) e)
+        (map_one IsSeed seed_text_of one_seed b.seeds c.seeds p.each_seed q.each_seed (ap (λ w. w.seeds) e)) (ap (λ w. w.floors) e) l
 
-    -- configurations are equal exactly if their canonical texts are, as `laws::canonical_texts`
-    -- says
-    pub one_text : (b c : Configuration) → IsConfiguration b → IsConfiguration c → (b ≡ c) ↔ (config_text b ≡ config_text c)
-    one_text b c p q = (
+    -- configurations with the same limits are equal exactly if their canonical texts are, as
+    -- `laws::canonical_texts` says
+    pub one_text : (b c : Configuration) → IsConfiguration b → IsConfiguration c → b.limits ≡ c.limits
+        → (b ≡ c) ↔ (config_text b ≡ config_text c)
+    one_text b c p q l = (
       λ e. ap config_text e,
-      λ e. one_of b c p q (same_written (config_text c) (texts_of b) (texts_of c) (subst (λ t. IsText t (texts_of b)) e (is_text b p)) (is_text c q)),
+      λ e. one_of b c p q l (same_written (config_text c) (texts_of b) (texts_of c) (subst (λ t. IsText t (texts_of b)) e (is_text b p)) (is_text c q)),
     )
 
   -- ---- what is written is read as the configuration
@@ -335,8 +344,8 @@ module _ (plain_domain : (text : List ℕ) → IsDomainText text → IsPlainText
       each_seed ss h.1,
     )
 
-    -- the texts of a configuration mean it
-    is_meant : (c : Configuration) → IsConfiguration c → HasShortUrls c → IsMeant (texts_of c) c
+    -- the texts of a configuration mean it, with the usual limits
+    is_meant : (c : Configuration) → IsConfiguration c → HasShortUrls c → IsMeant (texts_of c) (usual c)
     unfolding texts_of
     is_meant c h short = record {
       relationships = c.relationships;
@@ -346,11 +355,12 @@ module _ (plain_domain : (text : List ℕ) → IsDomainText text → IsPlainText
       each_seed = each_seed c.seeds h.each_seed;
       seed_set = itself _ c.seeds h.rising_seeds;
       same_floors = refl;
+      usual = refl;
     }
 
     -- the canonical text of a configuration with short URLs is a configuration of that meaning, as
     -- `laws::canonical_texts` says
-    pub reads_back : (c : Configuration) → IsConfiguration c → HasShortUrls c → IsConfig (config_text c) c
+    pub reads_back : (c : Configuration) → IsConfiguration c → HasShortUrls c → IsConfig (config_text c) (usual c)
     unfolding texts_of
     reads_back c h short = record {
       written = texts_of c;
@@ -361,7 +371,7 @@ module _ (plain_domain : (text : List ℕ) → IsDomainText text → IsPlainText
           h.rising_relationships;
       few_relationships = subst (λ n. n ≤ 1024) (sym (map_length text_of c.relationships)) h.few_relationships;
       few_seeds = subst (λ n. n ≤ 4096) (sym (map_length seed_text_of c.seeds)) h.few_seeds;
-      is = h;
+      is = IsConfiguration-limits c usual_limits h;
     }
 
 -- without floors the canonical text is that of relationships and seeds, as `laws::canonical_texts`

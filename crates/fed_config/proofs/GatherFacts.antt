@@ -17,6 +17,7 @@ use Rattle.fed_config.specs.declared.names.Names.{Names}
 use Rattle.fed_config.specs.declared.relationship.Relationship.{Relationship}
 use Rattle.fed_config.specs.declared.seed.Seed.{Seed}
 use Rattle.fed_config.proofs.SetFacts.{Has, Has-Contains, Contains-Has}
+use Rattle.fed_config.specs.Limits.{usual_limits}
 
 -- ---- the loops' turns
 
@@ -51,7 +52,7 @@ IsSetOf-dedup all ys moved sorted = record {
 
 -- a configuration from its parts
 abbrev of : List Relationship → List Seed → List Floor → Configuration
-of rs seeds floors = record { relationships = rs; seeds = seeds; floors = floors }
+of rs seeds floors = record { relationships = rs; seeds = seeds; floors = floors; limits = usual_limits }
 
 -- a member of two joined lists is a member of one of them
 pub either : {X : Type 0} (xs ys : List X) (x : X) → Has (xs ++ ys) x → Has xs x ⊎ Has ys x

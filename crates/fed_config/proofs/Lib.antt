@@ -6,6 +6,7 @@ mod DocumentFacts
 mod DomainFacts
 mod FloorFacts
 mod GatherFacts
+mod LimitFacts
 mod MeaningFacts
 mod ReadFacts
 mod SeedFacts

@@ -30,6 +30,7 @@ use Rattle.fed_config.proofs.SetFacts.{Has-Contains, Contains-Has, each_from_has
 use Rattle.fed_config.proofs.SingleFacts.{relationships_total}
 use Rattle.fed_config.proofs.WrittenFacts.{one_array}
 use Rattle.fed_config.proofs.ZipFacts.{each_left, zip_left, zip_one}
+use Rattle.fed_config.specs.declared.limits.Limits.{Limits}
 
 -- ---- what is written
 
@@ -148,8 +149,8 @@ same_set {X} o xs ys set other e p q =
     (λ x h. Has-Contains set x ((p.members x).1 (subst (λ l. Contains l x) (sym e) ((q.members x).0 (Contains-Has other x h)))))
 
 -- a configuration from its parts
-configuration_of : List Relationship → List Seed → List Floor → Configuration
-configuration_of relationships seeds floors = record { relationships = relationships; seeds = seeds; floors = floors }
+configuration_of : List Relationship → List Seed → List Floor → Limits → Configuration
+configuration_of relationships seeds floors limits = record { relationships = relationships; seeds = seeds; floors = floors; limits = limits }
 
 module _ (one_id : (one other : Id) → IsId one → IsId other → one.text ≡ other.text
     → one ≡ other) (one_bundle : (value : Data) (b c : Bundle) → Means value b → Means value c → b ≡ c) where
@@ -181,7 +182,8 @@ module _ (one_id : (one other : Id) → IsId one → IsId other → one.text ≡
       p.relationship_set q.relationship_set in
       let d : b.seeds ≡ c.seeds = same_set seed_cmp_total p.seeds q.seeds b.seeds c.seeds ss p.seed_set q.seed_set in
       let f : b.floors ≡ c.floors = p.same_floors ∙ sym q.same_floors in
-      let same : configuration_of b.relationships b.seeds b.floors ≡ configuration_of c.relationships c.seeds c.floors = cc in same
+      let l : b.limits ≡ c.limits = p.usual ∙ sym q.usual in
+      let same : configuration_of b.relationships b.seeds b.floors b.limits ≡ configuration_of c.relationships c.seeds c.floors c.limits = cc in same
 
   -- bytes are of one configuration at most, as `laws::configurations` says
   pub one_configuration : (bytes : List ℕ) (b c : Configuration) → IsConfig bytes b → IsConfig bytes c → b ≡ c

@@ -38,6 +38,7 @@ use Rattle.fed_config.proofs.GatherFacts.{are_domains, either, left, right}
 use Rattle.fed_config.proofs.SetFacts.{Has, Has-Contains, Contains-Has, each_has, each_from_has}
 use Rattle.fed_config.proofs.SingleFacts.{relationships_total, below_by, below_all}
 use Rattle.fed_config.proofs.ZipFacts.{each_left, each_right, each_unmap, zip_map, zip_length}
+use Rattle.fed_config.specs.Limits.{usual_limits}
 
 -- ---- exits
 
@@ -490,7 +491,7 @@ module _ (ts : List RelationshipText) (es : List SeedEntry) (fs : List Floor) (n
                     (zs : List Seed) (set : IsSetOf seed_cmp ss zs) (bound : length zs ≤ length ss) (form : AreFloors fs) where
                   -- the configuration of the sorted lists
                   abbrev of : Configuration
-                  of = record { relationships = ys; seeds = zs; floors = fs }
+                  of = record { relationships = ys; seeds = zs; floors = fs; limits = usual_limits }
 
                   -- its relationships are the set of those that are written
                   relationship_set : IsSetOf relationship_cmp rs ys
@@ -544,6 +545,7 @@ module _ (ts : List RelationshipText) (es : List SeedEntry) (fs : List Floor) (n
                     each_seed = zip_map SaysSeed seed_text es ss said_seeds;
                     seed_set = set;
                     same_floors = refl;
+                    usual = refl;
                   }
 
                   -- the last test, of the number of domains, decides whether what is written is this

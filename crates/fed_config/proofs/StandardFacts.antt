@@ -16,12 +16,13 @@ use Rattle.fed_config.specs.Written.{RelationshipText, SaysRelationshipText, Say
 use Rattle.fed_config.specs.declared.error.ConfigError.TheVariants.{BadProfile, DoubleRelationship, BadSeed, BadName, BadUrl}
 use Rattle.fed_config.specs.declared.relationship.Relationship.{Relationship}
 use Rattle.fed_config.specs.declared.seed.Seed.{Seed}
+use Rattle.fed_config.specs.Limits.{usual_limits}
 
 -- ---- canonical texts
 
 -- the configuration that says nothing
 abbrev nothing : Configuration
-nothing = record { relationships = []; seeds = []; floors = [] }
+nothing = record { relationships = []; seeds = []; floors = []; limits = usual_limits }
 
 -- its canonical text has two empty arrays
 pub text_of_nothing : config_text nothing ≡ codes "{\"relationships\":[],\"seeds\":[]}"
@@ -41,7 +42,7 @@ abbrev seed : Seed
 seed = record { domain = codes "a.example"; document = record { authorities = []; rank = None; hint = None } }
 
 -- the canonical text of both has the members in the order of their names, with no space
-pub text_of_both : config_text (record { relationships = relationship ∷ []; seeds = seed ∷ []; floors = [] })
+pub text_of_both : config_text (record { relationships = relationship ∷ []; seeds = seed ∷ []; floors = []; limits = usual_limits })
     ≡ codes "{\"relationships\":[{\"domain\":\"a.example\",\"endpoint\":\"spiffe://a.example/bundle\",\"profile\":\"https_spiffe\",\"url\":\"https://bundles.a.example/\"}],\"seeds\":[{\"bundle\":{\"keys\":[]},\"domain\":\"a.example\"}]}"
 unfolding config_text escape_byte
 text_of_both = refl

@@ -12,6 +12,7 @@ use Rattle.fed_config.specs.Inside.FloorsText.{floors_text}
 use Rattle.fed_config.specs.declared.floor.Floor.{Floor}
 use Rattle.fed_config.specs.declared.relationship.Relationship.{Relationship}
 use Rattle.fed_config.specs.declared.seed.Seed.{Seed}
+use Rattle.fed_config.specs.Limits.{usual_limits}
 
 -- the text of a relationship, in the parts that the code writes
 pub relationship_text : (r : Relationship) → compact_text (relationship_tree r)
@@ -29,7 +30,7 @@ seed_text s = refl
 
 -- a configuration from its parts
 abbrev pub config_of : List Relationship → List Seed → List Floor → Configuration
-config_of relationships seeds floors = record { relationships = relationships; seeds = seeds; floors = floors }
+config_of relationships seeds floors = record { relationships = relationships; seeds = seeds; floors = floors; limits = usual_limits }
 
 -- the members after the floors, and the closing bracket
 abbrev pub sets_text : List Relationship → List Seed → List ℕ

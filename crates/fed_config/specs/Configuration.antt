@@ -16,17 +16,20 @@ use Rattle.spiffe_name.specs.SpiffeId.{IsId}
 use Rattle.bundle_doc.specs.Bundle.{Bundle, IsBundle, Fits, canonical_text, document_tree}
 use Rattle.fed_config.specs.EndpointUrl.{IsEndpointUrl}
 use Rattle.fed_config.specs.declared.floor.Floor.{Floor}
+use Rattle.fed_config.specs.declared.limits.Limits.{Limits}
 use Rattle.fed_config.specs.declared.relationship.Relationship.{Relationship}
 use Rattle.fed_config.specs.declared.seed.Seed.{Seed}
 use Rattle.fed_config.specs.Limits.{domain_limit, relationship_limit, seed_limit, url_limit}
 
 -- A finite map of relationships, kept as the list strictly sorted by their domains, a finite set of
 -- seeds, kept as the list strictly sorted by domain and then by canonical text, and a finite map of
--- floors, kept as the list strictly sorted by their domains.
+-- floors, kept as the list strictly sorted by their domains; and how much may be held under it,
+-- which its text does not say.
 pub record Configuration : Type 0 where
   pub relationships : List Relationship
   pub seeds : List Seed
   pub floors : List Floor
+  pub limits : Limits
 
 -- names are ordered by their bytes
 abbrev pub domain_cmp : List ℕ → List ℕ → Ordering

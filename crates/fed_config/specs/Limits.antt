@@ -1,5 +1,6 @@
--- How much a configuration may have.
+-- How much a configuration may have, and how much may be held under it.
 use Rattle.std.specs.Prelude.{ℕ}
+use Rattle.fed_config.specs.declared.limits.Limits.{Limits}
 
 -- the most relationships
 abbrev pub relationship_limit : ℕ
@@ -16,3 +17,7 @@ seed_limit = 4096
 -- the most bytes of an endpoint's URL
 abbrev pub url_limit : ℕ
 url_limit = 2048
+
+-- how much may be held under a configuration that was read
+abbrev pub usual_limits : Limits
+usual_limits = record { receipts = 65536; records = 4096 }

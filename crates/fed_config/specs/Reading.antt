@@ -26,7 +26,7 @@ use Rattle.fed_config.specs.declared.error.ConfigError.{ConfigError}
 use Rattle.fed_config.specs.declared.error.ConfigError.TheVariants.{NotJson, Shape, BadName, BadUrl}
 use Rattle.fed_config.specs.declared.error.ConfigError.TheVariants.{BadProfile, DoubleRelationship}
 use Rattle.fed_config.specs.declared.error.ConfigError.TheVariants.{BadSeed, TooMany, NoMemory}
-use Rattle.fed_config.specs.Limits.{domain_limit, relationship_limit, seed_limit}
+use Rattle.fed_config.specs.Limits.{domain_limit, relationship_limit, seed_limit, usual_limits}
 
 -- ---- the meaning
 
@@ -62,6 +62,7 @@ pub record IsMeant (w : Written) (c : Configuration) : Type 0 where
   pub each_seed : AllZip SaysSeed w.seeds seeds
   pub seed_set : IsSetOf seed_cmp seeds c.seeds
   pub same_floors : c.floors ≡ w.floors
+  pub usual : c.limits ≡ usual_limits
 
 -- a trust domain has at most one relationship
 abbrev pub HasSingle : Written → Type 0

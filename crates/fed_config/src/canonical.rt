@@ -6,6 +6,7 @@ ghost use Rattle.serde_json.specs.Written.{comma_if, has_float, items_text, memb
 ghost use Rattle.sha2.specs.Sha256.{sha256};
 ghost use Rattle.fed_config.specs.Configuration.{config_text, config_id_of, relationship_tree};
 ghost use Rattle.fed_config.specs.Configuration.{floor_members, seed_tree};
+ghost use Rattle.fed_config.specs.Limits.{usual_limits};
 ghost use Rattle.fed_config.specs.Inside.FloorsText.{floors_text};
 ghost use Rattle.serde_json.specs.Written.{compact_text};
 
@@ -28,6 +29,7 @@ pub(crate) fn id_of(
       relationships = relationships.now;
       seeds = seeds.now;
       floors = floors.now;
+      limits = usual_limits;
     })) }
 {
     let text = canonical_config(alloc, relationships, seeds, floors)?;
@@ -62,6 +64,7 @@ pub fn canonical_config(
       relationships = relationships.now;
       seeds = seeds.now;
       floors = floors.now;
+      limits = usual_limits;
     })) }
 {
     let mut out = Vec::new(alloc);

@@ -5,6 +5,7 @@ ghost use Rattle.fed_config.specs.Configuration.{IsFloorOf, IsPlace, config_id_o
 
 use crate::config_id::ConfigId;
 use crate::floor::{Floor, sequence_of};
+use crate::limits::Limits;
 use crate::relationship::Relationship;
 use crate::seed::Seed;
 use spiffe_name::TrustDomain;
@@ -16,13 +17,15 @@ use std::marker::Model;
 /// floors, which are the lowest sequence numbers that count.
 ///
 /// A configuration is its meaning: two of them are equal exactly if they have the same
-/// relationships, seeds and floors, in whatever order these were written and however often a seed
-/// was. Each has one canonical text, and that text's digest is its id.
+/// relationships, seeds, floors and limits, in whatever order these were written and however often
+/// a seed was. Each has one canonical text, which does not say the limits; the digest of that text
+/// is its id.
 #[derive(Debug, Drop)]
 pub struct Config {
     pub(crate) relationships: Vec<Relationship>,
     pub(crate) seeds: Vec<Seed>,
     pub(crate) floors: Vec<Floor>,
+    pub(crate) limits: Limits,
     pub(crate) domains: Vec<TrustDomain>,
     pub(crate) id: ConfigId,
 }
@@ -36,12 +39,14 @@ impl Model for Config {
       relationships = a.relationships.items;
       seeds = a.seeds.items;
       floors = a.floors.items;
+      limits = a.limits;
     } };
 
     ghost invariant = { λ a. IsStoredConfiguration (record {
       relationships = a.relationships.items;
       seeds = a.seeds.items;
       floors = a.floors.items;
+      limits = a.limits;
     }) a.domains.items a.id.0 };
 }
 
@@ -105,6 +110,20 @@ impl Config {
         sequence_of(self.floors.as_slice(), domain)
     }
 
+    /// How much may be held under the configuration.
+    pub fn limits(&self) -> Limits
+        ensures { result ≡ self.now.limits }
+    {
+        self.limits
+    }
+
+    /// Sets how much may be held under the configuration. The id is the same afterwards.
+    pub fn set_limits(&mut self, limits: Limits)
+        ensures { self.new ≡ record self.old { limits = limits } }
+    {
+        self.limits = limits;
+    }
+
     /// The configuration's id, which equal configurations share.
     pub fn digest(&self) -> ConfigId
         ensures { result.0 ≡ config_id_of self.now }
@@ -123,6 +142,7 @@ impl Config {
             relationships: copies_of_relationships(alloc, self.relationships.as_slice())?,
             seeds: copies_of_seeds(alloc, self.seeds.as_slice())?,
             floors: copies_of_floors(alloc, self.floors.as_slice())?,
+            limits: self.limits,
             domains: copies_of_domains(alloc, self.domains.as_slice())?,
             id: self.id,
         })

@@ -3,7 +3,10 @@ ghost use Rattle.std.specs.Prelude.{◌≡◌, ◌↔◌, ℕ, List, []};
 ghost use Rattle.serde_json.specs.Data.{object};
 ghost use Rattle.serde_json.specs.Written.{compact_text};
 ghost use Rattle.fed_config.specs.Configuration.{Configuration, IsConfiguration, AreDomains};
-ghost use Rattle.fed_config.specs.Configuration.{HasShortUrls, config_text, set_members};
+ghost use Rattle.fed_config.specs.Configuration.{HasShortUrls, config_text, config_id_of};
+ghost use Rattle.fed_config.specs.Configuration.{set_members};
+ghost use Rattle.fed_config.specs.Limits.{usual_limits};
+ghost use Rattle.fed_config.specs.declared.limits.Limits.{Limits};
 ghost use Rattle.fed_config.specs.Reading.{IsConfig, RefusesConfigBytes};
 ghost use Rattle.fed_config.specs.declared.error.ConfigError.{ConfigError};
 ghost use Rattle.fed_config.specs.declared.error.ConfigError.TheVariants.{NoMemory};
@@ -25,16 +28,19 @@ pub fn configurations()
     bundle_doc::laws::values();
 }
 
-/// Configurations are equal exactly if their canonical texts are. The canonical text, read as a
-/// configuration, is that configuration, if each of its URLs is within the limit of 2,048 bytes
-/// also as it is kept. Without floors it is the text of only the relationships and seeds.
+/// Configurations with the same limits are equal exactly if their canonical texts are. The text,
+/// read as a configuration, is that configuration with the usual limits, if each of its URLs is
+/// within the limit of 2,048 bytes also as it is kept. Without floors it is the text of only the
+/// relationships and seeds. Text and digest do not say the limits.
 pub fn canonical_texts()
     ensures one_text { (b c : Configuration) → IsConfiguration b → IsConfiguration c
-        → (b ≡ c) ↔ (config_text b ≡ config_text c) }
+        → b.limits ≡ c.limits → (b ≡ c) ↔ (config_text b ≡ config_text c) }
     ensures reads_back { (c : Configuration) → IsConfiguration c → HasShortUrls c
-        → IsConfig (config_text c) c }
+        → IsConfig (config_text c) (record c { limits = usual_limits }) }
     ensures no_floors { (c : Configuration) → c.floors ≡ []
         → config_text c ≡ compact_text (object (set_members c)) }
+    ensures no_limits { (c : Configuration) (limits : Limits)
+        → config_id_of (record c { limits = limits }) ≡ config_id_of c }
 {
     jwk_set::laws::compact_texts();
     spiffe_name::laws::one_reading();

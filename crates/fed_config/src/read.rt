@@ -5,13 +5,14 @@ ghost use Rattle.fed_config.specs.Configuration.{AreDomains, IsConfiguration};
 ghost use Rattle.fed_config.specs.Inside.Entries.{AreFloors, written_of};
 ghost use Rattle.fed_config.specs.Reading.{HasRisingLists, Fails, HasFewDomains, IsConfig, IsRead};
 ghost use Rattle.fed_config.specs.Reading.{RefusesConfigBytes, RefusesRead};
-ghost use Rattle.fed_config.specs.Limits.{relationship_limit, seed_limit};
+ghost use Rattle.fed_config.specs.Limits.{relationship_limit, seed_limit, usual_limits};
 
 use crate::canonical::id_of;
 use crate::config::Config;
 use crate::domains::domains_of;
 use crate::error::ConfigError;
 use crate::floor::{Floor, reach_floors, read_floors};
+use crate::limits::{Limits, USUAL_RECEIPTS, USUAL_RECORDS};
 use crate::names::{
     have_profile, join_relationships, join_seeds, read_documents, read_domains, read_names,
     read_urls,
@@ -108,22 +109,26 @@ impl Config {
           relationships = relationships.items;
           seeds = seeds.items;
           floors = floors.items;
+          limits = usual_limits;
         }) }
         requires domains { AreDomains (record {
           relationships = relationships.items;
           seeds = seeds.items;
           floors = floors.items;
+          limits = usual_limits;
         }) domains.items }
         ensures { MatchResult result
             (λ c. (c ≡ record {
               relationships = relationships.items;
               seeds = seeds.items;
               floors = floors.items;
+              limits = usual_limits;
             }) × IsConfiguration c)
             (Fails ConfigError.TooMany (HasFewDomains (record {
               relationships = relationships.items;
               seeds = seeds.items;
               floors = floors.items;
+              limits = usual_limits;
             }))) }
     {
         if domains.len() > MAX_DOMAINS {
@@ -139,6 +144,10 @@ impl Config {
             relationships,
             seeds,
             floors,
+            limits: Limits {
+                receipts: USUAL_RECEIPTS,
+                records: USUAL_RECORDS,
+            },
             domains,
             id,
         })

@@ -109,7 +109,8 @@ first_reporting c lines xs ys p q =
 
 -- if some receipts to take are more than a closure holds, all of them are, as `laws::too_many`
 -- says
-pub too_many_for_all : (c : Configuration) (texts : List (List ℕ)) (rs : List Receipt) → OverfillStore c texts → AreTaken c texts rs → receipt_limit < length rs
+pub too_many_for_all : (c : Configuration) (texts : List (List ℕ)) (rs : List Receipt) → OverfillStore c texts
+    → AreTaken c texts rs → receipt_limit c < length rs
 too_many_for_all c texts rs many taken =
     let fewer = no_longer receipt_cmp receipt_total many.some rs many.rising taken.rising
     (λ r has. Has-from_contains rs r (taken.complete r (many.each r (Contains-from_has many.some r has)))) in

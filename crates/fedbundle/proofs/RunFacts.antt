@@ -34,6 +34,7 @@ use Rattle.fedbundle.specs.declared.line_fault.LineFault.{LineFault}
 use Rattle.fedbundle.specs.declared.line_fault.LineFault.TheVariants.{Cut}
 use Rattle.fedbundle.proofs.TakenFacts.{untaken, unrefused, taken_none, taken_within, taken_same, taken_more, held_already, one_longer}
 use Rattle.fedbundle.proofs.LineErrorFacts.{only, at_number, line_errors_none, line_errors_same, line_errors_more, line_errors_rest, first_all, first_whole}
+use Rattle.receipt_core.specs.Limits.{receipt_limit}
 
 -- ---- what is read of a stream
 
@@ -119,10 +120,10 @@ so_far_none c stream kept m stated empty config held records = record {
 -- a line whose receipt is taken is not refused, and what is held is what is taken of the lines with
 -- that one
 taken_on : (c : Configuration) (read : List (List ℕ)) (text : List ℕ) (old new : HeldAndRoom) → IsConfiguration c
-    → old.meaning.config ≡ c → AreTaken c read old.meaning.held → length old.meaning.held ≤ 65536
+    → old.meaning.config ≡ c → AreTaken c read old.meaning.held → length old.meaning.held ≤ receipt_limit c
     → TakesReceiptText old text new
     → (new.meaning.config ≡ old.meaning.config) × (new.meaning.records ≡ old.meaning.records)
-    × AreTaken c (read ++ text ∷ []) new.meaning.held × (length new.meaning.held ≤ 65536)
+    × AreTaken c (read ++ text ∷ []) new.meaning.held × (length new.meaning.held ≤ receipt_limit c)
     × ((why : LineFault) → IsRefusedLine c text why → ⊥)
 taken_on c read text old new valid config taken few takes = by_case takes.taken takes.took
   where
@@ -137,7 +138,7 @@ taken_on c read text old new valid config taken few takes = by_case takes.taken 
 
     by_case : (t : Taken) → TakesOk old r new t → (new.meaning.config ≡ old.meaning.config)
         × (new.meaning.records ≡ old.meaning.records) × AreTaken c (read ++ text ∷ []) new.meaning.held
-        × (length new.meaning.held ≤ 65536)
+        × (length new.meaning.held ≤ receipt_limit c)
         × ((why : LineFault) → IsRefusedLine c text why → ⊥)
     by_case (TakenNew n) took =
         let size = one_longer c read r old.meaning.held taken takes.is.is took.unheld in
@@ -145,7 +146,7 @@ taken_on c read text old new valid config taken few takes = by_case takes.taken 
           ap (λ (m : Meaning). m.config) took.meaning,
           ap (λ (m : Meaning). m.records) took.meaning,
           subst (AreTaken c (read ++ text ∷ [])) (sym held) (fits_then took.fits),
-          (let longer = ap length held ∙ size in let low = took.few in omega arith),
+          (let longer = ap length held ∙ size in let low = took.few in omega (arith, ap receipt_limit config)),
           refused_not took.fits,
         )
     by_case TakenAlready took =
@@ -200,7 +201,7 @@ so_far_stated c stream left next old new stated reports now number count text wh
         records = ap (λ (m : Meaning). m.records) same ∙ so.judged.records;
         taken = subst (λ (m : Meaning). AreTaken c (so.read ++ text ∷ []) m.held) (sym same)
             (taken_same c so.read text old.held so.judged.taken (untaken c text why valid refused));
-        few = subst (λ (m : Meaning). length m.held ≤ 65536) (sym same) so.judged.few;
+        few = subst (λ (m : Meaning). length m.held ≤ receipt_limit c) (sym same) so.judged.few;
         line_errors = so.judged.line_errors ++ x ∷ [];
         all = line_errors_more c so.read text why so.judged.line_errors valid so.judged.all refused;
         stating = stated_more stated reports now so.judged.line_errors x so.judged.stating here_at;
@@ -319,7 +320,10 @@ too_many c (Some xs) (Some ys) (Some zs) old stated reports number count text so
       some = with_receipt r old.meaning.held;
       rising = taken.rising;
       each = λ s within. taken_within c (so.read ++ text ∷ []) (lines_of zs).whole (lines_of xs).whole s whole (taken.sound s within);
-      many = let size = one_longer c so.read r old.meaning.held so.judged.taken full.is.is full.full.unheld in let low = full.full.full in omega arith;
+      many =
+          let size = one_longer c so.read r old.meaning.held so.judged.taken full.is.is full.full.unheld in
+          let low = full.full.full in
+          omega (arith, ap receipt_limit so.judged.config);
     }
 
 -- ---- what comes of a line

@@ -2,7 +2,7 @@
 use Rattle.std.specs.Prelude.{ℕ, ◌⊎◌, Result, Ok, Err, IsErrOf}
 use Rattle.fed_config.specs.Configuration.{Configuration}
 use Rattle.receipt_core.specs.Acceptance.{Meaning}
-use Rattle.migration.specs.Carry.{CarryRun, carry_run, CarriesOver, StopsCarrying}
+use Rattle.migration.specs.Carry.{CarryRun, carry_run, CarriesOver, StopsCarrying, config_for}
 use Rattle.migration.specs.declared.carrying.Choice.{Choice}
 use Rattle.replica_texts.specs.WrittenSnapshot.{written_snapshot}
 use Rattle.fedbundle.specs.CommandRun.{PrintsText, BeginsText, WritesNothing}
@@ -21,10 +21,11 @@ pub record Move : Type 0 where
 abbrev pub move_to : Choice → Configuration → Meaning → Move
 move_to choice config old = record { choice = choice; config = config; old = old }
 
--- the same, with what the sink `line_errors` holds before and after
+-- the same, to that configuration with the limits of what is held, and with what the sink
+-- `line_errors` holds before and after
 abbrev pub carry_of : Move → DeviceRun → CarryRun
-carry_of move line_errors =
-    carry_run move.choice move.config move.old line_errors.before line_errors.after
+carry_of move line_errors = carry_run move.choice (config_for move.old move.config) move.old
+    line_errors.before line_errors.after
 
 -- What goes along was carried over, n of the others were reported, and the snapshot of the former
 -- was written and nothing else.

@@ -43,7 +43,7 @@ pub record PrintsReport (form : OutputForm) (sink : DeviceRun) (c : Configuratio
     (lines : Lines) : Type 0 where
   pub receipts : List Receipt
   pub taken : AreTaken c lines.whole receipts
-  pub few : length receipts ≤ receipt_limit
+  pub few : length receipts ≤ receipt_limit c
   pub report : WritesReportIn form (meaning_of_receipts c receipts) sink.before sink.after
 
 -- The sink failed, after a beginning of that report.

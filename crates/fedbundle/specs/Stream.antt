@@ -38,7 +38,7 @@ pub record OverfillStore (c : Configuration) (texts : List (List ℕ)) : Type 0 
   pub some : List Receipt
   pub rising : IsStrictlySortedBy receipt_cmp some
   pub each : (r : Receipt) → Contains some r → IsTaken c texts r
-  pub many : receipt_limit < length some
+  pub many : receipt_limit c < length some
 
 -- ---- what is reported
 

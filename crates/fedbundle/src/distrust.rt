@@ -17,7 +17,7 @@ use std::alloc::{AllocError, Global};
 ///
 /// # Errors
 /// `Take` with `UnknownDomain` if the configuration does not have the domain, or with `Full` if the
-/// record is not held and 4,096 are: then what is held is as it was.
+/// record is not held and no more may be: then what is held is as it was.
 pub fn run_distrust<C: Closure>(
     closure: &mut C,
     domain: &TrustDomain,

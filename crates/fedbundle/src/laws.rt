@@ -67,5 +67,5 @@ pub fn one_reporting()
 /// If there are too many receipts, no closure can hold those that are taken.
 pub fn too_many()
     ensures { (c : Configuration) (texts : List (List ℕ)) (rs : List Receipt)
-        → OverfillStore c texts → AreTaken c texts rs → receipt_limit < length rs }
+        → OverfillStore c texts → AreTaken c texts rs → receipt_limit c < length rs }
 {}

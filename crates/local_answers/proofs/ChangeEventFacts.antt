@@ -1,6 +1,6 @@
 -- What a running replica holds after the events of a world.
 use Rattle.std.proofs.Common.{◌≡◌, ◌≢◌, ℕ, ◌<◌, ◌≤◌, ◌⊎◌, inl, inr, Bool, true, false, ◌&&◌, List, [], ◌∷◌, length, refl, sym, ap, ◌∙◌, subst, arith}
-use Rattle.std.proofs.Common.{append-nil, le-leb, Some}
+use Rattle.std.proofs.Common.{append-nil, le-leb, nat_le, Some}
 use Rattle.std.specs.Prelude.{Contains, slice_get}
 use Rattle.std.proofs.lemmas.Bool.{and_from, and_parts}
 use Rattle.std.specs.List.{AllByRecursion}
@@ -15,7 +15,7 @@ use Rattle.receipt_core.proofs.RisingFacts.{Contains-from_has, Has, Has-from_con
 use Rattle.replica_core.specs.Absorbing.{with_entries, with_entry}
 use Rattle.replica_core.specs.Convergence.{Gains, IsPartOf, only_receipt, only_record}
 use Rattle.replica_core.specs.Session.{HaveMessage, give_of, have_of, state_of}
-use Rattle.replica_core.specs.State.{State, ids_held, is_within_limits, joined, no_state}
+use Rattle.replica_core.specs.State.{State, ids_held, is_within_limits, joined, limits_of, no_state}
 use Rattle.replica_core.specs.World.{Rules, World, WorldRun, apply, empty_world, gained, gains, happens, is_replica, rules_of, run_from}
 use Rattle.replica_core.specs.World.{give_sent, have_sent, is_fitting, is_known, sends, where_so}
 use Rattle.replica_core.specs.declared.entry.Entry.{Entry}
@@ -30,6 +30,9 @@ use Rattle.replica_sync.specs.PulledPieces.{Journals}
 use Rattle.local_answers.specs.ChangeEvents.{AppendsTo, BringsTo, event_of, events_of, replica_in, sent_give, sent_have}
 use Rattle.local_answers.specs.Journalling.{JournalsChange}
 use Rattle.fedbundle.specs.CommandRun.{StateRun}
+use Rattle.fed_config.specs.declared.limits.Limits.{Limits}
+use Rattle.receipt_core.specs.Limits.{receipt_limit, record_limit}
+use Rattle.receipt_core.proofs.LimitFacts.{receipt_limit-least, record_limit-least}
 
 -- ---- sets that grow
 
@@ -91,7 +94,7 @@ one-config : (entry : Entry) (m : Meaning) → (with_entry entry m).config ≡ m
 one-config (Record x) m = refl
 one-config (AReceipt r) m = refl
 
-same-config : (entries : List Entry) (m : Meaning) → (with_entries entries m).config ≡ m.config
+pub same-config : (entries : List Entry) (m : Meaning) → (with_entries entries m).config ≡ m.config
 same-config [] m = refl
 same-config (entry ∷ entries) m = same-config entries (with_entry entry m) ∙ one-config entry m
 
@@ -101,44 +104,56 @@ same-config (entry ∷ entries) m = same-config entries (with_entry entry m) ∙
 pub record IsHoldable (c : Configuration) (state : State) : Type 0 where
   pub fitting : AllByRecursion (IsFitting c) state.held
   pub domains : AllByRecursion (λ x. HasDomain c x.domain) state.records
-  pub few : length state.held ≤ 65536
-  pub few_records : length state.records ≤ 4096
+  pub few : length state.held ≤ receipt_limit c
+  pub few_records : length state.records ≤ record_limit c
 
 pub meaning-holdable : (c : Configuration) (m : Meaning) → m.config ≡ c → IsMeaning m → IsHoldable c (state_of m)
 meaning-holdable c m e valid = record {
   fitting = subst (λ (d : Configuration). AllByRecursion (IsFitting d) m.held) e valid.fitting;
   domains = subst (λ (d : Configuration). AllByRecursion (λ x. HasDomain d x.domain) m.records) e valid.domains;
-  few = valid.few;
-  few_records = valid.few_records;
+  few = subst (λ (d : Configuration). length m.held ≤ receipt_limit d) e valid.few;
+  few_records = subst (λ (d : Configuration). length m.records ≤ record_limit d) e valid.few_records;
 }
 
 -- What is below it is within the limits.
-pub below-within : (c : Configuration) (small large : State) → IsBelow small large → IsHoldable c large → is_within_limits small ≡ true
+pub below-within : (c : Configuration) (small large : State) → IsBelow small large → IsHoldable c large → is_within_limits (limits_of c) small ≡ true
 below-within c small large part is =
     let less = part.few in
     let few = is.few in
     let less_records = part.few_records in
     let few_records = is.few_records in
-    and_from _ _ (le-leb (length small.held) 65536 (omega (arith, less, few)))
-    (le-leb (length small.records) 4096 (omega (arith, less_records, few_records)))
+    and_from _ _ (le-leb (length small.held) (receipt_limit c) (omega (arith, less, few)))
+    (le-leb (length small.records) (record_limit c) (omega (arith, less_records, few_records)))
 
 -- ---- the world's tests
 
 -- A test that lets something be gained has passed.
-has-passed : (b : Bool) (gain : State) → (apply empty_world (where_so b (gains 0 gain))).now 0 ≡ gain → (no_state ≡ gain → ⊥) → b ≡ true
-has-passed true gain e some = refl
-has-passed false gain e some = absurd (some e)
+has-passed : (b : Bool) (limits : Limits) (gain : State) → (apply limits empty_world (where_so b (gains 0 gain))).now 0 ≡ gain
+    → (no_state ≡ gain → ⊥) → b ≡ true
+has-passed true limits gain e some = refl
+has-passed false limits gain e some = absurd (some e)
 
 -- a world of one replica to which nothing has happened
 abbrev fresh : Configuration → WorldRun
 fresh c = record { config = c; replicas = 1; events = [] }
+
+-- One receipt, or one record, is within the limits.
+one-receipt : (c : Configuration) (r : Receipt) → is_within_limits (limits_of c) (only_receipt r) ≡ true
+one-receipt c r =
+    and_from (nat_le 1 (receipt_limit c)) (nat_le 0 (record_limit c))
+    (le-leb 1 (receipt_limit c) (receipt_limit-least c)) (le-leb 0 (record_limit c) (omega arith))
+
+one-record : (c : Configuration) (x : Distrust) → is_within_limits (limits_of c) (only_record x) ≡ true
+one-record c x =
+    and_from (nat_le 0 (receipt_limit c)) (nat_le 1 (record_limit c))
+    (le-leb 0 (receipt_limit c) (omega arith)) (le-leb 1 (record_limit c) (record_limit-least c))
 
 -- A receipt that fits passes the world's test.
 receipt-passes : ((past : WorldRun) (i : ℕ) (r : Receipt) → i < past.replicas → IsFitting past.config r → Gains past (Take i r) i (only_receipt r))
     → (c : Configuration) (r : Receipt) → IsFitting c r → is_fitting c r ≡ true
 receipt-passes takes c r fits =
     (and_parts (is_replica (rules_of c 1) 0) (is_fitting c r)
-    (has-passed (is_replica (rules_of c 1) 0 && is_fitting c r) (only_receipt r) (takes (fresh c) 0 r (omega arith) fits refl)
+    (has-passed (is_replica (rules_of c 1) 0 && is_fitting c r) (limits_of c) (only_receipt r) (takes (fresh c) 0 r (omega arith) fits (one-receipt c r))
     (λ e. let none : [] ≡ r ∷ [] = ap (λ (s : State). s.held) e in cc))).1
 
 -- A record of a domain of the configuration passes the world's test.
@@ -146,20 +161,20 @@ record-passes : ((past : WorldRun) (i : ℕ) (x : Distrust) → i < past.replica
     → (c : Configuration) (x : Distrust) → HasDomain c x.domain → is_known c x.domain ≡ true
 record-passes revokes c x known =
     (and_parts (is_replica (rules_of c 1) 0) (is_known c x.domain)
-    (has-passed (is_replica (rules_of c 1) 0 && is_known c x.domain) (only_record x) (revokes (fresh c) 0 x (omega arith) known refl)
+    (has-passed (is_replica (rules_of c 1) 0 && is_known c x.domain) (limits_of c) (only_record x) (revokes (fresh c) 0 x (omega arith) known (one-record c x))
     (λ e. let none : [] ≡ x ∷ [] = ap (λ (s : State). s.records) e in cc))).1
 
 -- ---- one event
 
 -- A gain within the limits is joined if the test passes. If it does not pass, the gain has nothing
 -- new.
-gain-is : (w : World) (i : ℕ) (state gain : State) (b : Bool) → w.now i ≡ state → (b ≡ true) ⊎ (joined state gain ≡ state)
-    → is_within_limits (joined state gain) ≡ true → (apply w (where_so b (gains i gain))).now i ≡ joined state gain
-gain-is w i state gain true here h room =
-    ap (λ (t : Bool). (gained t w i (joined (w.now i) gain)).now i) (ap (λ (s : State). is_within_limits (joined s gain)) here ∙ room)
+gain-is : (limits : Limits) (w : World) (i : ℕ) (state gain : State) (b : Bool) → w.now i ≡ state → (b ≡ true) ⊎ (joined state gain ≡ state)
+    → is_within_limits limits (joined state gain) ≡ true → (apply limits w (where_so b (gains i gain))).now i ≡ joined state gain
+gain-is limits w i state gain true here h room =
+    ap (λ (t : Bool). (gained t w i (joined (w.now i) gain)).now i) (ap (λ (s : State). is_within_limits limits (joined s gain)) here ∙ room)
     ∙ at-here i (joined (w.now i) gain) w.now ∙ ap (λ (s : State). joined s gain) here
-gain-is w i state gain false here (inl e) room = absurd (let bad : false ≡ true = e in cc)
-gain-is w i state gain false here (inr same) room = here ∙ sym same
+gain-is limits w i state gain false here (inl e) room = absurd (let bad : false ≡ true = e in cc)
+gain-is limits w i state gain false here (inr same) room = here ∙ sym same
 
 -- Nothing else changes in a world when a replica gains.
 pub record OnlyAt (i : ℕ) (old new : World) : Type 0 where
@@ -177,13 +192,13 @@ only-gained : (i : ℕ) (w : World) (state : State) (b : Bool) → OnlyAt i w (g
 only-gained i w state true = record { others = λ j d. at-other j i state w.now d; sent = refl; saved = refl }
 only-gained i w state false = only-nothing i w
 
-only-where : (i : ℕ) (w : World) (gain : State) (b : Bool) → OnlyAt i w (apply w (where_so b (gains i gain)))
-only-where i w gain true = only-gained i w (joined (w.now i) gain) (is_within_limits (joined (w.now i) gain))
-only-where i w gain false = only-nothing i w
+only-where : (limits : Limits) (i : ℕ) (w : World) (gain : State) (b : Bool) → OnlyAt i w (apply limits w (where_so b (gains i gain)))
+only-where limits i w gain true = only-gained i w (joined (w.now i) gain) (is_within_limits limits (joined (w.now i) gain))
+only-where limits i w gain false = only-nothing i w
 
 only-event : (rules : Rules) (i : ℕ) (entry : Entry) (w : World) → OnlyAt i w (happens rules w (event_of i entry))
-only-event rules i (Record x) w = only-where i w (only_record x) (is_replica rules i && rules.knows x.domain)
-only-event rules i (AReceipt r) w = only-where i w (only_receipt r) (is_replica rules i && rules.fits r)
+only-event rules i (Record x) w = only-where rules.limits i w (only_record x) (is_replica rules i && rules.knows x.domain)
+only-event rules i (AReceipt r) w = only-where rules.limits i w (only_receipt r) (is_replica rules i && rules.fits r)
 
 -- So it is with the events of many entries.
 pub only-run : (rules : Rules) (entries : List Entry) (i : ℕ) (w : World) → OnlyAt i w (run_from rules w (events_of i entries))
@@ -200,7 +215,7 @@ module _ (takes : (past : WorldRun) (i : ℕ) (r : Receipt) → i < past.replica
   entry-is : (c : Configuration) (n i : ℕ) → i < n → (entry : Entry) (m : Meaning) (w : World) (large : State) → w.now i ≡ state_of m
       → IsBelow (state_of (with_entry entry m)) large → IsHoldable c large → (happens (rules_of c n) w (event_of i entry)).now i ≡ state_of (with_entry entry m)
   entry-is c n i l (Record x) m w large here below can =
-      gain-is w i (state_of m) (only_record x) (is_replica (rules_of c n) i && is_known c x.domain) here
+      gain-is (limits_of c) w i (state_of m) (only_record x) (is_replica (rules_of c n) i && is_known c x.domain) here
       (elim (item-or-same distrust_cmp x m.records) [
         | inl h ↦ inl (and_from _ _ (replica-true (rules_of c n) i l)
             (record-passes revokes c x (each-from (λ y. HasDomain c y.domain) large.records can.domains x
@@ -209,7 +224,7 @@ module _ (takes : (past : WorldRun) (i : ℕ) (r : Receipt) → i < past.replica
       ])
       (below-within c (state_of (with_entry (Record x) m)) large below can)
   entry-is c n i l (AReceipt r) m w large here below can =
-      gain-is w i (state_of m) (only_receipt r) (is_replica (rules_of c n) i && is_fitting c r) here
+      gain-is (limits_of c) w i (state_of m) (only_receipt r) (is_replica (rules_of c n) i && is_fitting c r) here
       (elim (item-or-same receipt_cmp r m.held) [
         | inl h ↦ inl (and_from _ _ (replica-true (rules_of c n) i l)
             (receipt-passes takes c r (each-from (IsFitting c) large.held can.fitting r
@@ -267,7 +282,7 @@ module _ (takes : (past : WorldRun) (i : ℕ) (r : Receipt) → i < past.replica
 
 -- The have that a replica makes is the one that it sends by asking.
 pub asks-in-world : (m : Meaning) (n i bucket : ℕ) (w : World) → i < n → bucket ≤ 255 → w.now i ≡ state_of m
-    → happens (rules_of m.config n) w (Ask i bucket) ≡ apply w (sends (sent_have i (have_of m bucket)))
+    → happens (rules_of m.config n) w (Ask i bucket) ≡ apply (limits_of m.config) w (sends (sent_have i (have_of m bucket)))
 asks-in-world m n i bucket w l low here =
     asked-is (rules_of m.config n) w i bucket l low
     ∙ ap (λ (state : State). with_message w (have_sent i bucket (ids_held state bucket))) here
@@ -275,7 +290,7 @@ asks-in-world m n i bucket w l low here =
 -- The answer that a replica makes is the one that it sends by answering.
 pub answers-in-world : (m : Meaning) (have : HaveMessage) (n i asker place : ℕ) (w : World) → i < n → w.now i ≡ state_of m
     → slice_get w.sent place ≡ Some (sent_have asker have)
-    → happens (rules_of m.config n) w (Answer i place) ≡ apply w (sends (sent_give i place (give_of m have)))
+    → happens (rules_of m.config n) w (Answer i place) ≡ apply (limits_of m.config) w (sends (sent_give i place (give_of m have)))
 answers-in-world m have n i asker place w l here there =
     answered-is (rules_of m.config n) w asker i have.bucket place have.ids l there
     ∙ ap (λ (state : State). with_message w (give_sent i place (content_of state have.bucket have.ids))) here

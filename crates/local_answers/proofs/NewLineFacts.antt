@@ -24,6 +24,8 @@ use Rattle.replica_texts.specs.SoleLines.{IsWellFormed}
 use Rattle.replica_journal.specs.Journal.{entry_text}
 use Rattle.local_answers.specs.Journalling.{AreLinesOfOther, HoldsEntry, IsLineIfNew}
 use Rattle.local_answers.specs.Inside.NewLineSteps.{AreReceiptLines, AreRecordLines, IsSifted, SiftsReceipts, SiftsRecords}
+use Rattle.receipt_core.specs.Limits.{most_receipts}
+use Rattle.receipt_core.proofs.LimitFacts.{receipt_limit-most}
 
 -- ---- lists without one of their items
 
@@ -111,7 +113,7 @@ lines_more entry new x text line more e f g =
 pub receipts_begin : (m other : Meaning) (all : List Receipt) (text : List ℕ) → IsMeaning other → all ≡ other.held → text ≡ []
     → SiftsReceipts m all all text 0
 receipts_begin m other all text is e none =
-    let few : 0 + length all ≤ 65536 = omega (arith, ap length e, is.few) in
+    let few : 0 + length all ≤ most_receipts = omega (arith, ap length e, is.few, receipt_limit-most other.config) in
     record {
       new = [];
       sifted = sift_begin IsReceipt receipt_cmp m.held all (subst (IsStrictlySortedBy receipt_cmp) (sym e) is.rising)

@@ -18,7 +18,7 @@ use Rattle.receipt_core.proofs.RisingFacts.{Contains-from_has, Has-from_contains
 use Rattle.replica_core.specs.Absorbing.{entries_of, of_receipts, of_records, with_entries, with_entry}
 use Rattle.replica_core.specs.Convergence.{IsPartOf}
 use Rattle.replica_core.specs.Session.{state_of}
-use Rattle.replica_core.specs.State.{State, first_of, is_within_limits, joined}
+use Rattle.replica_core.specs.State.{State, first_of, is_within_limits, joined, limits_of}
 use Rattle.replica_core.specs.World.{Message, Rules, World, apply, gained, give_sent, happens, rules_of, takes_part, where_so, with_state}
 use Rattle.replica_core.specs.declared.entry.Entry.{Entry}
 use Rattle.replica_core.specs.declared.entry.Entry.TheVariants.{Record, Receipt as AReceipt}
@@ -32,7 +32,7 @@ use Rattle.replica_journal.specs.Journal.{AreWellFormed}
 use Rattle.replica_sync.specs.PulledPieces.{PulledGive, PulledPiece, TakesInTurn, pieces_of}
 use Rattle.local_answers.specs.ChangeEvents.{IsPieceOf, IsPulledAmid, LosesNothing, sent_give}
 use Rattle.local_answers.specs.Journalling.{HoldsEntry}
-use Rattle.local_answers.proofs.ChangeEventFacts.{below-itself, below-one, below-within, meaning-holdable}
+use Rattle.local_answers.proofs.ChangeEventFacts.{below-itself, below-one, below-within, meaning-holdable, same-config}
 
 -- ---- what is held already
 
@@ -198,26 +198,26 @@ piece-config config (d ∷ front) back c each = piece-config config front back c
 
 -- A replica that takes first lines of an answer within the limits joins them.
 part-joins : (rules : Rules) (w : World) (i n j k count : ℕ) (content state : State) → i < rules.replicas → w.now i ≡ state
-    → slice_get w.sent n ≡ Some (give_sent j k content) → is_within_limits (joined state (first_of count content)) ≡ true
+    → slice_get w.sent n ≡ Some (give_sent j k content) → is_within_limits rules.limits (joined state (first_of count content)) ≡ true
     → happens rules w (Part i n count) ≡ with_state w i (joined state (first_of count content))
 part-joins rules w i n j k count content state l here e room =
     let gain = first_of count content in
-    ap (λ (b : Bool). apply w (where_so b (takes_part i count (slice_get w.sent n)))) (replica-true rules i l)
-    ∙ ap (λ (f : Option Message). apply w (takes_part i count f)) e
-    ∙ ap (λ (b : Bool). gained b w i (joined (w.now i) gain)) (ap (λ (s : State). is_within_limits (joined s gain)) here ∙ room)
+    ap (λ (b : Bool). apply rules.limits w (where_so b (takes_part i count (slice_get w.sent n)))) (replica-true rules i l)
+    ∙ ap (λ (f : Option Message). apply rules.limits w (takes_part i count f)) e
+    ∙ ap (λ (b : Bool). gained b w i (joined (w.now i) gain)) (ap (λ (s : State). is_within_limits rules.limits (joined s gain)) here ∙ room)
     ∙ ap (λ (s : State). with_state w i (joined s gain)) here
 
 -- A replica that takes a whole answer within the limits joins it.
 whole-joins : (rules : Rules) (w : World) (i n j k : ℕ) (content state : State) → i < rules.replicas → w.now i ≡ state
-    → slice_get w.sent n ≡ Some (give_sent j k content) → is_within_limits (joined state content) ≡ true
+    → slice_get w.sent n ≡ Some (give_sent j k content) → is_within_limits rules.limits (joined state content) ≡ true
     → happens rules w (Absorb i n) ≡ with_state w i (joined state content)
 whole-joins rules w i n j k content state l here e room =
-    absorbed-is rules w i j n k content l e (ap (λ (s : State). is_within_limits (joined s content)) here ∙ room)
+    absorbed-is rules w i j n k content l e (ap (λ (s : State). is_within_limits rules.limits (joined s content)) here ∙ room)
     ∙ ap (λ (s : State). with_state w i (joined s content)) here
 
 -- what a replica can mean is within the limits
-meaning-fits : (m : Meaning) → IsMeaning m → is_within_limits (state_of m) ≡ true
-meaning-fits m valid = below-within m.config (state_of m) (state_of m) (below-itself (state_of m)) (meaning-holdable m.config m refl valid)
+meaning-fits : (c : Configuration) (m : Meaning) → m.config ≡ c → IsMeaning m → is_within_limits (limits_of c) (state_of m) ≡ true
+meaning-fits c m same valid = below-within c (state_of m) (state_of m) (below-itself (state_of m)) (meaning-holdable c m same valid)
 
 -- the turn of a piece of an answer
 turn-of : (config : Configuration) (bucket : ℕ) (g : PulledGive) (front back : List PulledPiece) (c : PulledPiece) → IsPulledAmid config bucket g
@@ -243,7 +243,9 @@ pieces-in-world config bucket n i answerer have place w g front back c l amid e 
     first-joined content turn.taken turn.rest c.old turn.parts ∙ ap state_of turn.is in (
       length turn.taken,
       part-joins (rules_of config n) w i place answerer have (length turn.taken) content (state_of c.old) l here sent
-          (ap is_within_limits same ∙ meaning-fits c.new found.1.new) ∙ ap (with_state w i) same,
+          (ap (is_within_limits (limits_of config)) same
+          ∙ meaning-fits config c.new (ap (λ (m : Meaning). m.config) (sym turn.is) ∙ same-config turn.taken c.old ∙ found.1.own) found.1.new)
+          ∙ ap (with_state w i) same,
     )
 
 -- no pieces take nothing
@@ -254,7 +256,8 @@ none-left (entry ∷ entries) takes = absurd takes
 -- The last piece of an answer is the taking of it.
 pub last-in-world : (config : Configuration) (bucket n i answerer have place : ℕ) (w : World) (g : PulledGive) → i < n → IsPulledAmid config bucket g
     → w.now i ≡ state_of g.last.old → slice_get w.sent place ≡ Some (sent_give answerer have g.give)
-    → (is_within_limits (joined (w.now i) g.give.content) ≡ true) × (happens (rules_of config n) w (Absorb i place) ≡ with_state w i (state_of g.last.new))
+    → (is_within_limits (limits_of config) (joined (w.now i) g.give.content) ≡ true)
+    × (happens (rules_of config n) w (Absorb i place) ≡ with_state w i (state_of g.last.new))
 last-in-world config bucket n i answerer have place w g l amid here sent =
     let found = turn-of config bucket g g.before [] g.last amid refl in
     let turn = found.0 in
@@ -263,7 +266,8 @@ last-in-world config bucket n i answerer have place w g l amid here sent =
     let same : joined (state_of g.last.old) g.give.content ≡ state_of g.last.new =
     sym (with-content g.last.old g.give.content) ∙ ap (λ (entries : List Entry). state_of (with_entries entries g.last.old)) all
     ∙ ap state_of turn.is in
-    let room = ap is_within_limits same ∙ meaning-fits g.last.new found.1.new in (
-      ap (λ (state : State). is_within_limits (joined state g.give.content)) here ∙ room,
+    let room = ap (is_within_limits (limits_of config)) same ∙ meaning-fits config g.last.new
+    (ap (λ (m : Meaning). m.config) (sym turn.is) ∙ same-config turn.taken g.last.old ∙ found.1.own) found.1.new in (
+      ap (λ (state : State). is_within_limits (limits_of config) (joined state g.give.content)) here ∙ room,
       whole-joins (rules_of config n) w i place answerer have g.give.content (state_of g.last.old) l here sent room ∙ ap (with_state w i) same,
     )

@@ -7,7 +7,7 @@ ghost use Rattle.receipt_core.specs.Acceptance.{Meaning, IsMeaning};
 ghost use Rattle.replica_core.specs.Absorbing.{with_entries};
 ghost use Rattle.replica_core.specs.Convergence.{IsPartOf};
 ghost use Rattle.replica_core.specs.Session.{HaveMessage, give_of, have_of, state_of};
-ghost use Rattle.replica_core.specs.State.{is_within_limits, joined};
+ghost use Rattle.replica_core.specs.State.{is_within_limits, joined, limits_of};
 ghost use Rattle.replica_core.specs.World.{Rules, World, apply, happens, rules_of, run_from, sends};
 ghost use Rattle.replica_core.specs.World.{with_state};
 ghost use Rattle.replica_core.specs.declared.entry.Entry.{Entry};
@@ -50,11 +50,11 @@ pub fn world_of_changes()
     ensures asks { (m : Meaning) (n i bucket : ℕ) (w : World) → i < n → bucket ≤ 255
         → w.now i ≡ state_of m
         → happens (rules_of m.config n) w (Ask i bucket)
-        ≡ apply w (sends (sent_have i (have_of m bucket))) }
+        ≡ apply (limits_of m.config) w (sends (sent_have i (have_of m bucket))) }
     ensures answers { (m : Meaning) (have : HaveMessage) (n i asker place : ℕ) (w : World)
         → i < n → w.now i ≡ state_of m → slice_get w.sent place ≡ Some (sent_have asker have)
         → happens (rules_of m.config n) w (Answer i place)
-        ≡ apply w (sends (sent_give i place (give_of m have))) }
+        ≡ apply (limits_of m.config) w (sends (sent_give i place (give_of m have))) }
 {
     replica_core::laws::effects();
 }
@@ -81,6 +81,6 @@ pub fn world_of_pieces()
     ensures last_piece { (config : Configuration) (bucket n i answerer have place : ℕ) (w : World)
         (g : PulledGive) → i < n → IsPulledAmid config bucket g → w.now i ≡ state_of g.last.old
         → slice_get w.sent place ≡ Some (sent_give answerer have g.give)
-        → (is_within_limits (joined (w.now i) g.give.content) ≡ true)
+        → (is_within_limits (limits_of config) (joined (w.now i) g.give.content) ≡ true)
         × (happens (rules_of config n) w (Absorb i place) ≡ with_state w i (state_of g.last.new)) }
 {}

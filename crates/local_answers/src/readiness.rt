@@ -54,8 +54,10 @@ fn quiet_warnings(alloc: Global, source: &PageSource<'_>) -> Result<Vec<Warning>
     let status = Status {
         config: ConfigId([0; 32]),
         receipts: 0,
+        receipt_limit: 0,
         pending: 0,
         records: 0,
+        record_limit: 0,
         domains: Vec::new(alloc),
         keyless_seeds: Vec::new(alloc),
     };

@@ -314,7 +314,7 @@ sorted_few goes reports all rest kept sink n so =
     let size = ap length so.split ∙ length-append so.done rest in
     omega (arith, few, count, size)
 
--- there is a place for the next item; the search finds this lemma
+-- there is a place for the next item
 pub sorted_place : {A : Type 0} (goes : A → Type 0) (reports : A → List ℕ → Type 0) (all before rest kept : List A) (x : A) (sink : SinkRun) (n : ℕ)
     → before ≡ x ∷ rest → SortedSoFar goes reports all before kept sink n → length kept < length all
 sorted_place goes reports all before rest kept x sink n e so =

@@ -1,1 +1,2 @@
 mod CarryFacts
+mod LimitFacts

@@ -16,6 +16,10 @@ use Rattle.migration.specs.declared.carrying.Choice.TheVariants.{All, RecordsOnl
 
 -- ---- what is carried over
 
+-- the other configuration, with the limits under which all was held that is carried over
+abbrev pub config_for : Meaning → Configuration → Configuration
+config_for m c = record c { limits = m.config.limits }
+
 -- the receipts that are to be carried over
 abbrev pub chosen_receipts : Choice → Meaning → List Receipt
 chosen_receipts All m = m.held

@@ -5,9 +5,10 @@ ghost use Rattle.std.specs.Io.KnownBytes.{Appends};
 ghost use Rattle.byte_lines.specs.Device.{AppendsBeginning, is_source_fault};
 ghost use Rattle.fed_config.specs.Configuration.{HasDomain, IsConfiguration};
 ghost use Rattle.receipt_core.specs.Acceptance.{IsFitting};
+ghost use Rattle.closure_core.specs.Changes.{empty_of};
 ghost use Rattle.closure_core.specs.Refusals.{IsOneTooMany, IsOneRecordTooMany};
-ghost use Rattle.receipt_core.specs.Limits.{receipt_limit, record_limit};
-ghost use Rattle.migration.specs.Carry.{CarriesOver, StopsCarrying, chosen_receipts};
+ghost use Rattle.receipt_core.specs.Limits.{most_receipts, most_records};
+ghost use Rattle.migration.specs.Carry.{CarriesOver, StopsCarrying, chosen_receipts, config_for};
 ghost use Rattle.migration.specs.Carry.{ReportsReceipt, ReportsRecord, left_receipt, left_record};
 ghost use Rattle.migration.specs.Inside.Carrying.{SortsItem, StopsAtItem, HasSorted, StopsSorting};
 ghost use Rattle.migration.specs.Inside.Carrying.{sink_run};
@@ -19,7 +20,7 @@ use fed_config::Config;
 use jwk_set::KeyId;
 use receipt_core::Receipt;
 use spiffe_name::TrustDomain;
-use std::alloc::Global;
+use std::alloc::{AllocError, Global};
 
 /// What is to be carried over.
 #[derive(Clone, Copy, Debug, PartialEq, Eq)]
@@ -55,7 +56,8 @@ pub struct Carried<C> {
 /// | `left out receipt <receipt id> of <domain>: below floor` | the document is below the floor of
 /// the receipt's domain |
 ///
-/// What is carried over is never too much, since all of it was held.
+/// The new closure has the limits of the old one: what is carried over is never too much, since all
+/// of it was held.
 ///
 /// # Errors
 /// A beginning of the lines was written.
@@ -71,7 +73,7 @@ pub fn carry<C: Closure, E: Sink>(
     ensures carried { IfOk result (λ carried. CarriesOver
         (record {
           choice = choice;
-          config = config.now;
+          config = config_for (C.state held.now).meaning config.now;
           old = (C.state held.now).meaning;
           before = E.contents lines.old;
           after = E.contents lines.new;
@@ -79,7 +81,7 @@ pub fn carry<C: Closure, E: Sink>(
     ensures stops { IsErr result → StopsCarrying
         (record {
           choice = choice;
-          config = config.now;
+          config = config_for (C.state held.now).meaning config.now;
           old = (C.state held.now).meaning;
           before = E.contents lines.old;
           after = E.contents lines.new;
@@ -88,8 +90,7 @@ pub fn carry<C: Closure, E: Sink>(
     // An error of the sink is reported exactly if the sink failed in this call.
     ensures fault { E.has_failed lines.new ≡ (is_source_fault result || E.has_failed lines.old) }
 {
-    let _domains = config.domains();
-    let mut closure = C::new(alloc, config)?;
+    let mut closure = empty_closure(alloc, held, config)?;
     let records = carry_records(alloc, held, &mut closure, lines)?;
     let receipts = carry_chosen(alloc, held, choice, &mut closure, lines)?;
     let _valid = closure.config();
@@ -97,6 +98,18 @@ pub fn carry<C: Closure, E: Sink>(
         closure,
         left_out: records + receipts,
     })
+}
+
+// A closure of the other configuration that has a place for all that is held.
+fn empty_closure<C: Closure>(alloc: Global, held: &C, config: &Config) -> Result<C, AllocError>
+    ensures meaning { IfOk result (λ c. (C.state c).meaning
+        ≡ empty_of (config_for (C.state held.now).meaning config.now)) }
+    ensures form { IfOk result (λ c. IsConfiguration (C.state c).meaning.config) }
+{
+    let mut config = config.try_clone(alloc)?;
+    config.set_limits(held.config().limits());
+    let _form = config.domains();
+    C::new(alloc, &config)
 }
 
 // Goes over the chosen receipts in their order.
@@ -109,12 +122,14 @@ fn carry_chosen<C: Closure, E: Sink>(
 ) -> Result<u64, DeviceError>
     requires config { IsConfiguration (C.state closure.old).meaning.config }
     requires none { (C.state closure.old).meaning.held ≡ [] }
+    requires limits { (C.state closure.old).meaning.config.limits
+        ≡ (C.state held.now).meaning.config.limits }
     ensures ok { IfOk result (λ n. HasSorted
         (IsFitting (C.state closure.old).meaning.config)
         (ReportsReceipt (C.state closure.old).meaning.config)
         (chosen_receipts choice (C.state held.now).meaning) (C.state closure.new).meaning.held
         (sink_run (E.contents lines.old) (E.contents lines.new)) n) }
-    ensures few { IfOk result (λ n. n ≤ receipt_limit) }
+    ensures few { IfOk result (λ n. n ≤ most_receipts) }
     ensures config { (C.state closure.new).meaning.config ≡ (C.state closure.old).meaning.config }
     ensures records { (C.state closure.new).meaning.records
         ≡ (C.state closure.old).meaning.records }
@@ -139,12 +154,14 @@ fn carry_records<C: Closure, E: Sink>(
     lines: &mut E,
 ) -> Result<u64, DeviceError>
     requires none { (C.state closure.old).meaning.records ≡ [] }
+    requires limits { (C.state closure.old).meaning.config.limits
+        ≡ (C.state held.now).meaning.config.limits }
     ensures ok { IfOk result (λ n. HasSorted
         (λ x. HasDomain (C.state closure.old).meaning.config x.domain)
         (ReportsRecord (C.state closure.old).meaning.config)
         (C.state held.now).meaning.records (C.state closure.new).meaning.records
         (sink_run (E.contents lines.old) (E.contents lines.new)) n) }
-    ensures few { IfOk result (λ n. n ≤ record_limit) }
+    ensures few { IfOk result (λ n. n ≤ most_records) }
     ensures config { (C.state closure.new).meaning.config ≡ (C.state closure.old).meaning.config }
     ensures held { (C.state closure.new).meaning.held ≡ (C.state closure.old).meaning.held }
     ensures stops { IsErr result → StopsSorting
@@ -171,12 +188,14 @@ fn carry_receipts<C: Closure, E: Sink>(
 ) -> Result<u64, DeviceError>
     requires config { IsConfiguration (C.state closure.old).meaning.config }
     requires none { (C.state closure.old).meaning.held ≡ [] }
+    requires limits { (C.state closure.old).meaning.config.limits
+        ≡ (C.state held.now).meaning.config.limits }
     ensures ok { IfOk result (λ n. HasSorted
         (IsFitting (C.state closure.old).meaning.config)
         (ReportsReceipt (C.state closure.old).meaning.config)
         (C.state held.now).meaning.held (C.state closure.new).meaning.held
         (sink_run (E.contents lines.old) (E.contents lines.new)) n) }
-    ensures few { IfOk result (λ n. n ≤ receipt_limit) }
+    ensures few { IfOk result (λ n. n ≤ most_receipts) }
     ensures config { (C.state closure.new).meaning.config ≡ (C.state closure.old).meaning.config }
     ensures records { (C.state closure.new).meaning.records
         ≡ (C.state closure.old).meaning.records }

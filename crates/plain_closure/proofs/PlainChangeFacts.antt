@@ -1,18 +1,19 @@
 -- What a plain closure keeps, when receipts or records of distrust come
-use Rattle.std.proofs.Common.{◌≡◌, ◌≢◌, ℕ, ◌+◌, ◌<◌, ◌≤◌, inl, inr, Bool, true, false, List, [], ◌∷◌, ◌++◌, length}
+use Rattle.std.proofs.Common.{◌≡◌, ◌≢◌, ℕ, ◌+◌, ◌^◌, ◌<◌, ◌≤◌, inl, inr, Bool, true, false, List, [], ◌∷◌, ◌++◌, length}
 use Rattle.std.proofs.Common.{get_or, map, Some, arith, refl, sym, ap, ◌∙◌, subst}
 use Rattle.std.specs.Prelude.{Contains, slice_get, ◌↔◌}
 use Rattle.std.specs.List.{All}
 use Rattle.std.proofs.lemmas.Bool.{cases_lt, both_ways}
-use Rattle.std.proofs.lemmas.List.{length-map, length_push, get_or_past, get_or_append_left, get_or_push}
+use Rattle.std.proofs.lemmas.List.{length-append, length-map, length_push, get_or_past, get_or_append_left, get_or_push}
 use Rattle.std.proofs.lemmas.List.Quantifiers.{all_pairs_push}
 use Rattle.std.proofs.lemmas.List.Elements.{Contains-append_left, Contains-get_or, All-contains}
 use Rattle.std.proofs.lemmas.Option.{slice_get_within, slice_get-get_or}
-use Rattle.fed_config.specs.Configuration.{Configuration}
+use Rattle.fed_config.specs.Configuration.{Configuration, IsConfiguration}
 use Rattle.receipt_core.specs.declared.distrust.Distrust.{Distrust}
 use Rattle.receipt_core.specs.declared.triple.Triple.{Triple}
 use Rattle.receipt_core.specs.Receipt.{Receipt, Pair, pair_of, IsReceipt}
 use Rattle.receipt_core.specs.Acceptance.{Meaning, IsMeaning, IsFitting, IsReleased, pair_of_seed}
+use Rattle.receipt_core.proofs.LimitFacts.{receipt_limit-most}
 use Rattle.closure_parts.proofs.PlaceFacts.{slice_get-left, slice_get-append_cases, slice_get-map_cases}
 use Rattle.closure_parts.proofs.PlaceFacts.{slice_get-push_cases}
 use Rattle.closure_core.specs.Inside.Nodes.{pairs_of, is_raised, flags_of}
@@ -259,6 +260,24 @@ heads-lowered h p low offers released s heads flags =
     subst (λ (fs : List ℕ). All (λ f. f < length low.counts) fs) (sym heads)
     (subst (λ (n : ℕ). All (λ f. f < n) p.heads) (sym flags)
     (heads-within h p offers released s))
+
+-- The number of nodes fits 32 bits.
+pub heads-few : (h : HeldReceipts) (p low : DocumentTableView) (offers : List Triple) (released : List Bool)
+    → IsSet h p offers released → IsConfiguration h.config → length h.arrived ≡ length h.held → low.heads ≡ p.heads
+    → length low.heads < 2 ^ 32
+heads-few h p low offers released s form size heads =
+    omega (
+      arith,
+      ap length heads,
+      s.pairing.sizes,
+      length-append (map pair_of_seed h.config.seeds) (map pair_of h.arrived),
+      length-map h.config.seeds pair_of_seed,
+      length-map h.arrived pair_of,
+      form.few_seeds,
+      size,
+      s.valid.few,
+      receipt_limit-most h.config,
+    )
 
 -- What the flags say, for equal numbers of configured documents, flags of receipts and first
 -- numbers.

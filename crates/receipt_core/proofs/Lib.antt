@@ -9,4 +9,5 @@ pub mod ReadFacts
 pub mod SearchFacts
 pub mod FloorFacts
 pub mod ChainFacts
+pub mod LimitFacts
 mod StandardFacts

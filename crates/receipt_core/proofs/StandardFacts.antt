@@ -23,6 +23,7 @@ use Rattle.receipt_core.specs.Rising.{with_item, with_items}
 use Rattle.receipt_core.specs.Acceptance.{IsFitting, Vouches, distrust_of}
 use Rattle.receipt_core.specs.Chain.{IsChain}
 use Rattle.receipt_core.proofs.RisingFacts.{Has-from_contains}
+use Rattle.fed_config.specs.Limits.{usual_limits}
 
 -- ---- needs and offers
 
@@ -104,7 +105,7 @@ seed = record { domain = codes "a"; document = vouching }
 
 -- a configuration of both relationships and the seed
 abbrev config : Configuration
-config = record { relationships = relationship from_a ∷ relationship from_b ∷ []; seeds = seed ∷ []; floors = [] }
+config = record { relationships = relationship from_a ∷ relationship from_b ∷ []; seeds = seed ∷ []; floors = []; limits = usual_limits }
 
 -- different letters
 below : (x y : ℕ) → x < y → (x ∷ []) ≡ (y ∷ []) → ⊥
@@ -277,11 +278,11 @@ without_the_first h = elim (Has-from_contains config.seeds h.seed h.configured) 
 ]
 
 -- nothing vouches if no document is configured
-pub without_a_seed : IsChain (record { relationships = config.relationships; seeds = []; floors = [] }) [] (from_a ∷ []) → ⊥
+pub without_a_seed : IsChain (record { relationships = config.relationships; seeds = []; floors = []; limits = usual_limits }) [] (from_a ∷ []) → ⊥
 without_a_seed h = Has-from_contains [] h.seed h.configured
 
 -- no receipt fits if there is no relationship
-pub without_a_relationship : IsChain (record { relationships = []; seeds = seed ∷ []; floors = [] }) [] (from_a ∷ []) → ⊥
+pub without_a_relationship : IsChain (record { relationships = []; seeds = seed ∷ []; floors = []; limits = usual_limits }) [] (from_a ∷ []) → ⊥
 without_a_relationship h = Has-from_contains [] h.leads.0.relationship h.leads.0.has
 
 -- a record stops a chain that uses its key

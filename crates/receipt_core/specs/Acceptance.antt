@@ -62,11 +62,11 @@ pub record IsMeaning (m : Meaning) : Type 0 where
   pub receipts : AllByRecursion IsReceipt m.held
   pub rising : IsStrictlySortedBy receipt_cmp m.held
   pub fitting : AllByRecursion (IsFitting m.config) m.held
-  pub few : length m.held ≤ receipt_limit
+  pub few : length m.held ≤ receipt_limit m.config
   pub distrusts : AllByRecursion IsDistrust m.records
   pub records_rising : IsStrictlySortedBy distrust_cmp m.records
   pub domains : AllByRecursion (λ x. HasDomain m.config x.domain) m.records
-  pub few_records : length m.records ≤ record_limit
+  pub few_records : length m.records ≤ record_limit m.config
 
 abbrev pub pair_of_seed : Seed → Pair
 pair_of_seed s = record { domain = s.domain; document = s.document }

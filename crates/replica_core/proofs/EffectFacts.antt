@@ -22,7 +22,7 @@ gains-held : (past : WorldRun) (event : Event) (i : ℕ) (gain : State) → effe
 gains-held past event i gain e t =
     let w = world_after past in
     ap (λ (v : World). v.now i) (fold-append (happens (rules_in past)) empty_world past.events (event ∷ []))
-    ∙ ap (λ f. (apply w f).now i) e
+    ∙ ap (λ f. (apply (rules_in past).limits w f).now i) e
     ∙ ap (λ b. (gained b w i (joined (w.now i) gain)).now i) t
     ∙ at-here i (joined (w.now i) gain) w.now
 

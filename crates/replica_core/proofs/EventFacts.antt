@@ -11,6 +11,7 @@ use Rattle.replica_core.specs.declared.event.Event.{Event}
 use Rattle.replica_core.specs.declared.event.Event.TheVariants.{Take, Revoke, Ask, Answer, Absorb, Part, Join, Save, Restart}
 use Rattle.replica_core.proofs.ContainsFacts.{contains-here, contains-later, get-kept}
 use Rattle.replica_core.proofs.JoinLawFacts.{Laws}
+use Rattle.fed_config.specs.declared.limits.Limits.{Limits}
 
 -- A state is part of itself.
 pub part-refl : (state : State) → IsPartOf state state
@@ -101,9 +102,9 @@ covered rules w (Restart k) P c = covered-where P (is_replica rules k) _ c.idle 
 -- No event but its own restart takes anything from a replica.
 pub part-event : (laws : Laws) (rules : Rules) (w : World) (i : ℕ) (event : Event) → event ≢ Restart i → IsPartOf (w.now i) ((happens rules w event).now i)
 part-event laws rules w i event d =
-    covered rules w event (λ effect. IsPartOf (w.now i) ((apply w effect).now i)) (record {
+    covered rules w event (λ effect. IsPartOf (w.now i) ((apply rules.limits w effect).now i)) (record {
       idle = part-refl (w.now i);
-      more = λ k gain e. part-gained (is_within_limits (joined (w.now k) gain)) w i k (joined (w.now k) gain) (part-joined laws (w.now k) gain);
+      more = λ k gain e. part-gained (is_within_limits rules.limits (joined (w.now k) gain)) w i k (joined (w.now k) gain) (part-joined laws (w.now k) gain);
       stated = λ message. part-refl (w.now i);
       kept = λ k e s. part-refl (w.now i);
       again = λ k e s. subst (IsPartOf (w.now i)) (sym (at-other i k (w.saved k) w.now (λ f. d (s ∙ ap Restart (sym f))))) (part-refl (w.now i));
@@ -130,18 +131,18 @@ sent-gained true w k state = refl
 sent-gained false w k state = refl
 
 -- No effect takes back a message.
-sent-applied : (w : World) (effect : Effect) → (rest : List Message) × ((apply w effect).sent ≡ w.sent ++ rest)
-sent-applied w nothing = front-refl w
-sent-applied w (gains k gain) = ([], sent-gained (is_within_limits (joined (w.now k) gain)) w k (joined (w.now k) gain) ∙ sym (append-nil w.sent))
-sent-applied w (sends message) = (message ∷ [], refl)
-sent-applied w (saves k) = front-refl w
-sent-applied w (restarts k) = front-refl w
+sent-applied : (limits : Limits) (w : World) (effect : Effect) → (rest : List Message) × ((apply limits w effect).sent ≡ w.sent ++ rest)
+sent-applied limits w nothing = front-refl w
+sent-applied limits w (gains k gain) = ([], sent-gained (is_within_limits limits (joined (w.now k) gain)) w k (joined (w.now k) gain) ∙ sym (append-nil w.sent))
+sent-applied limits w (sends message) = (message ∷ [], refl)
+sent-applied limits w (saves k) = front-refl w
+sent-applied limits w (restarts k) = front-refl w
 
 -- No list of events takes back a message.
 pub sent-run : (rules : Rules) (events : List Event) (w : World) → (rest : List Message) × ((run_from rules w events).sent ≡ w.sent ++ rest)
 sent-run rules [] w = front-refl w
 sent-run rules (event ∷ events) w =
-    let first = sent-applied w (effect_of rules w event) in
+    let first = sent-applied rules.limits w (effect_of rules w event) in
     let later = sent-run rules events (happens rules w event) in
     (first.0 ++ later.0, later.1 ∙ ap (λ s. s ++ later.0) first.1 ∙ append_assoc w.sent first.0 later.0)
 
@@ -162,9 +163,9 @@ saved-gained false w i k state = refl
 -- No event but its own save changes what a replica saved.
 saved-event : (rules : Rules) (w : World) (i : ℕ) (event : Event) → event ≢ Save i → (happens rules w event).saved i ≡ w.saved i
 saved-event rules w i event d =
-    covered rules w event (λ effect. (apply w effect).saved i ≡ w.saved i) (record {
+    covered rules w event (λ effect. (apply rules.limits w effect).saved i ≡ w.saved i) (record {
       idle = refl;
-      more = λ k gain e. saved-gained (is_within_limits (joined (w.now k) gain)) w i k (joined (w.now k) gain);
+      more = λ k gain e. saved-gained (is_within_limits rules.limits (joined (w.now k) gain)) w i k (joined (w.now k) gain);
       stated = λ message. refl;
       kept = λ k e s. at-other i k (w.now k) w.saved (λ f. d (s ∙ ap Save (sym f)));
       again = λ k e s. refl;
@@ -185,8 +186,8 @@ replica-true rules i l = le-leb (i + 1) rules.replicas (omega arith)
 
 -- A save keeps what the replica holds.
 pub saved-here : (rules : Rules) (i : ℕ) (w : World) → i < rules.replicas → (happens rules w (Save i)).saved i ≡ w.now i
-saved-here rules i w l = ap (λ b. (apply w (where_so b (saves i))).saved i) (replica-true rules i l) ∙ at-here i (w.now i) w.saved
+saved-here rules i w l = ap (λ b. (apply rules.limits w (where_so b (saves i))).saved i) (replica-true rules i l) ∙ at-here i (w.now i) w.saved
 
 -- A restart gives what the replica saved last.
 pub restarted-here : (rules : Rules) (i : ℕ) (w : World) → i < rules.replicas → (happens rules w (Restart i)).now i ≡ w.saved i
-restarted-here rules i w l = ap (λ b. (apply w (where_so b (restarts i))).now i) (replica-true rules i l) ∙ at-here i (w.saved i) w.now
+restarted-here rules i w l = ap (λ b. (apply rules.limits w (where_so b (restarts i))).now i) (replica-true rules i l) ∙ at-here i (w.saved i) w.now

@@ -30,23 +30,23 @@ content_of state b ids = record { held = receipts_lacking state b ids; records =
 pub asked-is : (rules : Rules) (w : World) (i b : ℕ) → i < rules.replicas → b ≤ 255
     → happens rules w (Ask i b) ≡ with_message w (have_sent i b (ids_held (w.now i) b))
 asked-is rules w i b l m =
-    ap (λ (t : Bool). apply w (where_so t (sends (have_sent i b (ids_held (w.now i) b)))))
+    ap (λ (t : Bool). apply rules.limits w (where_so t (sends (have_sent i b (ids_held (w.now i) b)))))
     (and_from (is_replica rules i) (nat_le b 255) (replica-true rules i l) (le-leb b 255 m))
 
 -- A replica that answers a have sends what it has of it.
 pub answered-is : (rules : Rules) (w : World) (i j b k : ℕ) (ids : List (List ℕ)) → j < rules.replicas → slice_get w.sent k ≡ Some (have_sent i b ids)
     → happens rules w (Answer j k) ≡ with_message w (give_sent j k (content_of (w.now j) b ids))
 answered-is rules w i j b k ids l e =
-    ap (λ (t : Bool). apply w (where_so t (sends_give (w.now j) j k (slice_get w.sent k)))) (replica-true rules j l)
-    ∙ ap (λ (f : Option Message). apply w (sends_give (w.now j) j k f)) e
+    ap (λ (t : Bool). apply rules.limits w (where_so t (sends_give (w.now j) j k (slice_get w.sent k)))) (replica-true rules j l)
+    ∙ ap (λ (f : Option Message). apply rules.limits w (sends_give (w.now j) j k f)) e
 
 -- A replica that takes an answer within the limits joins its content.
 pub absorbed-is : (rules : Rules) (w : World) (i j n k : ℕ) (content : State) → i < rules.replicas → slice_get w.sent n ≡ Some (give_sent j k content)
-    → is_within_limits (joined (w.now i) content) ≡ true
+    → is_within_limits rules.limits (joined (w.now i) content) ≡ true
     → happens rules w (Absorb i n) ≡ with_state w i (joined (w.now i) content)
 absorbed-is rules w i j n k content l e t =
-    ap (λ (b : Bool). apply w (where_so b (takes_whole i (slice_get w.sent n)))) (replica-true rules i l)
-    ∙ ap (λ (f : Option Message). apply w (takes_whole i f)) e
+    ap (λ (b : Bool). apply rules.limits w (where_so b (takes_whole i (slice_get w.sent n)))) (replica-true rules i l)
+    ∙ ap (λ (f : Option Message). apply rules.limits w (takes_whole i f)) e
     ∙ ap (λ (b : Bool). gained b w i (joined (w.now i) content)) t
 
 -- the have is at its place
@@ -63,7 +63,7 @@ answered-here rules w i j b k ids l e =
 
 -- The taking of an answer within the limits joins its content.
 absorbed-here : (rules : Rules) (w : World) (i j n k : ℕ) (content : State) → i < rules.replicas → slice_get w.sent n ≡ Some (give_sent j k content)
-    → is_within_limits (joined (w.now i) content) ≡ true → (happens rules w (Absorb i n)).now i ≡ joined (w.now i) content
+    → is_within_limits rules.limits (joined (w.now i) content) ≡ true → (happens rules w (Absorb i n)).now i ≡ joined (w.now i) content
 absorbed-here rules w i j n k content l e t =
     ap (λ (v : World). v.now i) (absorbed-is rules w i j n k content l e t) ∙ at-here i (joined (w.now i) content) w.now
 

@@ -31,13 +31,14 @@ use Rattle.closure_core.specs.declared.outcome.Taken.{Taken}
 use Rattle.closure_core.specs.declared.outcome.Taken.TheVariants.{New as TakenNew, Already as TakenAlready}
 use Rattle.closure_core.specs.declared.outcome.Distrusted.{Distrusted}
 use Rattle.closure_core.specs.declared.outcome.Distrusted.TheVariants.{New as DistrustedNew, Already as DistrustedAlready}
-use Rattle.replica_core.specs.State.{no_state, joined, is_within_limits, meaning_of_state}
+use Rattle.replica_core.specs.State.{no_state, joined, limits_of, is_within_limits, meaning_of_state}
 use Rattle.replica_core.specs.Session.{state_of}
 use Rattle.replica_core.specs.World.{same_id, is_reached, is_fitting, is_known}
 use Rattle.replica_core.specs.Inside.ReplicasInMemory.{grown, CanHold, CanHoldRecords}
 use Rattle.replica_core.proofs.ContainsFacts.{contains-cases, contains-here, contains-later, contains-none, each-from}
 use Rattle.replica_core.proofs.RisingListFacts.{all_back, at_end, rising_head, rising_tail}
 use Rattle.closure_core.proofs.FitFacts.{fits_right, fits_above}
+use Rattle.receipt_core.specs.Limits.{receipt_limit, record_limit}
 
 -- ---- what fits and what is known passes the tests of a world
 
@@ -155,7 +156,7 @@ all-next cmp total (x ∷ items) seen rising =
 -- what may be held is refused only if memory ran out
 refusal-none : (old : Closed) (r : Receipt) (why : TakeError) → IsConfiguration old.meaning.config
     → RefusesReceipt old.meaning old.room r why → why ≢ NoMemory → IsFitting old.meaning.config r
-    → length old.meaning.held < 65536 → ⊥
+    → length old.meaning.held < receipt_limit old.meaning.config → ⊥
 refusal-none old r UnknownDomain is h other fits few = h fits.relationship fits.has fits.domain
 refusal-none old r WrongEndpoint is h other fits few = fits_right old.meaning.config r is fits h
 refusal-none old r BelowFloor is h other fits few = fits_above old.meaning.config r fits h
@@ -209,7 +210,7 @@ unfit-distrusted old new x (Ok DistrustedAlready) h f = h.meaning
 unfit-distrusted old new x (Err why) h f = h.meaning
 
 -- A record of a known domain is not refused while there is a place.
-record-refused : (old : Meaning) (x : Distrust) (why : TakeError) → RefusesDistrust old x why → HasDomain old.config x.domain → length old.records < 4096 → ⊥
+record-refused : (old : Meaning) (x : Distrust) (why : TakeError) → RefusesDistrust old x why → HasDomain old.config x.domain → length old.records < record_limit old.config → ⊥
 record-refused old x UnknownDomain h known few = h known
 record-refused old x WrongEndpoint h known few = h
 record-refused old x BelowFloor h known few = h
@@ -250,13 +251,13 @@ merge-refused m other NoMemory is fitting domains same h n = absurd (n refl)
 merge-refused m other ConfigDiffers is fitting domains same h n = absurd (h same)
 
 -- What is too many is not within the limits.
-too-many : (a b : ℕ) → (65536 < a) ⊎ (4096 < b) → (nat_le a 65536 && nat_le b 4096) ≡ false
-too-many a b h =
-    elim (cases_Bool (nat_le a 65536 && nat_le b 4096)) [
+too-many : (a b most most_too : ℕ) → (most < a) ⊎ (most_too < b) → (nat_le a most && nat_le b most_too) ≡ false
+too-many a b most most_too h =
+    elim (cases_Bool (nat_le a most && nat_le b most_too)) [
       | inl t ↦
-          let parts = and_parts (nat_le a 65536) (nat_le b 4096) t in
-          let few : a ≤ 65536 = leb-true a 65536 parts.0 in
-          let few_records : b ≤ 4096 = leb-true b 4096 parts.1 in
+          let parts = and_parts (nat_le a most) (nat_le b most_too) t in
+          let few : a ≤ most = leb-true a most parts.0 in
+          let few_records : b ≤ most_too = leb-true b most_too parts.1 in
           absurd (elim h [ inl more ↦ omega arith | inr more ↦ omega arith ])
       | inr f ↦ f
     ]
@@ -265,32 +266,35 @@ too-many a b h =
 -- gained.
 pub grow-refused : (old new : Closed) (other : Meaning) (why : TakeError) → IsConfiguration other.config
     → IsMeaning other → HasRefusedMerge old other new why → old.meaning.config ≡ other.config → why ≢ NoMemory
-    → new.meaning ≡ meaning_of_state old.meaning.config (grown (state_of old.meaning) (state_of other))
+    → new.meaning ≡ meaning_of_state old.meaning.config (grown (limits_of old.meaning.config) (state_of old.meaning) (state_of other))
 grow-refused old new other why is valid h same n =
     let many = merge-refused old.meaning other why (subst IsConfiguration (sym same) is)
     (subst (λ (c : Configuration). AllByRecursion (IsFitting c) other.held) (sym same) valid.fitting)
     (subst (λ (c : Configuration). AllByRecursion (λ x. HasDomain c x.domain) other.records) (sym same) valid.domains) (ap config_id_of same) h.cause n in
     h.unchanged.meaning
     ∙ ap (λ b. meaning_of_state old.meaning.config (cond b (joined (state_of old.meaning) (state_of other)) (state_of old.meaning)))
-    (sym (too-many (length (joined (state_of old.meaning) (state_of other)).held) (length (joined (state_of old.meaning) (state_of other)).records) many))
+    (sym (too-many (length (joined (state_of old.meaning) (state_of other)).held) (length (joined (state_of old.meaning) (state_of other)).records)
+    (receipt_limit old.meaning.config) (record_limit old.meaning.config) many))
 
 -- ---- copies
 
 -- A closure without anything that gains all of a meaning holds that meaning.
-grown-nothing : (m : Meaning) → IsMeaning m → meaning_of_state m.config (grown no_state (state_of m)) ≡ m
+grown-nothing : (m : Meaning) → IsMeaning m → meaning_of_state m.config (grown (limits_of m.config) no_state (state_of m)) ≡ m
 grown-nothing m valid =
     let held : with_items receipt_cmp m.held [] ≡ m.held = all-next receipt_cmp receipt_total m.held [] valid.rising in
     let records : with_items distrust_cmp m.records [] ≡ m.records = all-next distrust_cmp distrust_total m.records [] valid.records_rising in
     let same : joined no_state (state_of m) ≡ state_of m = (λ i. record { held = held i; records = records i }) in
-    let within : is_within_limits (state_of m) ≡ true =
-    and_from (nat_le (length m.held) 65536) (nat_le (length m.records) 4096)
-    (le-leb (length m.held) 65536 valid.few) (le-leb (length m.records) 4096 valid.few_records) in
-    ap (λ s. meaning_of_state m.config (cond (is_within_limits s) s no_state)) same ∙ ap (λ b. meaning_of_state m.config (cond b (state_of m) no_state)) within
+    let most = receipt_limit m.config in
+    let most_too = record_limit m.config in
+    let within : is_within_limits (limits_of m.config) (state_of m) ≡ true =
+    and_from (nat_le (length m.held) most) (nat_le (length m.records) most_too)
+    (le-leb (length m.held) most valid.few) (le-leb (length m.records) most_too valid.few_records) in
+    ap (λ s. meaning_of_state m.config (cond (is_within_limits (limits_of m.config) s) s no_state)) same ∙ ap (λ b. meaning_of_state m.config (cond b (state_of m) no_state)) within
 
 -- So a copy means what was copied.
 pub copy-same : (m copy new : Meaning) → IsMeaning m → copy ≡ empty_of m.config
-    → new ≡ meaning_of_state copy.config (grown (state_of copy) (state_of m)) → new ≡ m
-copy-same m copy new valid e h = h ∙ ap (λ (c : Meaning). meaning_of_state c.config (grown (state_of c) (state_of m))) e ∙ grown-nothing m valid
+    → new ≡ meaning_of_state copy.config (grown (limits_of copy.config) (state_of copy) (state_of m)) → new ≡ m
+copy-same m copy new valid e h = h ∙ ap (λ (c : Meaning). meaning_of_state c.config (grown (limits_of c.config) (state_of c) (state_of m))) e ∙ grown-nothing m valid
 
 -- ---- one after another
 

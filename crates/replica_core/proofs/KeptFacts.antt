@@ -12,6 +12,7 @@ use Rattle.replica_core.specs.declared.event.Event.TheVariants.{Take, Revoke, As
 use Rattle.replica_core.proofs.ContainsFacts.{contains-here, contains-later, contains-cases, contains-none, filter-from, get-cases}
 use Rattle.replica_core.proofs.JoinLawFacts.{Laws, Keeps, keeps-joined, keeps-first}
 use Rattle.replica_core.proofs.EventFacts.{at-here}
+use Rattle.fed_config.specs.declared.limits.Limits.{Limits}
 
 -- what an answer brings has the properties
 abbrev pub KeepsMessage : (Receipt → Type 0) → (Distrust → Type 0) → Message → Type 0
@@ -80,67 +81,67 @@ kept-held laws P Q place A false w i gain h p q = h
 
 -- It remains so when a replica gains what has the properties.
 kept-gains : (laws : Laws) (P : Receipt → Type 0) (Q : Distrust
-    → Type 0) (place : ℕ) (A : Type 0) (w : World) (i : ℕ) (gain : State) → IsKept P Q place A w → Keeps P Q gain
-    → IsKept P Q place A (apply w (gains i gain))
-kept-gains laws P Q place A w i gain h g =
-    kept-gained P Q place A (is_within_limits (joined (w.now i) gain)) w i (joined (w.now i) gain) h (keeps-joined laws P Q (w.now i) gain (h.now i) g)
+    → Type 0) (place : ℕ) (A : Type 0) (limits : Limits) (w : World) (i : ℕ) (gain : State) → IsKept P Q place A w → Keeps P Q gain
+    → IsKept P Q place A (apply limits w (gains i gain))
+kept-gains laws P Q place A limits w i gain h g =
+    kept-gained P Q place A (is_within_limits limits (joined (w.now i) gain)) w i (joined (w.now i) gain) h (keeps-joined laws P Q (w.now i) gain (h.now i) g)
 
 -- It remains so when a message is sent that has the properties.
-kept-sends : (P : Receipt → Type 0) (Q : Distrust → Type 0) (place : ℕ) (A : Type 0) (w : World) (message : Message)
-    → IsKept P Q place A w → KeepsMessage P Q message → IsKept P Q place A (apply w (sends message))
-kept-sends P Q place A w message h m = record {
+kept-sends : (P : Receipt → Type 0) (Q : Distrust → Type 0) (place : ℕ) (A : Type 0) (limits : Limits) (w : World) (message : Message)
+    → IsKept P Q place A w → KeepsMessage P Q message → IsKept P Q place A (apply limits w (sends message))
+kept-sends P Q place A limits w message h m = record {
   now = h.now;
   saved = h.saved;
   sent = λ n other l e. elim (get-cases w.sent message n other e) [ inl s ↦ h.sent n other l s | inr s ↦ subst (KeepsMessage P Q) (sym s.1) m ];
 }
 
 -- It remains so when a replica saves.
-kept-saves : (P : Receipt → Type 0) (Q : Distrust → Type 0) (place : ℕ) (A : Type 0) (w : World) (i : ℕ)
-    → IsKept P Q place A w → IsKept P Q place A (apply w (saves i))
-kept-saves P Q place A w i h = record {
+kept-saves : (P : Receipt → Type 0) (Q : Distrust → Type 0) (place : ℕ) (A : Type 0) (limits : Limits) (w : World) (i : ℕ)
+    → IsKept P Q place A w → IsKept P Q place A (apply limits w (saves i))
+kept-saves P Q place A limits w i h = record {
   now = h.now;
   saved = λ a j. keeps-at P Q (j == i) (w.now i) (w.saved j) (h.now i) (h.saved a j);
   sent = h.sent;
 }
 
 -- It remains so if an effect depends on a test, and it does when the test passes.
-pub kept-where : (P : Receipt → Type 0) (Q : Distrust → Type 0) (place : ℕ) (A : Type 0) (b : Bool) (w : World)
-    (effect : Effect) → IsKept P Q place A w → (b ≡ true → IsKept P Q place A (apply w effect))
-    → IsKept P Q place A (apply w (where_so b effect))
-kept-where P Q place A true w effect h g = g refl
-kept-where P Q place A false w effect h g = h
+pub kept-where : (P : Receipt → Type 0) (Q : Distrust → Type 0) (place : ℕ) (A : Type 0) (b : Bool) (limits : Limits) (w : World)
+    (effect : Effect) → IsKept P Q place A w → (b ≡ true → IsKept P Q place A (apply limits w effect))
+    → IsKept P Q place A (apply limits w (where_so b effect))
+kept-where P Q place A true limits w effect h g = g refl
+kept-where P Q place A false limits w effect h g = h
 
 -- It remains so when a replica answers.
 kept-sends_give : (P : Receipt → Type 0) (Q : Distrust
-    → Type 0) (place : ℕ) (A : Type 0) (w : World) (state : State) (j k : ℕ) (message : Option Message)
-    → IsKept P Q place A w → Keeps P Q state → IsKept P Q place A (apply w (sends_give state j k message))
-kept-sends_give P Q place A w state j k None h s = h
-kept-sends_give P Q place A w state j k (Some (have_sent asker bucket ids)) h s =
-    kept-sends P Q place A w (give_sent j k (record { held = receipts_lacking state bucket ids; records = state.records })) h (record {
+    → Type 0) (place : ℕ) (A : Type 0) (limits : Limits) (w : World) (state : State) (j k : ℕ) (message : Option Message)
+    → IsKept P Q place A w → Keeps P Q state → IsKept P Q place A (apply limits w (sends_give state j k message))
+kept-sends_give P Q place A limits w state j k None h s = h
+kept-sends_give P Q place A limits w state j k (Some (have_sent asker bucket ids)) h s =
+    kept-sends P Q place A limits w (give_sent j k (record { held = receipts_lacking state bucket ids; records = state.records })) h (record {
       receipts = λ r c. s.receipts r (filter-from (λ o. is_of_bucket bucket o && not (is_named ids o)) state.held r c).0;
       records = s.records;
     })
-kept-sends_give P Q place A w state j k (Some (give_sent answerer other content)) h s = h
+kept-sends_give P Q place A limits w state j k (Some (give_sent answerer other content)) h s = h
 
 -- It remains so when a replica takes a whole answer that has the properties.
 kept-whole : (laws : Laws) (P : Receipt → Type 0) (Q : Distrust
-    → Type 0) (place : ℕ) (A : Type 0) (w : World) (i : ℕ) (found : Option Message) → IsKept P Q place A w
+    → Type 0) (place : ℕ) (A : Type 0) (limits : Limits) (w : World) (i : ℕ) (found : Option Message) → IsKept P Q place A w
     → ((message : Message) → found ≡ Some message → KeepsMessage P Q message)
-    → IsKept P Q place A (apply w (takes_whole i found))
-kept-whole laws P Q place A w i None h s = h
-kept-whole laws P Q place A w i (Some (have_sent asker bucket ids)) h s = h
-kept-whole laws P Q place A w i (Some (give_sent answerer other content)) h s =
-    kept-gains laws P Q place A w i content h (s (give_sent answerer other content) refl)
+    → IsKept P Q place A (apply limits w (takes_whole i found))
+kept-whole laws P Q place A limits w i None h s = h
+kept-whole laws P Q place A limits w i (Some (have_sent asker bucket ids)) h s = h
+kept-whole laws P Q place A limits w i (Some (give_sent answerer other content)) h s =
+    kept-gains laws P Q place A limits w i content h (s (give_sent answerer other content) refl)
 
 -- It remains so when a replica takes part of an answer that has the properties.
 kept-part : (laws : Laws) (P : Receipt → Type 0) (Q : Distrust
-    → Type 0) (place : ℕ) (A : Type 0) (w : World) (i m : ℕ) (found : Option Message) → IsKept P Q place A w
+    → Type 0) (place : ℕ) (A : Type 0) (limits : Limits) (w : World) (i m : ℕ) (found : Option Message) → IsKept P Q place A w
     → ((message : Message) → found ≡ Some message → KeepsMessage P Q message)
-    → IsKept P Q place A (apply w (takes_part i m found))
-kept-part laws P Q place A w i m None h s = h
-kept-part laws P Q place A w i m (Some (have_sent asker bucket ids)) h s = h
-kept-part laws P Q place A w i m (Some (give_sent answerer other content)) h s =
-    kept-gains laws P Q place A w i (first_of m content) h (keeps-first P Q m content (s (give_sent answerer other content) refl))
+    → IsKept P Q place A (apply limits w (takes_part i m found))
+kept-part laws P Q place A limits w i m None h s = h
+kept-part laws P Q place A limits w i m (Some (have_sent asker bucket ids)) h s = h
+kept-part laws P Q place A limits w i m (Some (give_sent answerer other content)) h s =
+    kept-gains laws P Q place A limits w i (first_of m content) h (keeps-first P Q m content (s (give_sent answerer other content) refl))
 
 -- A state of one receipt has the properties if the receipt has.
 one-receipt : (P : Receipt → Type 0) (Q : Distrust → Type 0) (r : Receipt) → P r → Keeps P Q (record { held = r ∷ []; records = [] })
@@ -161,34 +162,34 @@ pub kept-event : (laws : Laws) (P : Receipt → Type 0) (Q : Distrust
     → Type 0) (place : ℕ) (A : Type 0) (rules : Rules) (w : World) (event : Event) → IsKept P Q place A w
     → Admits rules P Q place A event → IsKept P Q place A (happens rules w event)
 kept-event laws P Q place A rules w (Take i r) h a =
-    kept-where P Q place A (is_replica rules i && rules.fits r) w (gains i (record { held = r ∷ []; records = [] })) h
-    (λ e. kept-gains laws P Q place A w i (record { held = r ∷ []; records = [] }) h
+    kept-where P Q place A (is_replica rules i && rules.fits r) rules.limits w (gains i (record { held = r ∷ []; records = [] })) h
+    (λ e. kept-gains laws P Q place A rules.limits w i (record { held = r ∷ []; records = [] }) h
     (one-receipt P Q r (a (and_parts (is_replica rules i) (rules.fits r) e).0
     (and_parts (is_replica rules i) (rules.fits r) e).1)))
 kept-event laws P Q place A rules w (Revoke i x) h a =
-    kept-where P Q place A (is_replica rules i && rules.knows x.domain) w
+    kept-where P Q place A (is_replica rules i && rules.knows x.domain) rules.limits w
     (gains i (record { held = []; records = x ∷ [] })) h
-    (λ e. kept-gains laws P Q place A w i (record { held = []; records = x ∷ [] }) h
+    (λ e. kept-gains laws P Q place A rules.limits w i (record { held = []; records = x ∷ [] }) h
     (one-record P Q x (a (and_parts (is_replica rules i) (rules.knows x.domain) e).0
     (and_parts (is_replica rules i) (rules.knows x.domain) e).1)))
 kept-event laws P Q place A rules w (Ask i b) h a =
-    kept-where P Q place A (is_replica rules i && nat_le b 255) w (sends (have_sent i b (ids_held (w.now i) b))) h
-    (λ e. kept-sends P Q place A w (have_sent i b (ids_held (w.now i) b)) h tt)
+    kept-where P Q place A (is_replica rules i && nat_le b 255) rules.limits w (sends (have_sent i b (ids_held (w.now i) b))) h
+    (λ e. kept-sends P Q place A rules.limits w (have_sent i b (ids_held (w.now i) b)) h tt)
 kept-event laws P Q place A rules w (Answer j k) h a =
-    kept-where P Q place A (is_replica rules j) w (sends_give (w.now j) j k (slice_get w.sent k)) h
-    (λ e. kept-sends_give P Q place A w (w.now j) j k (slice_get w.sent k) h (h.now j))
+    kept-where P Q place A (is_replica rules j) rules.limits w (sends_give (w.now j) j k (slice_get w.sent k)) h
+    (λ e. kept-sends_give P Q place A rules.limits w (w.now j) j k (slice_get w.sent k) h (h.now j))
 kept-event laws P Q place A rules w (Absorb i k) h a =
-    kept-where P Q place A (is_replica rules i) w (takes_whole i (slice_get w.sent k)) h
-    (λ e. kept-whole laws P Q place A w i (slice_get w.sent k) h (λ m f. h.sent k m a f))
+    kept-where P Q place A (is_replica rules i) rules.limits w (takes_whole i (slice_get w.sent k)) h
+    (λ e. kept-whole laws P Q place A rules.limits w i (slice_get w.sent k) h (λ m f. h.sent k m a f))
 kept-event laws P Q place A rules w (Part i k m) h a =
-    kept-where P Q place A (is_replica rules i) w (takes_part i m (slice_get w.sent k)) h
-    (λ e. kept-part laws P Q place A w i m (slice_get w.sent k) h (λ o f. h.sent k o a f))
+    kept-where P Q place A (is_replica rules i) rules.limits w (takes_part i m (slice_get w.sent k)) h
+    (λ e. kept-part laws P Q place A rules.limits w i m (slice_get w.sent k) h (λ o f. h.sent k o a f))
 kept-event laws P Q place A rules w (Join i j) h a =
-    kept-where P Q place A (is_replica rules i && is_replica rules j) w (gains i (w.now j)) h (λ e. kept-gains laws P Q place A w i (w.now j) h (h.now j))
+    kept-where P Q place A (is_replica rules i && is_replica rules j) rules.limits w (gains i (w.now j)) h (λ e. kept-gains laws P Q place A rules.limits w i (w.now j) h (h.now j))
 kept-event laws P Q place A rules w (Save i) h a =
-    kept-where P Q place A (is_replica rules i) w (saves i) h (λ e. kept-saves P Q place A w i h)
+    kept-where P Q place A (is_replica rules i) rules.limits w (saves i) h (λ e. kept-saves P Q place A rules.limits w i h)
 kept-event laws P Q place A rules w (Restart i) h a =
-    kept-where P Q place A (is_replica rules i) w (restarts i) h (λ e. kept-state P Q place A w i (w.saved i) h (h.saved a i))
+    kept-where P Q place A (is_replica rules i) rules.limits w (restarts i) h (λ e. kept-state P Q place A w i (w.saved i) h (h.saved a i))
 
 -- So it remains so over each list of events that are admitted.
 pub kept-run : (laws : Laws) (P : Receipt → Type 0) (Q : Distrust

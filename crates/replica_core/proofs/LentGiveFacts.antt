@@ -10,6 +10,8 @@ use Rattle.replica_core.specs.Lacking.{not_named}
 use Rattle.replica_core.proofs.ContainsFacts.{contains-none, contains-cases, any-from}
 use Rattle.std.proofs.lemmas.Bool.{cases_Bool}
 use Rattle.std.proofs.lemmas.Slice.Eq.{bytes_eq-Decides}
+use Rattle.receipt_core.specs.Limits.{most_receipts}
+use Rattle.receipt_core.proofs.LimitFacts.{receipt_limit-most}
 
 -- One step of `filter-filter`, for either outcome of the first test.
 filter-both : (b : Bool) (p q : Receipt → Bool) (r : Receipt) (rs kept : List Receipt) → p r ≡ b
@@ -79,8 +81,9 @@ few-kept p [] = omega arith
 few-kept p (r ∷ rs) = omega (arith, kept-few (p r) r (filter p rs) (length rs) (few-kept p rs))
 
 -- No more receipts are lacking than may be held, so their number fits.
-pub few-lacking : (m : Meaning) (bucket : ℕ) (ids : List (List ℕ)) → IsMeaning m → length (receipts_lacking (state_of m) bucket ids) ≤ 65536
+pub few-lacking : (m : Meaning) (bucket : ℕ) (ids : List (List ℕ)) → IsMeaning m → length (receipts_lacking (state_of m) bucket ids) ≤ most_receipts
 few-lacking m bucket ids valid =
     let kept = few-kept (λ r. is_of_bucket bucket r && not (is_named ids r)) m.held in
     let few = valid.few in
+    let most = receipt_limit-most m.config in
     omega arith

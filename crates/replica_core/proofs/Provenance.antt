@@ -44,12 +44,12 @@ taken-sources laws past before after i r order h =
     let rules = rules_in past in
     let w = run rules before in
     let b = is_replica rules i && rules.fits r in
-    kept-where (WasTaken past) (WasRevoked past) 0 ⊤ b w (gains i (only_receipt r)) h
-    (λ e. kept-held laws (WasTaken past) (WasRevoked past) 0 ⊤ (is_within_limits (joined (w.now i) (only_receipt r))) w i (only_receipt r) h
+    kept-where (WasTaken past) (WasRevoked past) 0 ⊤ b rules.limits w (gains i (only_receipt r)) h
+    (λ e. kept-held laws (WasTaken past) (WasRevoked past) 0 ⊤ (is_within_limits rules.limits (joined (w.now i) (only_receipt r))) w i (only_receipt r) h
     (λ s c held. elim (contains-cases r [] s c) [
       | inl same ↦
           let there : Contains ((happens rules w (Take i r)).now i).held s =
-          subst (λ t. Contains ((apply w (where_so t (gains i (only_receipt r)))).now i).held s) (sym e) held in
+          subst (λ t. Contains ((apply rules.limits w (where_so t (gains i (only_receipt r)))).now i).held s) (sym e) held in
           let then : Contains ((run rules (before ++ Take i r ∷ [])).now i).held s =
           subst (λ (v : World). Contains (v.now i).held s) (sym (next past before (Take i r))) there in
           subst (WasTaken past) (sym same) (record {
@@ -71,13 +71,13 @@ revoked-sources laws past before after i x order h =
     let rules = rules_in past in
     let w = run rules before in
     let b = is_replica rules i && rules.knows x.domain in
-    kept-where (WasTaken past) (WasRevoked past) 0 ⊤ b w (gains i (only_record x)) h
-    (λ e. kept-held laws (WasTaken past) (WasRevoked past) 0 ⊤ (is_within_limits (joined (w.now i) (only_record x))) w i (only_record x) h
+    kept-where (WasTaken past) (WasRevoked past) 0 ⊤ b rules.limits w (gains i (only_record x)) h
+    (λ e. kept-held laws (WasTaken past) (WasRevoked past) 0 ⊤ (is_within_limits rules.limits (joined (w.now i) (only_record x))) w i (only_record x) h
     (λ r c held. absurd (contains-none r c))
     (λ s c held. elim (contains-cases x [] s c) [
       | inl same ↦
           let there : Contains ((happens rules w (Revoke i x)).now i).records s =
-          subst (λ t. Contains ((apply w (where_so t (gains i (only_record x)))).now i).records s) (sym e) held in
+          subst (λ t. Contains ((apply rules.limits w (where_so t (gains i (only_record x)))).now i).records s) (sym e) held in
           let then : Contains ((run rules (before ++ Revoke i x ∷ [])).now i).records s =
           subst (λ (v : World). Contains (v.now i).records s) (sym (next past before (Revoke i x))) there in
           subst (WasRevoked past) (sym same) (record {

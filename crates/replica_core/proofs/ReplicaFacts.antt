@@ -11,7 +11,7 @@ use Rattle.receipt_core.specs.declared.distrust.Distrust.{Distrust}
 use Rattle.receipt_core.specs.Receipt.{Receipt, receipt_cmp, distrust_cmp}
 use Rattle.receipt_core.specs.Acceptance.{Meaning, IsMeaning}
 use Rattle.closure_core.specs.Changes.{empty_of}
-use Rattle.replica_core.specs.State.{State, no_state, joined, is_within_limits, receipts_lacking, first_of, meaning_of_state}
+use Rattle.replica_core.specs.State.{State, no_state, joined, limits_of, is_within_limits, receipts_lacking, first_of, meaning_of_state}
 use Rattle.replica_core.specs.Session.{state_of}
 use Rattle.replica_core.specs.World.{Message, have_sent, give_sent, World, rules_of, Effect, gains, sends, saves, restarts, where_so, sends_give, takes_whole}
 use Rattle.replica_core.specs.World.{takes_part, at_replica, gained, apply, happens, is_replica, is_fitting, is_known, AreOf, MeansState}
@@ -23,6 +23,8 @@ use Rattle.replica_core.specs.declared.message.Message.{Message as Sent}
 use Rattle.replica_core.proofs.EventFacts.{at-here, at-other, replica-true}
 use Rattle.replica_core.proofs.SoundFacts.{one-rising, sound-at, can-take, knows-take, sound-give}
 use Rattle.replica_core.proofs.WorldLawFacts.{fits-from, knows-from}
+use Rattle.fed_config.specs.declared.limits.Limits.{Limits}
+use Rattle.receipt_core.proofs.LimitFacts.{receipt_limit-least, record_limit-least}
 
 -- ---- replicas
 
@@ -46,9 +48,9 @@ module _ {A : Type 0} (meaning : A → Meaning) (config : Configuration) (n : �
   pub plays-sends : (old new : MemoryReplicas A) (w : World) (i : ℕ) (stated : Sent) (message : Message) → i < n → Plays meaning config n old w
       → new.held.items ≡ old.held.items → new.saved.items ≡ old.saved.items
       → new.sent.items ≡ old.sent.items ++ stated ∷ [] → message_of stated ≡ message → IsSound config message
-      → Plays meaning config n new (apply w (where_so (is_replica (rules_of config n) i) (sends message)))
+      → Plays meaning config n new (apply (limits_of config) w (where_so (is_replica (rules_of config n) i) (sends message)))
   plays-sends old new w i stated message l h held saved sent says sound =
-      subst (λ b. Plays meaning config n new (apply w (where_so b (sends message)))) (sym (replica-true (rules_of config n) i l)) (record {
+      subst (λ b. Plays meaning config n new (apply (limits_of config) w (where_so b (sends message)))) (sym (replica-true (rules_of config n) i l)) (record {
         held = subst (λ closures. AreOf (MeansState meaning config) n closures w.now) (sym held) h.held;
         saved = subst (λ closures. AreOf (MeansState meaning config) n closures w.saved) (sym saved) h.saved;
         sent = ap (map message_of) sent ∙ map-append message_of old.sent.items (stated ∷ []) ∙ (λ ι. h.sent ι ++ says ι ∷ []);
@@ -56,17 +58,17 @@ module _ {A : Type 0} (meaning : A → Meaning) (config : Configuration) (n : �
       })
 
   -- The closures still represent the world after a replica saved.
-  pub plays-saves : (b : Bool) (old new : MemoryReplicas A) (w : World) (i : ℕ) → Plays meaning config n old w
+  pub plays-saves : (b : Bool) (limits : Limits) (old new : MemoryReplicas A) (w : World) (i : ℕ) → Plays meaning config n old w
       → new.held.items ≡ old.held.items → new.sent.items ≡ old.sent.items
       → AreOf (MeansState meaning config) n new.saved.items (cond b (at_replica i (w.now i) w.saved) w.saved) → Plays meaning config n new
-      (apply w (where_so b (saves i)))
-  plays-saves true old new w i h held sent saved = record {
+      (apply limits w (where_so b (saves i)))
+  plays-saves true limits old new w i h held sent saved = record {
     held = subst (λ closures. AreOf (MeansState meaning config) n closures w.now) (sym held) h.held;
     saved = saved;
     sent = ap (map message_of) sent ∙ h.sent;
     sound = h.sound;
   }
-  plays-saves false old new w i h held sent saved = record {
+  plays-saves false limits old new w i h held sent saved = record {
     held = subst (λ closures. AreOf (MeansState meaning config) n closures w.now) (sym held) h.held;
     saved = saved;
     sent = ap (map message_of) sent ∙ h.sent;
@@ -74,17 +76,17 @@ module _ {A : Type 0} (meaning : A → Meaning) (config : Configuration) (n : �
   }
 
   -- The closures still represent the world after a replica restarted.
-  pub plays-restarts : (b : Bool) (old new : MemoryReplicas A) (w : World) (i : ℕ) → Plays meaning config n old w
+  pub plays-restarts : (b : Bool) (limits : Limits) (old new : MemoryReplicas A) (w : World) (i : ℕ) → Plays meaning config n old w
       → new.saved.items ≡ old.saved.items → new.sent.items ≡ old.sent.items
       → AreOf (MeansState meaning config) n new.held.items (cond b (at_replica i (w.saved i) w.now) w.now) → Plays meaning config n new
-      (apply w (where_so b (restarts i)))
-  plays-restarts true old new w i h saved sent held = record {
+      (apply limits w (where_so b (restarts i)))
+  plays-restarts true limits old new w i h saved sent held = record {
     held = held;
     saved = subst (λ closures. AreOf (MeansState meaning config) n closures w.saved) (sym saved) h.saved;
     sent = ap (map message_of) sent ∙ h.sent;
     sound = h.sound;
   }
-  plays-restarts false old new w i h saved sent held = record {
+  plays-restarts false limits old new w i h saved sent held = record {
     held = held;
     saved = subst (λ closures. AreOf (MeansState meaning config) n closures w.saved) (sym saved) h.saved;
     sent = ap (map message_of) sent ∙ h.sent;
@@ -108,31 +110,31 @@ nothing-kept w i true = (λ ι. record w { now = λ j. stays i w.now j ι })
 nothing-kept w i false = refl
 
 -- To gain nothing if a test passes changes nothing.
-nothing-gained : (w : World) (i : ℕ) (b : Bool) → apply w (where_so b (gains i no_state)) ≡ w
-nothing-gained w i true = nothing-kept w i (is_within_limits (joined (w.now i) no_state))
-nothing-gained w i false = refl
+nothing-gained : (limits : Limits) (w : World) (i : ℕ) (b : Bool) → apply limits w (where_so b (gains i no_state)) ≡ w
+nothing-gained limits w i true = nothing-kept w i (is_within_limits limits (joined (w.now i) no_state))
+nothing-gained limits w i false = refl
 
 -- A gain that is nothing if a test fails is one that depends on the test.
-gains-where : (w : World) (i : ℕ) (b fit : Bool) (gain whole : State) → (fit ≡ true → gain ≡ whole) → (fit ≡ false → gain ≡ no_state)
-    → apply w (where_so b (gains i gain)) ≡ apply w (where_so (b && fit) (gains i whole))
-gains-where w i true true gain whole h k = ap (λ s. apply w (gains i s)) (h refl)
-gains-where w i false true gain whole h k = refl
-gains-where w i true false gain whole h k = ap (λ s. apply w (gains i s)) (k refl) ∙ nothing-gained w i true
-gains-where w i false false gain whole h k = refl
+gains-where : (limits : Limits) (w : World) (i : ℕ) (b fit : Bool) (gain whole : State) → (fit ≡ true → gain ≡ whole) → (fit ≡ false → gain ≡ no_state)
+    → apply limits w (where_so b (gains i gain)) ≡ apply limits w (where_so (b && fit) (gains i whole))
+gains-where limits w i true true gain whole h k = ap (λ s. apply limits w (gains i s)) (h refl)
+gains-where limits w i false true gain whole h k = refl
+gains-where limits w i true false gain whole h k = ap (λ s. apply limits w (gains i s)) (k refl) ∙ nothing-gained limits w i true
+gains-where limits w i false false gain whole h k = refl
 
 -- What a closure with one receipt holds is what the event of taking it gains.
 pub receipt-gains : (config : Configuration) (n : ℕ) (w : World) (i : ℕ) (r : Receipt) (fresh more : Meaning) → fresh ≡ empty_of config
     → (is_fitting fresh.config r ≡ false → more ≡ fresh)
     → ((later : List Receipt) → CanHold fresh.config (fresh.held ++ r ∷ later) → more ≡ record fresh { held = fresh.held ++ r ∷ [] })
-    → (more.config ≡ config) × (apply w (where_so (is_replica (rules_of config n) i) (gains i (state_of more))) ≡ happens (rules_of config n) w (Take i r))
+    → (more.config ≡ config) × (apply (limits_of config) w (where_so (is_replica (rules_of config n) i) (gains i (state_of more))) ≡ happens (rules_of config n) w (Take i r))
 receipt-gains config n w i r fresh more e unfit next =
     let without : is_fitting config r ≡ false → more ≡ empty_of config = subst (λ (m : Meaning). is_fitting m.config r ≡ false → more ≡ m) e unfit in
     let follows : (later : List Receipt) → CanHold config (r ∷ later) → more ≡ record { config = config; held = r ∷ []; records = [] } =
     subst (λ (m : Meaning). (later : List Receipt) → CanHold m.config (m.held ++ r ∷ later) → more ≡ record m { held = m.held ++ r ∷ [] }) e next in
     let with : is_fitting config r ≡ true → more ≡ record { config = config; held = r ∷ []; records = [] } =
-    (λ t. follows [] (record { fitting = (fits-from config r t, tt); rising = one-rising receipt_cmp r; few = omega arith })) in (
+    (λ t. follows [] (record { fitting = (fits-from config r t, tt); rising = one-rising receipt_cmp r; few = receipt_limit-least config })) in (
       elim (cases_Bool (is_fitting config r)) [ inl t ↦ ap (λ (m : Meaning). m.config) (with t) | inr f ↦ ap (λ (m : Meaning). m.config) (without f) ],
-      gains-where w i (is_replica (rules_of config n) i) (is_fitting config r) (state_of more)
+      gains-where (limits_of config) w i (is_replica (rules_of config n) i) (is_fitting config r) (state_of more)
           (record { held = r ∷ []; records = [] }) (λ t. ap state_of (with t)) (λ f. ap state_of (without f)),
     )
 
@@ -140,16 +142,16 @@ receipt-gains config n w i r fresh more e unfit next =
 pub record-gains : (config : Configuration) (n : ℕ) (w : World) (i : ℕ) (x : Distrust) (fresh more : Meaning) → fresh ≡ empty_of config
     → (is_known fresh.config x.domain ≡ false → more ≡ fresh)
     → ((later : List Distrust) → CanHoldRecords fresh.config (fresh.records ++ x ∷ later) → more ≡ record fresh { records = fresh.records ++ x ∷ [] })
-    → (more.config ≡ config) × (apply w (where_so (is_replica (rules_of config n) i) (gains i (state_of more))) ≡ happens (rules_of config n) w (Revoke i x))
+    → (more.config ≡ config) × (apply (limits_of config) w (where_so (is_replica (rules_of config n) i) (gains i (state_of more))) ≡ happens (rules_of config n) w (Revoke i x))
 record-gains config n w i x fresh more e unfit next =
     let without : is_known config x.domain ≡ false → more ≡ empty_of config = subst (λ (m : Meaning). is_known m.config x.domain ≡ false → more ≡ m) e unfit in
     let follows : (later : List Distrust) → CanHoldRecords config (x ∷ later) → more ≡ record { config = config; held = []; records = x ∷ [] } =
     subst (λ (m : Meaning). (later : List Distrust) → CanHoldRecords m.config (m.records ++ x ∷ later)
     → more ≡ record m { records = m.records ++ x ∷ [] }) e next in
     let with : is_known config x.domain ≡ true → more ≡ record { config = config; held = []; records = x ∷ [] } =
-    (λ t. follows [] (record { domains = (knows-from config x.domain t, tt); rising = one-rising distrust_cmp x; few = omega arith })) in (
+    (λ t. follows [] (record { domains = (knows-from config x.domain t, tt); rising = one-rising distrust_cmp x; few = record_limit-least config })) in (
       elim (cases_Bool (is_known config x.domain)) [ inl t ↦ ap (λ (m : Meaning). m.config) (with t) | inr f ↦ ap (λ (m : Meaning). m.config) (without f) ],
-      gains-where w i (is_replica (rules_of config n) i) (is_known config x.domain) (state_of more)
+      gains-where (limits_of config) w i (is_replica (rules_of config n) i) (is_known config x.domain) (state_of more)
           (record { held = []; records = x ∷ [] }) (λ t. ap state_of (with t)) (λ f. ap state_of (without f)),
     )
 
@@ -159,10 +161,10 @@ pub gain-follows : {E : Type 0} {V : Type 0} {A : Type 0} (meaning : A
     (result : Result V E)
     → ((n : ℕ) (w : World) (c : Configuration) → more.config ≡ c → Plays meaning c n old w
     → OnOk result
-    (Plays meaning c n new (apply w (where_so (is_replica (rules_of c n) i) (gains i (state_of more))))))
+    (Plays meaning c n new (apply (limits_of c) w (where_so (is_replica (rules_of c n) i) (gains i (state_of more))))))
     → ((n : ℕ) (w : World) → Plays meaning config n old w
     → (more.config ≡ config)
-    × (apply w (where_so (is_replica (rules_of config n) i) (gains i (state_of more)))
+    × (apply (limits_of config) w (where_so (is_replica (rules_of config n) i) (gains i (state_of more)))
     ≡ happens (rules_of config n) w event))
     → OnOk result (MeansEvent meaning config old new event)
 gain-follows meaning config old new event i more result h same =
@@ -205,12 +207,12 @@ and-right false b e = refl
 -- What another replica holds is what the event of joining it gains.
 pub join-gains : (config : Configuration) (n : ℕ) (w : World) (i j : ℕ) (found more : Meaning) → j < n
     → found ≡ meaning_of_state config (w.now j) → more ≡ found
-    → (more.config ≡ config) × (apply w (where_so (is_replica (rules_of config n) i) (gains i (state_of more))) ≡ happens (rules_of config n) w (Join i j))
+    → (more.config ≡ config) × (apply (limits_of config) w (where_so (is_replica (rules_of config n) i) (gains i (state_of more))) ≡ happens (rules_of config n) w (Join i j))
 join-gains config n w i j found more l f m =
     let e = m ∙ f in (
       ap (λ (m : Meaning). m.config) e,
-      ap (λ (m : Meaning). apply w (where_so (is_replica (rules_of config n) i) (gains i (state_of m)))) e
-          ∙ ap (λ b. apply w (where_so b (gains i (w.now j))))
+      ap (λ (m : Meaning). apply (limits_of config) w (where_so (is_replica (rules_of config n) i) (gains i (state_of m)))) e
+          ∙ ap (λ b. apply (limits_of config) w (where_so b (gains i (w.now j))))
           (sym (and-right (is_replica (rules_of config n) i) (is_replica (rules_of config n) j)
           (replica-true (rules_of config n) j l))),
     )
@@ -220,15 +222,15 @@ pub absorb-gains : (config : Configuration) (n : ℕ) (w : World) (i k : ℕ) (c
     (xs : List Distrust) (more : Meaning) → AllByRecursion (IsSound config) w.sent
     → give_in_message (slice_get w.sent k) ≡ Some content → rs ≡ content.held → xs ≡ content.records
     → (CanHold config rs → CanHoldRecords config xs → more ≡ record { config = config; held = rs; records = xs })
-    → (more.config ≡ config) × (apply w (where_so (is_replica (rules_of config n) i) (gains i (state_of more))) ≡ happens (rules_of config n) w (Absorb i k))
+    → (more.config ≡ config) × (apply (limits_of config) w (where_so (is_replica (rules_of config n) i) (gains i (state_of more))) ≡ happens (rules_of config n) w (Absorb i k))
 absorb-gains config n w i k content rs xs more sound a re xe built =
     let can = sound-at config w.sent k content sound a in
     let e : more ≡ meaning_of_state config content =
     built (subst (CanHold config) (sym re) can.0) (subst (CanHoldRecords config) (sym xe) can.1)
     ∙ (λ ι. record { config = config; held = re ι; records = xe ι }) in (
       ap (λ (m : Meaning). m.config) e,
-      ap (λ (m : Meaning). apply w (where_so (is_replica (rules_of config n) i) (gains i (state_of m)))) e
-          ∙ ap (λ (effect : Effect). apply w (where_so (is_replica (rules_of config n) i) effect)) (sym (some-taken i (slice_get w.sent k) content a)),
+      ap (λ (m : Meaning). apply (limits_of config) w (where_so (is_replica (rules_of config n) i) (gains i (state_of m)))) e
+          ∙ ap (λ (effect : Effect). apply (limits_of config) w (where_so (is_replica (rules_of config n) i) effect)) (sym (some-taken i (slice_get w.sent k) content a)),
     )
 
 -- What is gathered of the first entries of an answer is what the event of taking these gains.
@@ -237,7 +239,7 @@ pub part-gains : (config : Configuration) (n : ℕ) (w : World) (i k count : ℕ
     → give_in_message (slice_get w.sent k) ≡ Some content → rs ≡ take (count - length content.records) content.held → xs ≡ take count content.records
     → (CanHold config rs → CanHoldRecords config xs → more ≡ record { config = config; held = rs; records = xs })
     → (more.config ≡ config)
-    × (apply w (where_so (is_replica (rules_of config n) i) (gains i (state_of more)))
+    × (apply (limits_of config) w (where_so (is_replica (rules_of config n) i) (gains i (state_of more)))
     ≡ happens (rules_of config n) w (Part i k count))
 part-gains config n w i k count content rs xs more sound a re xe built =
     let can = sound-at config w.sent k content sound a in
@@ -246,8 +248,8 @@ part-gains config n w i k count content rs xs more sound a re xe built =
     (subst (CanHoldRecords config) (sym xe) (knows-take config count content.records can.1))
     ∙ (λ ι. record { config = config; held = re ι; records = xe ι }) in (
       ap (λ (m : Meaning). m.config) e,
-      ap (λ (m : Meaning). apply w (where_so (is_replica (rules_of config n) i) (gains i (state_of m)))) e
-          ∙ ap (λ (effect : Effect). apply w (where_so (is_replica (rules_of config n) i) effect)) (sym (some-parted i count (slice_get w.sent k) content a)),
+      ap (λ (m : Meaning). apply (limits_of config) w (where_so (is_replica (rules_of config n) i) (gains i (state_of m)))) e
+          ∙ ap (λ (effect : Effect). apply (limits_of config) w (where_so (is_replica (rules_of config n) i) effect)) (sym (some-parted i count (slice_get w.sent k) content a)),
     )
 
 -- the answer of a replica to a have about the bucket that names the ids
@@ -265,7 +267,7 @@ pub answer-follows : {A : Type 0} (meaning : A → Meaning) (config : Configurat
 answer-follows meaning config n old new w i k m bucket ids stated l p e valid a says held saved sent =
     let same : state_of m ≡ w.now i = ap state_of e in
     subst (λ (effect : Effect). Plays meaning config n new
-    (apply w (where_so (is_replica (rules_of config n) i) effect)))
+    (apply (limits_of config) w (where_so (is_replica (rules_of config n) i) effect)))
     (sym (replied (w.now i) i k bucket ids (slice_get w.sent k) a))
     (plays-sends meaning config n old new w i stated (give_to_have i k bucket ids (w.now i)) l p held saved sent (says ∙ ap (give_to_have i k bucket ids) same)
     (subst (λ (s : State). IsSound config (give_to_have i k bucket ids s)) same (sound-give config m bucket ids (ap (λ (m : Meaning). m.config) e) valid)))

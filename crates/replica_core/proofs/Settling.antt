@@ -14,7 +14,7 @@ use Rattle.receipt_core.specs.declared.distrust.Distrust.{Distrust}
 use Rattle.receipt_core.specs.Receipt.{Receipt, IsReceipt, receipt_cmp}
 use Rattle.receipt_core.specs.Order.{receipt_total}
 use Rattle.receipt_core.specs.Acceptance.{IsFitting}
-use Rattle.replica_core.specs.State.{State, joined, is_within_limits, ids_held, receipts_lacking}
+use Rattle.replica_core.specs.State.{State, joined, limits_of, is_within_limits, ids_held, receipts_lacking}
 use Rattle.replica_core.specs.World.{Message, have_sent, give_sent, World, empty_world, Rules, Effect, sends, gains, where_so, sends_give, takes_whole}
 use Rattle.replica_core.specs.World.{apply, happens, run_from, is_replica}
 use Rattle.replica_core.specs.World.{WorldRun, rules_in, world_after, held_by, followed_by}
@@ -33,6 +33,9 @@ use Rattle.replica_core.proofs.AgreementFacts.{quiet-admits_all}
 use Rattle.replica_core.proofs.Provenance.{empty-kept}
 use Rattle.replica_core.proofs.EffectFacts.{takes-held}
 use Rattle.replica_core.proofs.WorldLawFacts.{agreed}
+use Rattle.fed_config.specs.declared.limits.Limits.{Limits}
+use Rattle.receipt_core.specs.Limits.{receipt_limit, record_limit}
+use Rattle.receipt_core.proofs.LimitFacts.{receipt_limit-least}
 
 -- ---- the events
 
@@ -78,25 +81,26 @@ round-among (suc k) b l =
 -- ---- how many messages are sent
 
 -- An effect that sends nothing sends nothing if it does not happen either.
-where-sent : (b : Bool) (w : World) (effect : Effect) → (apply w effect).sent ≡ w.sent → (apply w (where_so b effect)).sent ≡ w.sent
-where-sent true w effect e = e
-where-sent false w effect e = refl
+where-sent : (b : Bool) (limits : Limits) (w : World) (effect : Effect) → (apply limits w effect).sent ≡ w.sent
+    → (apply limits w (where_so b effect)).sent ≡ w.sent
+where-sent true limits w effect e = e
+where-sent false limits w effect e = refl
 
 -- A gain sends nothing.
-gains-sent : (w : World) (i : ℕ) (gain : State) → (apply w (gains i gain)).sent ≡ w.sent
-gains-sent w i gain = sent-gained (is_within_limits (joined (w.now i) gain)) w i (joined (w.now i) gain)
+gains-sent : (limits : Limits) (w : World) (i : ℕ) (gain : State) → (apply limits w (gains i gain)).sent ≡ w.sent
+gains-sent limits w i gain = sent-gained (is_within_limits limits (joined (w.now i) gain)) w i (joined (w.now i) gain)
 
 -- Nor does the taking of an answer.
-whole-sent : (w : World) (i : ℕ) (found : Option Message) → (apply w (takes_whole i found)).sent ≡ w.sent
-whole-sent w i None = refl
-whole-sent w i (Some (have_sent asker bucket ids)) = refl
-whole-sent w i (Some (give_sent answerer place content)) = gains-sent w i content
+whole-sent : (limits : Limits) (w : World) (i : ℕ) (found : Option Message) → (apply limits w (takes_whole i found)).sent ≡ w.sent
+whole-sent limits w i None = refl
+whole-sent limits w i (Some (have_sent asker bucket ids)) = refl
+whole-sent limits w i (Some (give_sent answerer place content)) = gains-sent limits w i content
 
 -- A have is one message more.
 ask-sends : (rules : Rules) (w : World) (i b : ℕ) → i < rules.replicas → b ≤ 255 → length (happens rules w (Ask i b)).sent ≡ length w.sent + 1
 ask-sends rules w i b l m =
     let q = have_sent i b (ids_held (w.now i) b) in
-    ap (λ t. length (apply w (where_so t (sends q))).sent)
+    ap (λ t. length (apply rules.limits w (where_so t (sends q))).sent)
     (and_from (is_replica rules i) (nat_le b 255) (replica-true rules i l) (le-leb b 255 m))
     ∙ length-append w.sent (q ∷ [])
 
@@ -104,8 +108,8 @@ ask-sends rules w i b l m =
 answer-sends : (rules : Rules) (w : World) (i j b k : ℕ) (ids : List (List ℕ)) → j < rules.replicas → slice_get w.sent k ≡ Some (have_sent i b ids)
     → length (happens rules w (Answer j k)).sent ≡ length w.sent + 1
 answer-sends rules w i j b k ids l e =
-    ap (λ t. length (apply w (where_so t (sends_give (w.now j) j k (slice_get w.sent k)))).sent) (replica-true rules j l)
-    ∙ ap (λ f. length (apply w (sends_give (w.now j) j k f)).sent) e
+    ap (λ t. length (apply rules.limits w (where_so t (sends_give (w.now j) j k (slice_get w.sent k)))).sent) (replica-true rules j l)
+    ∙ ap (λ f. length (apply rules.limits w (sends_give (w.now j) j k f)).sent) e
     ∙ length-append w.sent (give_sent j k (record { held = receipts_lacking (w.now j) b ids; records = (w.now j).records }) ∷ [])
 
 -- A have, its answer and the taking of it are two messages more.
@@ -119,7 +123,7 @@ turn-sends rules w i j b place l m n size =
     subst (λ k. slice_get v.sent k ≡ Some (have_sent i b (ids_held (w.now i) b))) size (asked-here rules w i b l n) in
     let answered : length u.sent ≡ length v.sent + 1 = answer-sends rules v i j b place (ids_held (w.now i) b) m there in
     let taken : length (happens rules u (Absorb i (place + 1))).sent ≡ length u.sent =
-    ap length (where-sent (is_replica rules i) u (takes_whole i (slice_get u.sent (place + 1))) (whole-sent u i (slice_get u.sent (place + 1)))) in
+    ap length (where-sent (is_replica rules i) rules.limits u (takes_whole i (slice_get u.sent (place + 1))) (whole-sent rules.limits u i (slice_get u.sent (place + 1)))) in
     omega (arith, asked, answered, taken, size)
 
 -- A round is four.
@@ -158,38 +162,42 @@ none-in [] none = refl
 none-in (x ∷ xs) none = absurd (none x (contains-here x xs))
 
 -- all that is held, saved and sent is this one receipt, in sorted lists
-record IsOnly (a : Receipt) (w : World) : Type 0 where
+record IsOnly (limits : Limits) (a : Receipt) (w : World) : Type 0 where
   kept : IsKept (λ r. r ≡ a) (λ x. ⊥) 0 ⊤ w
-  tidy : Throughout (λ i state. IsTidy state) w
+  tidy : Throughout (λ i state. IsTidy limits state) w
+  one : 1 ≤ limits.receipts
 
 -- A quiet event brings no other receipt.
-only-event : (rules : Rules) (a : Receipt) (w : World) (event : Event) → IsQuiet 0 event → IsOnly a w → IsOnly a (happens rules w event)
+only-event : (rules : Rules) (a : Receipt) (w : World) (event : Event) → IsQuiet 0 event → IsOnly rules.limits a w → IsOnly rules.limits a (happens rules w event)
 only-event rules a w event q h = record {
   kept = kept-event joins (λ r. r ≡ a) (λ x. ⊥) 0 ⊤ rules w event h.kept (quiet-admits_all rules (λ r. r ≡ a) (λ x. ⊥) 0 event q);
-  tidy = throughout-event rules (λ i state. IsTidy state) (tidy-kept joins rules) w event h.tidy;
+  tidy = throughout-event rules (λ i state. IsTidy rules.limits state) (tidy-kept joins rules) w event h.tidy;
+  one = h.one;
 }
 
 -- Nor do quiet events one after another.
-only-run : (rules : Rules) (a : Receipt) (events : List Event) (w : World) → AllByRecursion (IsQuiet 0) events → IsOnly a w → IsOnly a (run_from rules w events)
+only-run : (rules : Rules) (a : Receipt) (events : List Event) (w : World) → AllByRecursion (IsQuiet 0) events → IsOnly rules.limits a w
+    → IsOnly rules.limits a (run_from rules w events)
 only-run rules a [] w q h = h
 only-run rules a (event ∷ events) w q h = only-run rules a events (happens rules w event) q.1 (only-event rules a w event q.0 h)
 
 -- so no gain is too much
-only-within : (a : Receipt) (w : World) (i : ℕ) (content : State) → IsOnly a w → Keeps (λ r. r ≡ a) (λ x. ⊥) content
-    → is_within_limits (joined (w.now i) content) ≡ true
-only-within a w i content h c =
+only-within : (limits : Limits) (a : Receipt) (w : World) (i : ℕ) (content : State) → IsOnly limits a w → Keeps (λ r. r ≡ a) (λ x. ⊥) content
+    → is_within_limits limits (joined (w.now i) content) ≡ true
+only-within limits a w i content h c =
     let all = keeps-joined joins (λ r. r ≡ a) (λ x. ⊥) (w.now i) content (h.kept.now i) c in
     let state = joined (w.now i) content in
     let one = one-rising a state.held (joins.receipts.rising content.held (w.now i).held (h.tidy.now i).rising) all.receipts in
     let none = none-in state.records all.records in
-    and_from (nat_le (length state.held) 65536) (nat_le (length state.records) 4096)
-    (le-leb (length state.held) 65536 (omega (arith, one))) (le-leb (length state.records) 4096 (omega (arith, none)))
+    let most = h.one in
+    and_from (nat_le (length state.held) limits.receipts) (nat_le (length state.records) limits.records)
+    (le-leb (length state.held) limits.receipts (omega (arith, one, most))) (le-leb (length state.records) limits.records (omega (arith, none)))
 
 -- ---- the exchanges
 
 -- a turn is an exchange, whatever came before it and comes after it
 turn-exchanges : (rules : Rules) (a : Receipt) (w : World) (q : Inquiry) (events before after : List Event) (place : ℕ)
-    → IsInquiry rules.replicas q → IsOnly a w → AllByRecursion (IsQuiet 0) events
+    → IsInquiry rules.replicas q → IsOnly rules.limits a w → AllByRecursion (IsQuiet 0) events
     → events ≡ before ++ (turn q.asker q.answerer q.bucket place ++ after)
     → length (run_from rules w before).sent ≡ place → Exchange rules w q events
 turn-exchanges rules a w q events before after place is h quiet order size =
@@ -210,14 +218,14 @@ turn-exchanges rules a w q events before after place is h quiet order size =
       };
       asked_at = sym size;
       answered_at = ap (λ k. k + 1) (sym size) ∙ sym (ask-sends rules v q.asker q.bucket is.asker is.bucket);
-      whole = λ content e. only-within a u q.asker content taking (taking.kept.sent (place + 1) (give_sent q.answerer place content) (omega arith) e);
+      whole = λ content e. only-within rules.limits a u q.asker content taking (taking.kept.sent (place + 1) (give_sent q.answerer place content) (omega arith) e);
       no_restart = λ c. contains-none (Restart q.asker) c;
       none_later = λ c. contains-none (Restart q.asker) c;
     }
 
 -- the first turn of a round
 first-exchanges : (rules : Rules) (a : Receipt) (w : World) (q : Inquiry) (k : ℕ) → 2 ≤ rules.replicas → k ≡ 256 → IsInquiry rules.replicas q
-    → q.asker ≡ 0 → q.answerer ≡ 1 → IsOnly a w → length w.sent ≡ 0 → Exchange rules w q (rounds k)
+    → q.asker ≡ 0 → q.answerer ≡ 1 → IsOnly rules.limits a w → length w.sent ≡ 0 → Exchange rules w q (rounds k)
 first-exchanges rules a w q k two all is zero-asks one-answers h none =
     let b = q.bucket in
     let small = is.bucket in
@@ -229,7 +237,7 @@ first-exchanges rules a w q k two all is zero-asks one-answers h none =
 
 -- and the second one
 second-exchanges : (rules : Rules) (a : Receipt) (w : World) (q : Inquiry) (k : ℕ) → 2 ≤ rules.replicas → k ≡ 256 → IsInquiry rules.replicas q
-    → q.asker ≡ 1 → q.answerer ≡ 0 → IsOnly a w → length w.sent ≡ 0 → Exchange rules w q (rounds k)
+    → q.asker ≡ 1 → q.answerer ≡ 0 → IsOnly rules.limits a w → length w.sent ≡ 0 → Exchange rules w q (rounds k)
 second-exchanges rules a w q k two all is one-asks zero-answers h none =
     let b = q.bucket in
     let small = is.bucket in
@@ -249,18 +257,20 @@ abbrev one_given : Configuration → Receipt → WorldRun
 one_given config a = record { config = config; replicas = 2; events = Take 0 a ∷ [] }
 
 -- After the first event only the given receipt is anywhere.
-only-given : (config : Configuration) (a : Receipt) → IsOnly a (world_after (one_given config a))
+only-given : (config : Configuration) (a : Receipt) → IsOnly (limits_of config) a (world_after (one_given config a))
 only-given config a = record {
   kept = kept-event joins (λ r. r ≡ a) (λ x. ⊥) 0 ⊤ (rules_in (one_given config a)) empty_world (Take 0 a) (empty-kept (λ r. r ≡ a) (λ x. ⊥) 0 ⊤) (λ i f. refl);
-  tidy = throughout-event (rules_in (one_given config a)) (λ i state. IsTidy state) (tidy-kept joins (rules_in (one_given config a))) empty_world
-      (Take 0 a) tidy-empty;
+  tidy = throughout-event (rules_in (one_given config a)) (λ i state. IsTidy (limits_of config) state) (tidy-kept joins (rules_in (one_given config a)))
+      empty_world (Take 0 a) (tidy-empty (limits_of config));
+  one = receipt_limit-least config;
 }
 
 -- No message was sent then.
 none-sent : (config : Configuration) (a : Receipt) → length (world_after (one_given config a)).sent ≡ 0
 none-sent config a =
     let rules = rules_in (one_given config a) in
-    ap length (where-sent (is_replica rules 0 && rules.fits a) empty_world (gains 0 (only_receipt a)) (gains-sent empty_world 0 (only_receipt a)))
+    ap length (where-sent (is_replica rules 0 && rules.fits a) rules.limits empty_world (gains 0 (only_receipt a))
+    (gains-sent rules.limits empty_world 0 (only_receipt a)))
 
 -- All rounds are what it takes to settle.
 settles : (config : Configuration) (a : Receipt) (k : ℕ) → k ≡ 256 → Settles (rules_in (one_given config a)) (world_after (one_given config a)) (rounds k)
@@ -290,7 +300,10 @@ settled config a form fits k all =
     let past = one_given config a in
     let rules = rules_in past in
     let since = rounds k in
-    let taken : held_by past 0 ≡ only_receipt a = takes-held (record past { events = [] }) 0 a (omega arith) fits refl in
+    let one : is_within_limits (limits_of config) (only_receipt a) ≡ true =
+    and_from (nat_le 1 (receipt_limit config)) (nat_le 0 (record_limit config))
+    (le-leb 1 (receipt_limit config) (receipt_limit-least config)) (le-leb 0 (record_limit config) (omega arith)) in
+    let taken : held_by past 0 ≡ only_receipt a = takes-held (record past { events = [] }) 0 a (omega arith) fits one in
     let here : Contains (held_by past 0).held a = subst (λ (s : State). Contains s.held a) (sym taken) (contains-here a []) in
     let stays = (part-run joins rules 0 since (world_after past) (λ c. each-from (IsQuiet 0) since (quiet-rounds k) (Restart 0) c)).receipts a here in
     let kept : Contains (held_by (followed_by past since) 0).held a =

@@ -17,6 +17,7 @@ use Rattle.replica_core.specs.World.{Message, have_sent, give_sent}
 use Rattle.replica_core.specs.Inside.ReplicasInMemory.{give_in_message, CanHold, CanHoldRecords, IsSound}
 use Rattle.replica_core.proofs.ContainsFacts.{each-from, each-to, filter-from}
 use Rattle.replica_core.proofs.RisingListFacts.{rising_head, rising_tail}
+use Rattle.receipt_core.specs.Limits.{receipt_limit, record_limit}
 
 -- ---- lists that rise
 
@@ -80,7 +81,7 @@ can-take config k rs h = record {
   fitting = all-take (IsFitting config) k rs h.fitting;
   rising =
       rising-take receipt_cmp k rs h.rising;
-  few = few-take k rs 65536 h.few;
+  few = few-take k rs (receipt_limit config) h.few;
 }
 
 -- The front of records that can be held can be held.
@@ -89,7 +90,7 @@ knows-take config k xs h = record {
   domains = all-take (λ x. HasDomain config x.domain) k xs h.domains;
   rising =
       rising-take distrust_cmp k xs h.rising;
-  few = few-take k xs 4096 h.few;
+  few = few-take k xs (record_limit config) h.few;
 }
 
 -- What holds of all items holds of those that are kept.
@@ -114,11 +115,13 @@ sound-give config m bucket ids e h = (
     fitting = all-filter (IsFitting config) (λ r. is_of_bucket bucket r && not (is_named ids r)) m.held
         (subst (λ (c : Configuration). AllByRecursion (IsFitting c) m.held) e h.fitting);
     rising = IsStrictlySortedBy-filter receipt_cmp (λ r. is_of_bucket bucket r && not (is_named ids r)) m.held h.rising;
-    few = let fewer = fewer-filtered (λ r. is_of_bucket bucket r && not (is_named ids r)) m.held in let few = h.few in omega (arith, fewer, few);
+    few = let fewer = fewer-filtered (λ r. is_of_bucket bucket r && not (is_named ids r)) m.held in
+        let few : length m.held ≤ receipt_limit config = subst (λ c. length m.held ≤ receipt_limit c) e h.few in
+        omega (arith, fewer, few);
   },
   record {
     domains = subst (λ (c : Configuration). AllByRecursion (λ x. HasDomain c x.domain) m.records) e h.domains;
     rising = h.records_rising;
-    few = h.few_records;
+    few = subst (λ c. length m.records ≤ record_limit c) e h.few_records;
   },
 )

@@ -1,20 +1,21 @@
 -- Every state is a pair of sorted lists within the limits, and a number without a replica holds
 -- nothing.
-use Rattle.std.proofs.Common.{◌≡◌, ℕ, ◌+◌, ◌≤◌, inl, inr, Bool, true, false, List, [], ◌∷◌, arith, refl, sym, subst, leb-true}
+use Rattle.std.proofs.Common.{◌≡◌, ℕ, ◌+◌, ◌≤◌, inl, inr, Bool, true, false, List, [], ◌∷◌, arith, refl, sym, subst, leb-true, le-leb, nat_le}
 use Rattle.std.specs.List.Sorted.{IsStrictlySortedBy}
-use Rattle.std.proofs.lemmas.Bool.{cases_eq}
+use Rattle.std.proofs.lemmas.Bool.{and_from, cases_eq}
 use Rattle.receipt_core.specs.Receipt.{receipt_cmp, distrust_cmp}
 use Rattle.replica_core.specs.State.{State, no_state, joined, is_within_limits}
 use Rattle.replica_core.specs.World.{World, empty_world, Rules, apply, at_replica, gained, happens, run_from, is_replica}
 use Rattle.replica_core.specs.declared.event.Event.{Event}
 use Rattle.replica_core.proofs.JoinLawFacts.{Laws}
 use Rattle.replica_core.proofs.EventFacts.{covered, at-here, at-other}
+use Rattle.fed_config.specs.declared.limits.Limits.{Limits}
 
 -- two sorted lists within the limits
-pub record IsTidy (state : State) : Type 0 where
+pub record IsTidy (limits : Limits) (state : State) : Type 0 where
   pub rising : IsStrictlySortedBy receipt_cmp state.held
   pub records_rising : IsStrictlySortedBy distrust_cmp state.records
-  pub within : is_within_limits state ≡ true
+  pub within : is_within_limits limits state ≡ true
 
 -- a property of every state that is held or saved
 pub record Throughout (P : ℕ → State → Type 0) (w : World) : Type 0 where
@@ -38,15 +39,15 @@ throughout-gained P false w k state h s = h
 -- Saves and restarts keep every property that is the same for all replicas or concerns none: a gain
 -- has to show it.
 pub record IsKeptByGains (rules : Rules) (P : ℕ → State → Type 0) : Type 0 where
-  pub gain : (k : ℕ) (state more : State) → is_replica rules k ≡ true → P k state → is_within_limits (joined state more) ≡ true → P k (joined state more)
+  pub gain : (k : ℕ) (state more : State) → is_replica rules k ≡ true → P k state → is_within_limits rules.limits (joined state more) ≡ true → P k (joined state more)
 
 -- It remains so over each event if gains keep the property.
 pub throughout-event : (rules : Rules) (P : ℕ → State → Type 0) → IsKeptByGains rules P → (w : World) (event : Event)
     → Throughout P w → Throughout P (happens rules w event)
 throughout-event rules P kept w event h =
-    covered rules w event (λ effect. Throughout P (apply w effect)) (record {
+    covered rules w event (λ effect. Throughout P (apply rules.limits w effect)) (record {
       idle = h;
-      more = λ k gain e. throughout-gained P (is_within_limits (joined (w.now k) gain)) w k (joined (w.now k) gain) h
+      more = λ k gain e. throughout-gained P (is_within_limits rules.limits (joined (w.now k) gain)) w k (joined (w.now k) gain) h
           (λ b. kept.gain k (w.now k) gain e (h.now k) b);
       stated = λ message. record { now = h.now; saved = h.saved };
       kept = λ k e s. record { now = h.now; saved = λ i. throughout-at P i k (w.now k) w.saved (h.now k) (h.saved i) };
@@ -62,7 +63,7 @@ throughout-run rules P kept (event ∷ events) w h = throughout-run rules P kept
 -- ---- sorted lists within the limits
 
 -- A gain within the limits joins sorted lists into sorted lists.
-pub tidy-kept : (laws : Laws) (rules : Rules) → IsKeptByGains rules (λ i state. IsTidy state)
+pub tidy-kept : (laws : Laws) (rules : Rules) → IsKeptByGains rules (λ i state. IsTidy rules.limits state)
 tidy-kept laws rules = record {
   gain = λ k state more e t b. record {
     rising = laws.receipts.rising more.held state.held t.rising;
@@ -71,12 +72,16 @@ tidy-kept laws rules = record {
   };
 }
 
+-- Nothing is within all limits.
+none-within : (limits : Limits) → is_within_limits limits no_state ≡ true
+none-within limits = and_from (nat_le 0 limits.receipts) (nat_le 0 limits.records) (le-leb 0 limits.receipts (omega arith)) (le-leb 0 limits.records (omega arith))
+
 -- At the beginning all lists are empty, so they rise.
-pub tidy-empty : Throughout (λ i state. IsTidy state) empty_world
+pub tidy-empty : (limits : Limits) → Throughout (λ i state. IsTidy limits state) empty_world
 unfolding IsStrictlySortedBy
-tidy-empty = record {
-  now = λ i. record { rising = tt; records_rising = tt; within = refl };
-  saved = λ i. record { rising = tt; records_rising = tt; within = refl };
+tidy-empty limits = record {
+  now = λ i. record { rising = tt; records_rising = tt; within = none-within limits };
+  saved = λ i. record { rising = tt; records_rising = tt; within = none-within limits };
 }
 
 -- ---- numbers without a replica

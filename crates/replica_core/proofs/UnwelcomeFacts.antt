@@ -22,6 +22,7 @@ use Rattle.replica_core.specs.declared.entry.Entry.{Entry}
 use Rattle.replica_core.specs.declared.entry.Entry.TheVariants.{Record, Receipt as AReceipt}
 use Rattle.replica_core.proofs.ContainsFacts.{contains-here, contains-later}
 use Rattle.closure_core.proofs.FitFacts.{fits_right, fits_above}
+use Rattle.receipt_core.specs.Limits.{receipt_limit, record_limit}
 
 -- ---- lists
 
@@ -85,7 +86,7 @@ unknown c domain (Some n) at e = absurd (cc)
 
 -- A record of a known domain is welcome if it is held or there is a place.
 pub record-welcome : (m : Meaning) (x : Distrust) → HasDomain m.config x.domain
-    → Contains m.records x ⊎ (length m.records < 4096) → (why : TakeError) → why ≢ NoTakeMemory
+    → Contains m.records x ⊎ (length m.records < record_limit m.config) → (why : TakeError) → why ≢ NoTakeMemory
     → RefusesEntry m (Record x) why → ⊥
 record-welcome m x domain place UnknownDomain ample h = h domain
 record-welcome m x domain place WrongEndpoint ample h = h
@@ -96,7 +97,7 @@ record-welcome m x domain place OtherConfig ample h = h
 
 -- A receipt that fits is welcome if it is held or there is a place.
 receipt-welcome : (m : Meaning) (r : Receipt) → IsConfiguration m.config → IsFitting m.config r
-    → Contains m.held r ⊎ (length m.held < 65536) → (why : TakeError) → why ≢ NoTakeMemory
+    → Contains m.held r ⊎ (length m.held < receipt_limit m.config) → (why : TakeError) → why ≢ NoTakeMemory
     → RefusesEntry m (AReceipt r) why → ⊥
 receipt-welcome m r form fits place UnknownDomain ample h = h fits.relationship fits.has fits.domain
 receipt-welcome m r form fits place WrongEndpoint ample h = fits_right m.config r form fits h
@@ -111,7 +112,7 @@ receipt-welcome m r form fits place OtherConfig ample h = h
 pub record-judged : (m : Meaning) (all : List Distrust) (i : ℕ) (x : Distrust) → i < length all → get_or all i x ≡ x
     → AreWelcome m (of_records (take i all)) → HasDomain m.config x.domain
     → Contains (with_items distrust_cmp (take i all) m.records) x
-    ⊎ (length (with_items distrust_cmp (take i all) m.records) < 4096)
+    ⊎ (length (with_items distrust_cmp (take i all) m.records) < record_limit m.config)
     → AreWelcome m (of_records (take (i + 1) all))
 record-judged m all i x l e welcome domain place =
     let set = with_items distrust_cmp (take i all) m.records in
@@ -125,7 +126,7 @@ record-judged m all i x l e welcome domain place =
 pub receipt-judged : (m : Meaning) (all : List Receipt) (i : ℕ) (r : Receipt) → i < length all → get_or all i r ≡ r
     → AreWelcome m (of_receipts (take i all)) → IsConfiguration m.config → IsFitting m.config r
     → Contains (with_items receipt_cmp (take i all) m.held) r
-    ⊎ (length (with_items receipt_cmp (take i all) m.held) < 65536) → AreWelcome m (of_receipts (take (i + 1) all))
+    ⊎ (length (with_items receipt_cmp (take i all) m.held) < receipt_limit m.config) → AreWelcome m (of_receipts (take (i + 1) all))
 receipt-judged m all i r l e welcome form fits place =
     let set = with_items receipt_cmp (take i all) m.held in
     let pushed : of_receipts (take (i + 1) all) ≡ of_receipts (take i all) ++ AReceipt r ∷ [] =

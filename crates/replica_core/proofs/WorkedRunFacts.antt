@@ -9,10 +9,11 @@ use Rattle.replica_core.specs.State.{State, no_state, bucket_of_id, id_cmp}
 use Rattle.replica_core.specs.World.{World, empty_world, Rules, have_sent, give_sent, at_replica, happens, run_from, run}
 use Rattle.replica_core.specs.declared.event.Event.{Event}
 use Rattle.replica_core.specs.declared.event.Event.TheVariants.{Take, Revoke, Ask, Answer, Absorb, Join, Restart}
+use Rattle.fed_config.specs.Limits.{usual_limits}
 
 -- three replicas to which all receipts fit and all domains are known
 abbrev three : Rules
-three = record { replicas = 3; fits = λ r. true; knows = λ domain. true }
+three = record { replicas = 3; limits = usual_limits; fits = λ r. true; knows = λ domain. true }
 
 -- replicas 0 and 1 take a receipt each, replica 2 a record
 abbrev starts : Receipt → Receipt → Distrust → List Event

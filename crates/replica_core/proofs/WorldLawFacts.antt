@@ -28,6 +28,7 @@ use Rattle.replica_core.proofs.EventFacts.{part-event, saved-run, saved-here, re
 use Rattle.replica_core.proofs.StateFacts.{IsTidy, IsOutside, Throughout, throughout-run, tidy-kept, tidy-empty, outside-kept, outside-empty}
 use Rattle.replica_core.proofs.ExchangeFacts.{exchange-gives}
 use Rattle.replica_core.proofs.AgreementFacts.{IsStart, course-forms, agree}
+use Rattle.receipt_core.specs.Limits.{receipt_limit, record_limit}
 
 -- ---- what is held is a meaning
 
@@ -129,8 +130,9 @@ all-forms laws config n events h =
     (λ event c. forms-admits config n event (each-from IsEvent events h event c))
 
 -- All states are sorted lists within the limits.
-all-tidy : (laws : Laws) (rules : Rules) (events : List Event) → Throughout (λ i state. IsTidy state) (run rules events)
-all-tidy laws rules events = throughout-run rules (λ i state. IsTidy state) (tidy-kept laws rules) events empty_world tidy-empty
+all-tidy : (laws : Laws) (rules : Rules) (events : List Event) → Throughout (λ i state. IsTidy rules.limits state) (run rules events)
+all-tidy laws rules events =
+    throughout-run rules (λ i state. IsTidy rules.limits state) (tidy-kept laws rules) events empty_world (tidy-empty rules.limits)
 
 -- The clause `means`: what a replica holds is what a closure can mean.
 pub means : (laws : Laws) (past : WorldRun) (i : ℕ) → AreEvents past.events → IsMeaning (meaning_of_state past.config (held_by past i))
@@ -141,16 +143,16 @@ means laws past i h =
     let state = held_by past i in
     let forms = (all-forms laws config n events h).now i in
     let tidy = (all-tidy laws (rules_of config n) events).now i in
-    let within = and_parts (nat_le (length state.held) 65536) (nat_le (length state.records) 4096) tidy.within in
+    let within = and_parts (nat_le (length state.held) (receipt_limit config)) (nat_le (length state.records) (record_limit config)) tidy.within in
     record {
       receipts = each-to IsReceipt state.held (λ r c. (forms.receipts r c).0);
       rising = tidy.rising;
       fitting = each-to (IsFitting config) state.held (λ r c. (forms.receipts r c).1);
-      few = leb-true (length state.held) 65536 within.0;
+      few = leb-true (length state.held) (receipt_limit config) within.0;
       distrusts = each-to IsDistrust state.records (λ x c. (forms.records x c).0);
       records_rising = tidy.records_rising;
       domains = each-to (λ (x : Distrust). HasDomain config x.domain) state.records (λ x c. (forms.records x c).1);
-      few_records = leb-true (length state.records) 4096 within.1;
+      few_records = leb-true (length state.records) (record_limit config) within.1;
     }
 
 -- ---- growth, saves and restarts
@@ -239,7 +241,7 @@ agreed laws past since i j f l m s =
     let rules = rules_in past in
     let first = past.events in
     let same : run rules (first ++ since) ≡ run_from rules (run rules first) since = fold-append (happens rules) empty_world first since in
-    let tidy : Throughout (λ k state. IsTidy state) (run_from rules (run rules first) since) =
-    subst (Throughout (λ k state. IsTidy state)) same (all-tidy laws rules (first ++ since)) in
+    let tidy : Throughout (λ k state. IsTidy rules.limits state) (run_from rules (run rules first) since) =
+    subst (Throughout (λ k state. IsTidy rules.limits state)) same (all-tidy laws rules (first ++ since)) in
     subst (λ (w : World). w.now i ≡ w.now j) (sym same)
     (agree laws rules (run rules first) since i j (starts laws past.config past.replicas first f) tidy s l m)

@@ -4,7 +4,7 @@ use Rattle.std.specs.Prelude.{slice_get, Some}
 use Rattle.std.specs.List.{AllByRecursion}
 use Rattle.receipt_core.specs.declared.distrust.Distrust.{Distrust}
 use Rattle.receipt_core.specs.Receipt.{Receipt, IsReceipt, IsDistrust, receipt_id_of}
-use Rattle.replica_core.specs.State.{State, joined, is_within_limits, bucket_of_id}
+use Rattle.replica_core.specs.State.{State, joined, limits_of, is_within_limits, bucket_of_id}
 use Rattle.replica_core.specs.World.{World, Rules, give_sent, happens, run_from}
 use Rattle.replica_core.specs.World.{WorldRun, world_after, held_by, followed_by}
 use Rattle.replica_core.specs.declared.event.Event.{Event}
@@ -65,7 +65,8 @@ only_record x = record { held = []; records = x ∷ [] }
 
 -- After the event the replica holds all this too, if it is not too much.
 abbrev pub Gains : WorldRun → Event → ℕ → State → Type 0
-Gains past event replica gain = is_within_limits (joined (held_by past replica) gain) ≡ true
+Gains past event replica gain =
+    is_within_limits (limits_of past.config) (joined (held_by past replica) gain) ≡ true
     → held_by (followed_by past (event ∷ [])) replica ≡ joined (held_by past replica) gain
 
 -- the message at this place is an answer with this content
@@ -136,7 +137,8 @@ pub record Exchange (rules : Rules) (start : World) (q : Inquiry)
   pub whole : (content : State)
       → slice_get (at_taking rules start course).sent course.give_place
       ≡ Some (give_sent q.answerer course.have_place content)
-      → is_within_limits (joined ((at_taking rules start course).now q.asker) content) ≡ true
+      → is_within_limits rules.limits (joined ((at_taking rules start course).now q.asker) content)
+      ≡ true
   pub no_restart : Lacks course.asked (Restart q.asker)
   pub none_later : Lacks course.answered (Restart q.asker)
 

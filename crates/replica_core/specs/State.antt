@@ -6,6 +6,7 @@ use Rattle.std.specs.Ordering.{nat_cmp}
 use Rattle.std.specs.Cmp.Lexicographic.{slice_cmp}
 use Rattle.std.specs.List.{list_any}
 use Rattle.fed_config.specs.Configuration.{Configuration}
+use Rattle.fed_config.specs.declared.limits.Limits.{Limits}
 use Rattle.receipt_core.specs.declared.distrust.Distrust.{Distrust}
 use Rattle.receipt_core.specs.Receipt.{Receipt, receipt_id_of, receipt_cmp, distrust_cmp}
 use Rattle.receipt_core.specs.Rising.{with_items}
@@ -27,10 +28,14 @@ joined state gain = record {
   records = with_items distrust_cmp gain.records state.records;
 }
 
+-- how many receipts and records may be held under the configuration
+abbrev pub limits_of : Configuration → Limits
+limits_of config = record { receipts = receipt_limit config; records = record_limit config }
+
 -- at most this many receipts and records are held
-abbrev pub is_within_limits : State → Bool
-is_within_limits state = nat_le (length state.held) receipt_limit && nat_le
-    (length state.records) record_limit
+abbrev pub is_within_limits : Limits → State → Bool
+is_within_limits limits state = nat_le (length state.held) limits.receipts && nat_le
+    (length state.records) limits.records
 
 -- the byte with which the receipt's id begins
 abbrev pub bucket_of_id : Receipt → ℕ

@@ -6,10 +6,11 @@ use Rattle.std.specs.List.{list_any, list_all}
 use Rattle.spiffe_name.specs.SpiffeId.{Id}
 use Rattle.fed_config.specs.Configuration.{Configuration}
 use Rattle.fed_config.specs.declared.floor.Floor.{Floor}
+use Rattle.fed_config.specs.declared.limits.Limits.{Limits}
 use Rattle.fed_config.specs.declared.relationship.Relationship.{Relationship}
 use Rattle.fed_config.specs.declared.seed.Seed.{Seed}
 use Rattle.receipt_core.specs.Receipt.{Receipt}
-use Rattle.replica_core.specs.State.{State, no_state, joined, is_within_limits, ids_held}
+use Rattle.replica_core.specs.State.{State, no_state, joined, ids_held, limits_of, is_within_limits}
 use Rattle.replica_core.specs.State.{meaning_of_state, receipts_lacking, first_of}
 use Rattle.replica_core.specs.declared.event.Event.{Event}
 use Rattle.replica_core.specs.declared.event.Event.TheVariants.{Take, Revoke, Ask, Answer, Absorb}
@@ -35,6 +36,7 @@ empty_world = record { now = λ replica. no_state; saved = λ replica. no_state;
 
 pub record Rules : Type 0 where
   pub replicas : ℕ
+  pub limits : Limits
   pub fits : Receipt → Bool
   pub knows : List ℕ → Bool
 
@@ -64,8 +66,12 @@ is_known config domain = cond
     (list_any (λ (s : Seed). bytes_eq s.domain domain) config.seeds))
 
 abbrev pub rules_of : Configuration → ℕ → Rules
-rules_of config replicas =
-    record { replicas = replicas; fits = is_fitting config; knows = is_known config }
+rules_of config replicas = record {
+  replicas = replicas;
+  limits = limits_of config;
+  fits = is_fitting config;
+  knows = is_known config;
+}
 
 abbrev pub is_replica : Rules → ℕ → Bool
 is_replica rules replica = nat_le (replica + 1) rules.replicas
@@ -130,16 +136,16 @@ abbrev pub gained : Bool → World → ℕ → State → World
 gained true w replica state = with_state w replica state
 gained false w replica state = w
 
-abbrev pub apply : World → Effect → World
-apply w nothing = w
-apply w (gains i gain) = gained (is_within_limits (joined (w.now i) gain)) w i
+abbrev pub apply : Limits → World → Effect → World
+apply limits w nothing = w
+apply limits w (gains i gain) = gained (is_within_limits limits (joined (w.now i) gain)) w i
     (joined (w.now i) gain)
-apply w (sends message) = record w { sent = w.sent ++ message ∷ [] }
-apply w (saves i) = record w { saved = at_replica i (w.now i) w.saved }
-apply w (restarts i) = with_state w i (w.saved i)
+apply limits w (sends message) = record w { sent = w.sent ++ message ∷ [] }
+apply limits w (saves i) = record w { saved = at_replica i (w.now i) w.saved }
+apply limits w (restarts i) = with_state w i (w.saved i)
 
 abbrev pub happens : Rules → World → Event → World
-happens rules w event = apply w (effect_of rules w event)
+happens rules w event = apply rules.limits w (effect_of rules w event)
 
 abbrev pub run_from : Rules → World → List Event → World
 run_from rules w events = fold (happens rules) w events

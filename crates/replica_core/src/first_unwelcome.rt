@@ -6,8 +6,8 @@ ghost use Rattle.replica_core.specs.Absorbing.{AreWelcome, IsFirstRefused, of_re
 
 use crate::earlier::Earlier;
 use crate::free_places::{place_for_receipt, place_for_record};
-use closure_core::{Closure, MOST_RECEIPTS, MOST_RECORDS, TakeError, check_fit};
-use receipt_core::{Distrust, Receipt};
+use closure_core::{Closure, TakeError, check_fit};
+use receipt_core::{Distrust, Receipt, receipt_limit, record_limit};
 use std::alloc::Global;
 
 /// The number of the first record that is not welcome, and why it is not. The first record has
@@ -24,7 +24,7 @@ pub(crate) fn first_record<C: Closure>(
     receipt_core::laws::sets();
     let config = closure.config();
     let _form = config.domains();
-    let mut free = MOST_RECORDS - closure.distrusts().count();
+    let mut free = record_limit(config) - closure.distrusts().count();
     let mut before = Earlier::new(alloc, records);
     let mut place: usize = 0;
     for record in records {
@@ -58,7 +58,7 @@ pub(crate) fn first_receipt<C: Closure>(
     receipt_core::laws::sets();
     let config = closure.config();
     let _form = config.domains();
-    let mut free = MOST_RECEIPTS - closure.receipt_count();
+    let mut free = receipt_limit(config) - closure.receipt_count();
     let mut before = Earlier::new(alloc, receipts);
     let mut place: usize = 0;
     for receipt in receipts {

@@ -25,16 +25,16 @@ pub(crate) fn place_for_record<C: Closure>(
 ) -> Option<usize>
     requires left { 0 < left }
     requires next { slice_get before.old.items before.old.count ≡ Some distrust.now }
-    requires places { HasPlaces record_limit
+    requires places { HasPlaces (record_limit (C.state closure.now).meaning.config)
         (length (with_items distrust_cmp (passed before.old)
         (C.state closure.now).meaning.records)) free left }
     ensures items { before.new.items ≡ before.old.items }
     ensures count { before.new.count ≡ before.old.count + 1 }
     ensures place { MatchOption result
-        (HasNoPlace record_limit (with_items distrust_cmp (passed before.old)
+        (HasNoPlace (record_limit (C.state closure.now).meaning.config) (with_items distrust_cmp (passed before.old)
         (C.state closure.now).meaning.records)
         distrust.now)
-        (HasPlace distrust_cmp record_limit
+        (HasPlace distrust_cmp (record_limit (C.state closure.now).meaning.config)
         (with_items distrust_cmp (passed before.old)
         (C.state closure.now).meaning.records) distrust.now left) }
 {
@@ -60,7 +60,7 @@ pub(crate) fn place_for_receipt<C: Closure>(
 ) -> Option<usize>
     requires left { 0 < left }
     requires next { slice_get before.old.items before.old.count ≡ Some receipt.now }
-    requires places { HasPlaces receipt_limit
+    requires places { HasPlaces (receipt_limit (C.state closure.now).meaning.config)
         (length (with_items receipt_cmp (passed before.old)
         (C.state closure.now).meaning.held)) free left }
     requires form { IsReceipt receipt.now }
@@ -68,10 +68,10 @@ pub(crate) fn place_for_receipt<C: Closure>(
     ensures items { before.new.items ≡ before.old.items }
     ensures count { before.new.count ≡ before.old.count + 1 }
     ensures place { MatchOption result
-        (HasNoPlace receipt_limit (with_items receipt_cmp (passed before.old)
+        (HasNoPlace (receipt_limit (C.state closure.now).meaning.config) (with_items receipt_cmp (passed before.old)
         (C.state closure.now).meaning.held)
         receipt.now)
-        (HasPlace receipt_cmp receipt_limit
+        (HasPlace receipt_cmp (receipt_limit (C.state closure.now).meaning.config)
         (with_items receipt_cmp (passed before.old)
         (C.state closure.now).meaning.held) receipt.now left) }
 {

@@ -2,7 +2,7 @@
 ghost use Rattle.std.specs.Prelude.{◌≡◌, ◌≢◌, ◌++◌, ◌∷◌, [], false, List, IfOk, OnOk};
 ghost use Rattle.receipt_core.specs.declared.distrust.Distrust.{Distrust};
 ghost use Rattle.receipt_core.specs.Receipt.{Receipt};
-ghost use Rattle.replica_core.specs.State.{meaning_of_state};
+ghost use Rattle.replica_core.specs.State.{limits_of, meaning_of_state};
 ghost use Rattle.replica_core.specs.Session.{state_of};
 ghost use Rattle.replica_core.specs.World.{is_fitting, is_known};
 ghost use Rattle.replica_core.specs.Inside.ReplicasInMemory.{grown, CanHold, CanHoldRecords};
@@ -21,7 +21,8 @@ pub(crate) fn grow<C: Closure>(closure: &mut C, more: &C) -> Result<(), NoMemory
     ensures { (C.state closure.old).meaning.config ≡ (C.state more.now).meaning.config
         → OnOk result ((C.state closure.new).meaning
         ≡ meaning_of_state (C.state closure.old).meaning.config
-        (grown (state_of (C.state closure.old).meaning) (state_of (C.state more.now).meaning))) }
+        (grown (limits_of (C.state closure.old).meaning.config)
+        (state_of (C.state closure.old).meaning) (state_of (C.state more.now).meaning))) }
 {
     let _domains = more.config().domains();
     match closure.merge(more) {

@@ -17,8 +17,8 @@ use std::alloc::Global;
 ///
 /// An event that names no replica, or no message of its kind, changes nothing. The same is so of a
 /// receipt or a record that does not fit the configuration, and of a gain by which a replica would
-/// hold more than 65,536 receipts or 4,096 records of distrust. Messages remain: an answer may be
-/// taken late, more than once, in part, or never.
+/// hold more than the limits of the configuration allow. Messages remain: an answer may be taken
+/// late, more than once, in part, or never.
 ///
 /// # Errors
 /// Memory ran out, which ends the play.

@@ -32,6 +32,7 @@ use Rattle.replica_texts.specs.Gives.{IsGive}
 use Rattle.replica_texts.proofs.GiveFacts.{short-number}
 use Rattle.replica_texts.proofs.HeldFacts.{lines_rise}
 use Rattle.replica_texts.proofs.IdListFacts.{later_text, length-quoted}
+use Rattle.receipt_core.proofs.LimitFacts.{receipt_limit-most, record_limit-most}
 
 -- ---- digests
 
@@ -93,7 +94,7 @@ few-ids m bucket valid =
     let ids = length-map kept receipt_id_of in
     let few = kept-few (is_of_bucket bucket) m.held in
     let held = valid.few in
-    omega (arith, set, ids, few, held)
+    omega (arith, set, ids, few, held, receipt_limit-most m.config)
 
 -- ---- haves
 
@@ -208,8 +209,8 @@ answer-given m q valid is =
     record {
       header = record {
         bucket = is.asked.bucket;
-        count = omega (arith, few);
-        records = omega (arith, few_records);
+        count = omega (arith, few, receipt_limit-most m.config);
+        records = omega (arith, few_records, record_limit-most m.config);
         format = omega arith;
         buckets = omega arith;
         config = config-digest m.config;

@@ -20,7 +20,7 @@ use Rattle.receipt_core.specs.Acceptance.{IsFitting, Meaning, IsMeaning}
 use Rattle.receipt_core.proofs.RisingFacts.{Has, IsExactOn, all_from_has, each_has, same_members, with_items-all, with_items-has, with_items-keeps}
 use Rattle.receipt_core.proofs.RisingFacts.{with_items-new, with_items-rising}
 use Rattle.closure_core.specs.declared.error.TakeError.{TakeError}
-use Rattle.replica_core.specs.State.{State, is_within_limits, joined, meaning_of_state}
+use Rattle.replica_core.specs.State.{State, is_within_limits, joined, limits_of, meaning_of_state}
 use Rattle.replica_core.specs.Session.{HaveMessage, GiveMessage, give_of, state_of}
 use Rattle.replica_core.specs.declared.error.SyncError.{SyncError}
 use Rattle.replica_core.specs.declared.error.SyncError.TheVariants.{BadHeader, ConfigDiffers, VersionDiffers, NotCanonical, NotRising, BadCount, Truncated}
@@ -36,6 +36,7 @@ use Rattle.replica_sync.proofs.PullingFacts.{longer_with_items}
 use Rattle.replica_sync.proofs.SessionFacts.{HoldsGives, IsSpelling, same-haves, unpulled, unserved}
 use Rattle.replica_sync.proofs.WelcomeFacts.{IsRisingState, exact-receipts, exact-records, meaning-within, rising-after, rising-joined, rising-meaning}
 use Rattle.replica_sync.proofs.WelcomeFacts.{within-after, within-joined}
+use Rattle.receipt_core.specs.Limits.{receipt_limit, record_limit}
 
 -- ---- the haves of a session
 
@@ -265,7 +266,7 @@ no-longer-than P cmp total exact xs ys p q allxs allys part =
     omega (arith, longer, equal)
 
 module _ (m k : Meaning) (valid : IsMeaning m) (other : IsMeaning k) (same : m.config ≡ k.config)
-    (room : is_within_limits (joined (state_of m) (state_of k)) ≡ true) (qs : List HaveMessage) where
+    (room : is_within_limits (limits_of m.config) (joined (state_of m) (state_of k)) ≡ true) (qs : List HaveMessage) where
   abbrev then : State
   then = after_gives (state_of m) (all-gives k qs)
 
@@ -288,7 +289,7 @@ module _ (m k : Meaning) (valid : IsMeaning m) (other : IsMeaning k) (same : m.c
       all_from_has P then.records
       (λ x h. elim (record-of-either (state_of m) k qs x h) [ inl here ↦ each_has P m.records x p here | inr there ↦ each_has P k.records x q there ])
 
-  few-receipts : length then.held ≤ 65536
+  few-receipts : length then.held ≤ receipt_limit m.config
   few-receipts =
       let less = no-longer-than IsReceipt receipt_cmp receipt_total exact-receipts then.held both.held rising-then.receipts rising-both.receipts
       (each-receipt IsReceipt valid.receipts other.receipts)
@@ -297,10 +298,11 @@ module _ (m k : Meaning) (valid : IsMeaning m) (other : IsMeaning k) (same : m.c
         | inl here ↦ with_items-keeps receipt_cmp k.held m.held r here
         | inr there ↦ with_items-new IsReceipt receipt_cmp exact-receipts k.held m.held other.receipts valid.receipts r there
       ]) in
-      let room_here = leb-true (length both.held) 65536 (and_parts (nat_le (length both.held) 65536) (nat_le (length both.records) 4096) room).0 in
+      let room_here = leb-true (length both.held) (receipt_limit m.config)
+      (and_parts (nat_le (length both.held) (receipt_limit m.config)) (nat_le (length both.records) (record_limit m.config)) room).0 in
       omega (arith, less, room_here)
 
-  few-records : length then.records ≤ 4096
+  few-records : length then.records ≤ record_limit m.config
   few-records =
       let less = no-longer-than IsDistrust distrust_cmp distrust_total exact-records then.records both.records rising-then.records rising-both.records
       (each-record IsDistrust valid.distrusts other.distrusts)
@@ -309,7 +311,8 @@ module _ (m k : Meaning) (valid : IsMeaning m) (other : IsMeaning k) (same : m.c
         | inl here ↦ with_items-keeps distrust_cmp k.records m.records x here
         | inr there ↦ with_items-new IsDistrust distrust_cmp exact-records k.records m.records other.distrusts valid.distrusts x there
       ]) in
-      let room_here = leb-true (length both.records) 4096 (and_parts (nat_le (length both.held) 65536) (nat_le (length both.records) 4096) room).1 in
+      let room_here = leb-true (length both.records) (record_limit m.config)
+      (and_parts (nat_le (length both.held) (receipt_limit m.config)) (nat_le (length both.records) (record_limit m.config)) room).1 in
       omega (arith, less, room_here)
 
   -- if both together are within the limits, so is what is held after answers of the other
@@ -329,7 +332,7 @@ module _ (m k : Meaning) (valid : IsMeaning m) (other : IsMeaning k) (same : m.c
 -- If both together are within the limits, nothing of it is refused either.
 pub answered-taken : (m k held : Meaning) (asked replied rest : List ℕ) (count : ℕ) (e : SyncError)
     → IsConfiguration m.config → IsMeaning m → IsMeaning k → IsMeaning held → m.config ≡ k.config
-    → is_within_limits (joined (state_of m) (state_of k)) ≡ true
+    → is_within_limits (limits_of m.config) (joined (state_of m) (state_of k)) ≡ true
     → ServesAll (known_run asked replied) k count → PullsUpTo (known_run (replied ++ rest) asked) m held e
     → e ≢ Io → e ≢ NoMemory → ⊥
 answered-taken m k held asked replied rest count e configured valid other kept same room all part calm ample =

@@ -14,7 +14,7 @@ use Rattle.receipt_core.specs.declared.distrust.Distrust.{Distrust}
 use Rattle.receipt_core.specs.Receipt.{Receipt, IsDistrust, IsReceipt, distrust_line, line}
 use Rattle.receipt_core.proofs.LineFacts.{one_line, one_record}
 use Rattle.receipt_core.specs.Acceptance.{Meaning, IsMeaning}
-use Rattle.replica_core.specs.State.{State, first_of, ids_held, is_within_limits, joined, meaning_of_state, no_state}
+use Rattle.replica_core.specs.State.{State, first_of, ids_held, is_within_limits, joined, limits_of, meaning_of_state, no_state}
 use Rattle.replica_core.specs.Session.{HaveMessage, GiveMessage, give_of, state_of}
 use Rattle.replica_core.specs.World.{Message, Rules, World, give_sent, apply, gained, happens, have_sent, rules_of, run_from}
 use Rattle.replica_core.specs.World.{takes_part, where_so, with_state}
@@ -36,6 +36,7 @@ use Rattle.replica_texts.proofs.GiveFacts.{is-part, same-give}
 use Rattle.replica_sync.proofs.OwnMessageFacts.{answer-given}
 use Rattle.replica_sync.proofs.UnderstandingFacts.{all-asked, all-gives, last-asked, length-asked, own-have, part-asked, gives-in-turn, replied-is, whole-asked}
 use Rattle.replica_sync.proofs.WelcomeFacts.{IsWithin, meaning-within, rising-after, rising-meaning, within-after, within-itself, within-joined}
+use Rattle.fed_config.specs.declared.limits.Limits.{Limits}
 
 -- ---- one event
 
@@ -45,11 +46,11 @@ link_of i j = record { puller = i; server = j }
 
 -- A replica that takes the first lines of an answer within the limits joins these.
 part-is : (rules : Rules) (w : World) (i j n k count : ℕ) (content : State) → i < rules.replicas → slice_get w.sent n ≡ Some (give_sent j k content)
-    → is_within_limits (joined (w.now i) (first_of count content)) ≡ true
+    → is_within_limits rules.limits (joined (w.now i) (first_of count content)) ≡ true
     → happens rules w (Part i n count) ≡ with_state w i (joined (w.now i) (first_of count content))
 part-is rules w i j n k count content l e t =
-    ap (λ (b : Bool). apply w (where_so b (takes_part i count (slice_get w.sent n)))) (replica-true rules i l)
-    ∙ ap (λ (f : Option Message). apply w (takes_part i count f)) e
+    ap (λ (b : Bool). apply rules.limits w (where_so b (takes_part i count (slice_get w.sent n)))) (replica-true rules i l)
+    ∙ ap (λ (f : Option Message). apply rules.limits w (takes_part i count f)) e
     ∙ ap (λ (b : Bool). gained b w i (joined (w.now i) (first_of count content))) t
 
 -- ---- one exchange
@@ -78,13 +79,13 @@ module _ (rules : Rules) (i j : ℕ) (l : i < rules.replicas) (n : j < rules.rep
       (length-append w.sent (the_have ∷ []))
       (get-new (w.sent ++ the_have ∷ []) (give_sent j (length w.sent) the_content))
 
-  pub whole-is : is_within_limits (joined (w.now i) the_content) ≡ true
+  pub whole-is : is_within_limits rules.limits (joined (w.now i) the_content) ≡ true
       → run_from rules w (whole_exchange (link_of i j) bucket (length w.sent)) ≡ with_state answered_world i (joined (w.now i) the_content)
   whole-is t =
       ap (λ (v : World). happens rules v (Absorb i (length w.sent + 1))) to-answered
       ∙ absorbed-is rules answered_world i j (length w.sent + 1) (length w.sent) the_content l answer-there t
 
-  pub cut-is : (count : ℕ) → is_within_limits (joined (w.now i) (first_of count the_content)) ≡ true
+  pub cut-is : (count : ℕ) → is_within_limits rules.limits (joined (w.now i) (first_of count the_content)) ≡ true
       → run_from rules w (cut_exchange (link_of i j) bucket (length w.sent) count) ≡ with_state answered_world i (joined (w.now i) (first_of count the_content))
   cut-is count t =
       ap (λ (v : World). happens rules v (Part i (length w.sent + 1) count)) to-answered
@@ -110,19 +111,19 @@ GivesOf c k bucket state [] = Unit {0}
 GivesOf c k bucket state (r ∷ rs) = (r ≡ give_of k (have_in c state bucket)) × GivesOf c k (bucket + 1) (joined state r.content) rs
 
 -- no more than a replica holds
-pub record IsSmall (state : State) : Type 0 where
-  pub receipts : length state.held ≤ 65536
-  pub records : length state.records ≤ 4096
+pub record IsSmall (limits : Limits) (state : State) : Type 0 where
+  pub receipts : length state.held ≤ limits.receipts
+  pub records : length state.records ≤ limits.records
 
 -- What is within a state within the limits is within the limits.
-small-within : (small large : State) → IsWithin small large → IsSmall large → is_within_limits small ≡ true
-small-within small large part is =
+small-within : (limits : Limits) (small large : State) → IsWithin small large → IsSmall limits large → is_within_limits limits small ≡ true
+small-within limits small large part is =
     let less = part.few in
     let few = is.receipts in
     let less_records = part.few_records in
     let few_records = is.records in
-    and_from _ _ (le-leb (length small.held) 65536 (omega (arith, less, few)))
-    (le-leb (length small.records) 4096 (omega (arith, less_records, few_records)))
+    and_from _ _ (le-leb (length small.held) limits.receipts (omega (arith, less, few)))
+    (le-leb (length small.records) limits.records (omega (arith, less_records, few_records)))
 
 -- What is answered in the world is what the give has.
 same-content : (i j : ℕ) (c : Configuration) (k : Meaning) (w : World) (state : State) (sent bucket : ℕ) (r : GiveMessage) → IsAt i j k w state sent
@@ -132,13 +133,13 @@ same-content i j c k w state sent bucket r at is =
 
 module _ (rules : Rules) (i j : ℕ) (l : i < rules.replicas) (n : j < rules.replicas) (apart : j ≢ i) (c : Configuration) (k : Meaning) where
   one-exchange : (w : World) (state : State) (sent bucket : ℕ) (r : GiveMessage) → IsAt i j k w state sent
-      → r ≡ give_of k (have_in c state bucket) → bucket ≤ 255 → is_within_limits (joined state r.content) ≡ true
+      → r ≡ give_of k (have_in c state bucket) → bucket ≤ 255 → is_within_limits rules.limits (joined state r.content) ≡ true
       → IsAt i j k (run_from rules w (whole_exchange (link_of i j) bucket sent)) (joined state r.content) (sent + 2)
   one-exchange w state sent bucket r at is low room =
       let content = same-content i j c k w state sent bucket r at is in
       let taken : joined (w.now i) (the_content rules i j l n w bucket low) ≡ joined state r.content = (λ t. joined (at.here t) (content t)) in
       let run = ap (λ (s : ℕ). run_from rules w (whole_exchange (link_of i j) bucket s)) (sym at.many)
-      ∙ whole-is rules i j l n w bucket low (ap is_within_limits taken ∙ room) in
+      ∙ whole-is rules i j l n w bucket low (ap (is_within_limits rules.limits) taken ∙ room) in
       let two = many-sent rules i j l n w bucket low in
       let many = at.many in
       let sent_then = ap (λ (v : World). length v.sent) run in
@@ -151,7 +152,7 @@ module _ (rules : Rules) (i j : ℕ) (l : i < rules.replicas) (n : j < rules.rep
 
   -- this many whole exchanges
   run-all : (gives : List GiveMessage) (w : World) (state : State) (sent bucket : ℕ) → IsAt i j k w state sent → GivesOf c k bucket state gives
-      → bucket + length gives ≤ 256 → IsSmall (after_gives state gives)
+      → bucket + length gives ≤ 256 → IsSmall rules.limits (after_gives state gives)
       → IsAt i j k (run_from rules w (whole_exchanges (link_of i j) (length gives) bucket sent)) (after_gives state gives) (sent + 2 * length gives)
   unfolding whole_exchanges
   run-all [] w state sent bucket at is few small =
@@ -159,7 +160,7 @@ module _ (rules : Rules) (i j : ℕ) (l : i < rules.replicas) (n : j < rules.rep
       record { here = at.here; there = at.there; many = omega (arith, many) }
   run-all (r ∷ gives) w state sent bucket at is few small =
       let one = one-exchange w state sent bucket r at is.0 (omega (arith, few))
-      (small-within (joined state r.content) (after_gives state (r ∷ gives)) (within-after (joined state r.content) gives) small) in
+      (small-within rules.limits (joined state r.content) (after_gives state (r ∷ gives)) (within-after (joined state r.content) gives) small) in
       let later = run-all gives (run_from rules w (whole_exchange (link_of i j) bucket sent)) (joined state r.content) (sent + 2) (bucket + 1) one is.1
       (omega (arith, few)) small in
       let many = later.many in
@@ -349,14 +350,14 @@ part-is-cut c state bucket first content left lost r rest e is begins (inr fault
 -- After an exchange that was cut the puller has joined what came.
 cut-exchange-is : (rules : Rules) (i j : ℕ) (l : i < rules.replicas) (n : j < rules.replicas) (c : Configuration) (k : Meaning)
     (w : World) (state : State) (sent bucket : ℕ) (r : GiveMessage) (content : State) → IsAt i j k w state sent
-    → r ≡ give_of k (have_in c state bucket) → bucket ≤ 255 → is_within_limits (joined state content) ≡ true
+    → r ≡ give_of k (have_in c state bucket) → bucket ≤ 255 → is_within_limits rules.limits (joined state content) ≡ true
     → (cut : IsCut r.content content) → (run_from rules w (cut_exchange (link_of i j) bucket sent cut.lines)).now i ≡ joined state content
 cut-exchange-is rules i j l n c k w state sent bucket r content at is low room cut =
     let same = same-content i j c k w state sent bucket r at is in
     let taken : joined (w.now i) (first_of cut.lines (the_content rules i j l n w bucket low)) ≡ joined state content =
     (λ t. joined (at.here t) (first_of cut.lines (same t))) ∙ ap (joined state) cut.is in
     let run = ap (λ (s : ℕ). run_from rules w (cut_exchange (link_of i j) bucket s cut.lines)) (sym at.many)
-    ∙ cut-is rules i j l n w bucket low cut.lines (ap is_within_limits taken ∙ room) in
+    ∙ cut-is rules i j l n w bucket low cut.lines (ap (is_within_limits rules.limits) taken ∙ room) in
     ap (λ (v : World). v.now i) run ∙ at-here i (joined (w.now i) (first_of cut.lines (the_content rules i j l n w bucket low))) w.now ∙ taken
 
 -- What a pull holds that was cut is what its replica holds after whole exchanges and one that was cut.
@@ -398,7 +399,7 @@ cut-in-world m k held n i j w asked replied rest bytes lost count e l h apart he
         let follows : left ++ lost ≡ give_text give ++ rest =
         front.follows ∙ ap (λ (ls : List GiveMessage). give_texts ls ++ rest) one ∙ ap (λ (t : List ℕ). t ++ rest) (append-nil (give_text give)) in
         let cut = part-is-cut m.config state (length part.gives) (line_count part.gives + 1) part.content left lost give rest e is follows cause in
-        let room = small-within (joined state part.content) (joined state part.content) (within-itself (joined state part.content))
+        let room = small-within (limits_of m.config) (joined state part.content) (joined state part.content) (within-itself (joined state part.content))
         (record { receipts = final.few; records = final.few_records }) in
         let run = run-all (rules_of m.config n) i j l h (λ s. apart (sym s)) m.config k part.gives w (state_of m) (length w.sent) 0
         (record { here = here; there = there; many = refl })

@@ -8,7 +8,7 @@ ghost use Rattle.receipt_core.specs.Acceptance.{Meaning, IsMeaning};
 ghost use Rattle.closure_core.specs.declared.error.TakeError.{TakeError};
 ghost use Rattle.replica_core.specs.Convergence.{AreEvents, HasAll, Settles};
 ghost use Rattle.replica_core.specs.Session.{HaveMessage, have_of, give_of, state_of};
-ghost use Rattle.replica_core.specs.State.{is_within_limits, joined, meaning_of_state};
+ghost use Rattle.replica_core.specs.State.{is_within_limits, joined, limits_of, meaning_of_state};
 ghost use Rattle.replica_core.specs.World.{World, WorldRun, rules_of, rules_in, run_from};
 ghost use Rattle.replica_core.specs.World.{world_after, held_by, followed_by};
 ghost use Rattle.replica_core.specs.declared.event.Event.{Event};
@@ -131,8 +131,8 @@ pub fn sessions()
 /// - `served`: a session that serves what a pull wrote has no error.
 /// - `pulled`: nor has a pull that reads what is written to its haves, except that what a line says
 ///   may be refused.
-/// - `taken`: nor is anything refused if the configuration is the same, and both together hold
-///   65,536 receipts and 4,096 records at most. So nothing but a device or memory ends it early.
+/// - `taken`: nor is anything refused if the configuration is the same, and both together hold no
+///   more than its limits allow. So nothing but a device or memory ends it early.
 /// - `brings`: a pull that was carried out brings all that the other side held: each receipt of
 ///   each bucket, or one with its id, and each record.
 /// - `joins`: if no two receipts of both have one id, what is held then is what both held together,
@@ -156,7 +156,8 @@ pub fn understanding()
         → e ≢ Io → e ≢ NoMemory → ((n : ℕ) (why : TakeError) → e ≢ Refused n why) → ⊥ }
     ensures taken { (m k held : Meaning) (asked replied rest : List ℕ) (count : ℕ) (e : SyncError)
         → IsConfiguration m.config → IsMeaning m → IsMeaning k → IsMeaning held
-        → m.config ≡ k.config → is_within_limits (joined (state_of m) (state_of k)) ≡ true
+        → m.config ≡ k.config
+        → is_within_limits (limits_of m.config) (joined (state_of m) (state_of k)) ≡ true
         → ServesAll (known_run asked replied) k count
         → PullsUpTo (known_run (replied ++ rest) asked) m held e
         → e ≢ Io → e ≢ NoMemory → ⊥ }

@@ -7,9 +7,9 @@ ghost use Rattle.std.specs.List.Sorted.{IsStrictlySortedBy};
 ghost use Rattle.receipt_core.specs.Receipt.{distrust_cmp};
 
 use crate::new_entry::take_new;
-use closure_core::{Closure, MOST_RECORDS};
+use closure_core::Closure;
 use fed_config::Config;
-use receipt_core::Distrust;
+use receipt_core::{Distrust, record_limit};
 use replica_core::{Entry, SyncError, distrust_all};
 use replica_journal::push_record;
 use std::cmp::Ordering;
@@ -113,8 +113,7 @@ impl News {
         ensures journal { self.new.journal ≡ self.old.journal }
     {
         if self.later.is_empty() {
-            let _valid = closure.config();
-            self.free = MOST_RECORDS - closure.distrusts().count();
+            self.free = record_limit(closure.config()) - closure.distrusts().count();
         }
     }
 

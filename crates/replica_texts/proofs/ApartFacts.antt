@@ -25,6 +25,7 @@ use Rattle.replica_core.proofs.RisingListFacts.{all_back}
 use Rattle.replica_texts.proofs.NextFacts.{no_fault_of_held}
 use Rattle.replica_texts.proofs.OneFacts.{feedless_after, feedless_count, feedless_held, formats_apart, held_back, lines_back, no_end, front_text}
 use Rattle.replica_texts.proofs.WritingFacts.{lines_append}
+use Rattle.receipt_core.proofs.LimitFacts.{receipt_limit-most, record_limit-most}
 
 -- ---- the parts of a list
 
@@ -179,7 +180,8 @@ count_apart format m text ys later k valid is e =
 -- The last line has no line feed in it.
 pub plain_count : (format : Format) (m : Meaning) → IsMeaning m → HasNoFeed (count_line format m)
 plain_count format m valid =
-    plain (count_line format m) (feedless_count format (length m.held) (length m.records) (omega (arith, valid.few)) (omega (arith, valid.few_records)))
+    plain (count_line format m) (feedless_count format (length m.held) (length m.records) (omega (arith, valid.few, receipt_limit-most m.config))
+    (omega (arith, valid.few_records, record_limit-most m.config)))
 
 -- Nothing follows the last line of a snapshot.
 more_after : (format : Format) (m k : Meaning) (rest : List ℕ) → IsTail format m k rest → HasMoreAfter format k (Some rest) → ⊥

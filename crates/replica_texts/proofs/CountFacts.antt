@@ -7,12 +7,14 @@ use Rattle.json.specs.Print.{escape_byte}
 use Rattle.receipt_core.specs.declared.distrust.Distrust.{Distrust}
 use Rattle.receipt_core.specs.Receipt.{Receipt, line, distrust_line}
 use Rattle.receipt_core.specs.Acceptance.{Meaning, IsMeaning}
-use Rattle.replica_texts.specs.Snapshots.{IsCountLine, RefusesPlace, count_beginning, count_line, count_of, records_part}
+use Rattle.replica_texts.specs.Snapshots.{IsCountLine, RefusesPlace, count_beginning, count_line, count_of, next_number, records_part}
 use Rattle.replica_core.specs.declared.error.SyncError.{SyncError}
 use Rattle.replica_core.specs.declared.error.SyncError.TheVariants.{BadHeader, ConfigDiffers, VersionDiffers, NotCanonical, NotRising, BadCount, Truncated}
 use Rattle.replica_core.specs.declared.error.SyncError.TheVariants.{Refused, Io, NoMemory}
 use Rattle.replica_texts.specs.declared.format.Format.{Format}
 use Rattle.replica_texts.specs.declared.format.Format.TheVariants.{First, Second}
+use Rattle.receipt_core.proofs.LimitFacts.{receipt_limit-most, record_limit-most}
+use Rattle.receipt_core.specs.Limits.{most_receipts, most_records}
 
 -- ---- the third byte sets the last line apart
 
@@ -65,8 +67,9 @@ is_count format m valid = record {
   begins = refl;
   few =
       let whole = count_length format (length m.held) (length m.records) in
-      let part = part_length format (length m.records) valid.few_records in
-      let number = length-decimal-le 5 (length m.held) (omega arith) (omega (arith, valid.few)) (omega (arith, valid.few)) in
+      let part = part_length format (length m.records) (omega (arith, valid.few_records, record_limit-most m.config)) in
+      let number = length-decimal-le 5 (length m.held) (omega arith) (omega (arith, valid.few, receipt_limit-most m.config))
+      (omega (arith, valid.few, receipt_limit-most m.config)) in
       omega (arith, whole, part, number);
 }
 
@@ -83,3 +86,7 @@ no_fault_of_count format m text Truncated valid is ample h = h
 no_fault_of_count format m text (Refused n why) valid is ample h = h.further (subst IsCountLine (sym is) (is_count format m valid))
 no_fault_of_count format m text Io valid is ample h = h
 no_fault_of_count format m text NoMemory valid is ample h = ample refl
+
+-- The number of the line after all that is held is within this bound; the search finds this lemma.
+pub next_number-most : (m : Meaning) → IsMeaning m → next_number m ≤ most_receipts + most_records + 2
+next_number-most m valid = omega (arith, valid.few, valid.few_records, receipt_limit-most m.config, record_limit-most m.config)

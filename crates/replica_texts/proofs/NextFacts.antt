@@ -30,6 +30,7 @@ use Rattle.replica_texts.proofs.HeldFacts.{lines_rise, text_cmp}
 use Rattle.replica_texts.proofs.OneFacts.{apart}
 use Rattle.replica_texts.proofs.CountFacts.{IsThird, no_count, third_line, third_record}
 use Rattle.closure_core.proofs.FitFacts.{fits_right, fits_above}
+use Rattle.receipt_core.specs.Limits.{receipt_limit, record_limit}
 
 -- ---- one more line of what is held
 
@@ -160,7 +161,7 @@ welcome_record m k x later Full valid same more h =
     let longer : length m.records ≡ length k.records + length (x ∷ later) = ap length more ∙ length-append k.records (x ∷ later) in
     let full = h.full in
     let few = valid.few_records in
-    omega (arith, longer, full, few)
+    omega (arith, longer, full, few, ap record_limit same)
 welcome_record m k x later NoTakeMemory valid same more h = h
 welcome_record m k x later OtherConfig valid same more h = h
 
@@ -181,7 +182,7 @@ welcome_receipt m k r later Full is valid same more ample h =
     let longer : length m.held ≡ length k.held + length (r ∷ later) = ap length more ∙ length-append k.held (r ∷ later) in
     let full = h.full in
     let few = valid.few in
-    omega (arith, longer, full, few)
+    omega (arith, longer, full, few, ap receipt_limit same)
 welcome_receipt m k r later NoTakeMemory is valid same more ample h = ample refl
 welcome_receipt m k r later OtherConfig is valid same more ample h = h
 

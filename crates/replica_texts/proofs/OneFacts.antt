@@ -24,6 +24,7 @@ use Rattle.replica_texts.specs.declared.format.Format.{Format}
 use Rattle.replica_texts.specs.declared.format.Format.TheVariants.{First, Second}
 use Rattle.replica_texts.proofs.WritingFacts.{lines_append}
 use Rattle.replica_texts.proofs.FeedFacts.{Feedless, feedless_both, feedless_decimal, feedless_line, feedless_record}
+use Rattle.receipt_core.proofs.LimitFacts.{receipt_limit-most, record_limit-most}
 
 -- ---- the lines of a text
 
@@ -167,8 +168,11 @@ feedless_held m valid =
 -- No line after the first has a line feed.
 pub feedless_after : (format : Format) (m : Meaning) → IsMeaning m → AllByRecursion Feedless (held_lines m ++ count_line format m ∷ [])
 feedless_after format m valid =
-    all_append Feedless (held_lines m) (count_line format m ∷ []) (feedless_held m valid)
-    (feedless_count format (length m.held) (length m.records) (omega (arith, valid.few)) (omega (arith, valid.few_records)), tt)
+    all_append Feedless (held_lines m) (count_line format m ∷ []) (feedless_held m valid) (
+      feedless_count format (length m.held) (length m.records) (omega (arith, valid.few, receipt_limit-most m.config))
+          (omega (arith, valid.few_records, record_limit-most m.config)),
+      tt,
+    )
 
 -- The pieces of a first line with its line feed, in other brackets.
 regrouped : (a d b n c rest : List ℕ) → ended (a ++ (d ++ (b ++ (n ++ c)))) ++ rest ≡ a ++ (d ++ (b ++ (n ++ (c ++ ((10 ∷ []) ++ rest)))))

@@ -11,6 +11,7 @@ ghost use Rattle.replica_texts.specs.Inside.Reading.{FailsAfter, HoldsAll, Judge
 ghost use Rattle.replica_texts.specs.Inside.Reading.{StepsThroughSnapshot};
 ghost use Rattle.closure_core.specs.Changes.{empty_of};
 ghost use Rattle.byte_lines.specs.Limits.{line_limit};
+ghost use Rattle.receipt_core.specs.Limits.{most_receipts, most_records};
 
 use crate::entry_line::{Wanted, take_line};
 use crate::format::Format;
@@ -113,6 +114,7 @@ fn read_next<C: Closure, R: Source>(
     ensures last { IfOk result
         (λ more. more ≡ true → last.new.items ≡ last_line (C.state closure.new).meaning) }
     ensures valid { IsMeaning (C.state closure.old).meaning }
+    ensures few { next_number (C.state closure.old).meaning ≤ most_receipts + most_records + 2 }
     ensures refused { IfErr result
         (RefusesNext format (C.state closure.old).meaning
         (stream_of R.remaining lines.old source.old)) }

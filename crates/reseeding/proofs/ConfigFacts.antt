@@ -10,13 +10,14 @@ use Rattle.reseeding.specs.Inside.Domains.{IsWrittenWith}
 use Rattle.reseeding.specs.declared.new_floors.FloorChoice.{FloorChoice}
 use Rattle.reseeding.specs.declared.new_floors.FloorChoice.TheVariants.{Kept, Raised}
 use Rattle.reseeding.proofs.StayFacts.{all_stay}
+use Rattle.fed_config.specs.Limits.{usual_limits}
 
 -- the text that was written
 pub written_with : (m : Meaning) (relationships : List Relationship) (seeds : List Seed) (floors : List Floor) (text : List ℕ)
     → relationships ≡ m.config.relationships → AreCurrentSeeds m seeds
-    → text ≡ config_text (record { relationships = relationships; seeds = seeds; floors = floors }) → IsWrittenWith m floors text
+    → text ≡ config_text (record { relationships = relationships; seeds = seeds; floors = floors; limits = usual_limits }) → IsWrittenWith m floors text
 written_with m relationships seeds floors text same are is = record {
-  config = record { relationships = relationships; seeds = seeds; floors = floors };
+  config = record { relationships = relationships; seeds = seeds; floors = floors; limits = usual_limits };
   relationships = same;
   seeds = are;
   has = refl;

@@ -9,6 +9,7 @@ use Rattle.receipt_core.specs.declared.distrust.Distrust.{Distrust}
 use Rattle.receipt_core.specs.Receipt.{IsReceipt, distrust_line, receipt_cmp, distrust_cmp}
 use Rattle.receipt_core.specs.Parts.{distrust_pieces}
 use Rattle.receipt_core.specs.Acceptance.{Meaning, IsMeaning}
+use Rattle.receipt_core.specs.Limits.{receipt_limit, record_limit}
 use Rattle.receipt_core.specs.Sets.{Always, AreSets}
 use Rattle.receipt_core.proofs.HexFacts.{length-encode_lower}
 use Rattle.receipt_core.proofs.LineFacts.{distrust_line_text, one_line, one_record}
@@ -141,9 +142,9 @@ tidier_new laws m (AReceipt r) form forms unheld =
     }
 
 -- What is full is full afterwards.
-pub full_still : (m n : Meaning) (e : Entry) → IsTidier m n → IsFullFor m e → IsFullFor n e
-full_still m n (Record x) t full = let a = t.records in omega (arith, a, full)
-full_still m n (AReceipt r) t full = let a = t.receipts in omega (arith, a, full)
+pub full_still : (m n : Meaning) (e : Entry) → n.config ≡ m.config → IsTidier m n → IsFullFor m e → IsFullFor n e
+full_still m n (Record x) config t full = let a = t.records in let limit = ap record_limit config in omega (arith, a, limit, full)
+full_still m n (AReceipt r) config t full = let a = t.receipts in let limit = ap receipt_limit config in omega (arith, a, limit, full)
 
 -- The configuration is the same.
 pub config_same : (m : Meaning) (e : Entry) → (with_entry e m).config ≡ m.config

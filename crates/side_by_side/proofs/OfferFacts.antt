@@ -116,7 +116,7 @@ adds_then old now new text texts fate fates p q = record {
     | inl first ↦ elim (p.all e first fits) [
       | inl has ↦ inl (q.only.keeps e has)
       | inr full ↦ inr (
-        full_still now new e q.tidier full.0,
+        full_still now new e q.only.config q.tidier full.0,
         elim (contains-cases fate [] NoPlace full.1) [
           | inl same ↦ subst (Contains (fate ∷ fates)) (sym same) (contains-here fate fates)
           | inr none ↦ absurd (contains-none NoPlace none)

@@ -9,6 +9,7 @@ use Rattle.std.proofs.lemmas.List.Elements.{Contains-append_left, Contains-appen
 use Rattle.fed_config.specs.Configuration.{Configuration}
 use Rattle.receipt_core.specs.Receipt.{receipt_cmp, distrust_cmp}
 use Rattle.receipt_core.specs.Acceptance.{Meaning, IsMeaning}
+use Rattle.receipt_core.specs.Limits.{receipt_limit, record_limit}
 use Rattle.closure_core.specs.Count.{AreDifferent}
 use Rattle.closure_core.proofs.CountFacts.{no_longer}
 use Rattle.replica_core.specs.Absorbing.{with_entries}
@@ -37,14 +38,16 @@ different cmp total (x ∷ xs) rising = (
 )
 
 -- What is full is full if no less is held.
-full_more : SetLaws → (now new : Meaning) (e : Entry) → IsMeaning now → ((d : Entry) → IsEntryHeld now d → IsEntryHeld new d)
-    → IsFullFor now e → IsFullFor new e
-full_more laws now new (Record x) is keeps full =
+full_more : SetLaws → (now new : Meaning) (e : Entry) → IsMeaning now → new.config ≡ now.config
+    → ((d : Entry) → IsEntryHeld now d → IsEntryHeld new d) → IsFullFor now e → IsFullFor new e
+full_more laws now new (Record x) is config keeps full =
     let few = no_longer now.records new.records (different distrust_cmp laws.records.total now.records is.records_rising) (λ y has. keeps (Record y) has) in
-    omega (arith, few, full)
-full_more laws now new (AReceipt r) is keeps full =
+    let limit = ap record_limit config in
+    omega (arith, few, limit, full)
+full_more laws now new (AReceipt r) is config keeps full =
     let few = no_longer now.held new.held (different receipt_cmp laws.receipts.total now.held is.rising) (λ s has. keeps (AReceipt s) has) in
-    omega (arith, few, full)
+    let limit = ap receipt_limit config in
+    omega (arith, few, limit, full)
 
 -- ---- the laws
 
@@ -107,7 +110,7 @@ both_law laws old now new first later is p q = record {
   all = λ e says fits. elim (both_said first later e says) [
     | inl came ↦ elim (p.all e came fits) [
       | inl has ↦ inl (q.only.keeps e has)
-      | inr full ↦ inr (full_more laws now new e is q.only.keeps full)
+      | inr full ↦ inr (full_more laws now new e is q.only.config q.only.keeps full)
     ]
     | inr came ↦ q.all e came (subst (λ (c : Configuration). FitsEntry c e) (sym p.only.config) fits)
   ];

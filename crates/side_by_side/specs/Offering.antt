@@ -29,8 +29,8 @@ FitsEntry c (AReceipt r) = IsFitting c r
 
 -- The closure is full of its kind.
 abbrev pub IsFullFor : Meaning → Entry → Type 0
-IsFullFor m (Record x) = record_limit ≤ length m.records
-IsFullFor m (AReceipt r) = receipt_limit ≤ length m.held
+IsFullFor m (Record x) = record_limit m.config ≤ length m.records
+IsFullFor m (AReceipt r) = receipt_limit m.config ≤ length m.held
 
 -- It fits, was not held, had a place, and is held now.
 pub record HasTakenOffered (old : Meaning) (entry : Entry) (new : Meaning) : Type 0 where

@@ -1,6 +1,6 @@
 //! All that one closure holds, offered to a closure of another configuration.
 ghost use Rattle.std.specs.Prelude.{◌≡◌, ◌≤◌, IfOk, OnErr, MatchResult, map};
-ghost use Rattle.receipt_core.specs.Limits.{record_limit};
+ghost use Rattle.receipt_core.specs.Limits.{most_records};
 ghost use Rattle.receipt_core.specs.Receipt.{distrust_line, line};
 ghost use Rattle.replica_core.specs.declared.entry.Entry.TheVariants.{Record};
 ghost use Rattle.replica_core.specs.declared.entry.Entry.TheVariants.{Receipt as AReceipt};
@@ -62,7 +62,7 @@ fn offer_records<C: Closure>(
         (as_kept (C.state to.old).meaning journal.old.items)
         (map distrust_line (C.state from.now).meaning.records)
         (as_kept (C.state to.new).meaning journal.new.items)) }
-    ensures few { IfOk result (λ offered. offered_count offered ≤ record_limit) }
+    ensures few { IfOk result (λ offered. offered_count offered ≤ most_records) }
     ensures begun { OnErr result (HasOfferedPart
         (as_kept (C.state to.old).meaning journal.old.items)
         (map distrust_line (C.state from.now).meaning.records)
@@ -84,7 +84,7 @@ fn offer_receipts<C: Closure>(
     to: &mut C,
     journal: &mut Vec<u8>,
 ) -> Result<Offered, AllocError>
-    requires { offered_count before ≤ record_limit }
+    requires { offered_count before ≤ most_records }
     ensures offers { IfOk result (OffersLines
         (as_kept (C.state to.old).meaning journal.old.items)
         (map line (C.state from.now).meaning.held)

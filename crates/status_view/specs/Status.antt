@@ -9,6 +9,7 @@ use Rattle.bundle_doc.specs.Bundle.{Bundle, doc_id_of}
 use Rattle.fed_config.specs.Configuration.{AreDomains, config_id_of}
 use Rattle.fed_config.specs.declared.seed.Seed.{Seed}
 use Rattle.receipt_core.specs.Acceptance.{Meaning}
+use Rattle.receipt_core.specs.Limits.{receipt_limit, record_limit}
 use Rattle.receipt_core.specs.Receipt.{key_ids}
 use Rattle.receipt_core.specs.declared.distrust.Distrust.{Distrust}
 use Rattle.closure_core.specs.AcceptedList.{IsAcceptedList, IsPendingCount}
@@ -75,13 +76,15 @@ keyless_by s = record { domain = s.domain; id = record { 0 = doc_id_of s.domain 
 
 -- ---- the whole
 
--- The configuration's digest, what is held, each domain of the configuration, sorted, and the
--- configured bundles without an X.509 authority, in the order of the configuration
+-- The configuration's digest, what is held and how much may be, each domain of the configuration,
+-- sorted, and the configured bundles without an X.509 authority, in the order of the configuration
 pub record IsStatus (m : Meaning) (s : Status) : Type 0 where
   pub config : s.config.0 ≡ config_id_of m.config
   pub receipts : s.receipts ≡ length m.held
+  pub receipt_limit : s.receipt_limit ≡ receipt_limit m.config
   pub pending : IsPendingCount m s.pending
   pub records : s.records ≡ length m.records
+  pub record_limit : s.record_limit ≡ record_limit m.config
   pub clashes : List ReportedConflict
   pub are_conflicts : AreAllConflicts m clashes
   pub domains : AreDomains m.config (map (λ d. d.domain) s.domains.items)
@@ -103,4 +106,4 @@ lists_distrusted (Some s) = list_any (λ k. k.is_distrusted) s.keys.items
 abbrev pub has_warning : Status → Bool
 has_warning s = nat_lt 0 (length s.keyless_seeds.items)
     || (list_any (λ d. lists_distrusted d.current) s.domains.items
-    || (is_nearly_full s.receipts 65536 || is_nearly_full s.records 4096))
+    || (is_nearly_full s.receipts s.receipt_limit || is_nearly_full s.records s.record_limit))

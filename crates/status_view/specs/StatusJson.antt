@@ -46,9 +46,12 @@ counts_json s = codes "\"config\":\""
     ++ (encode_lower s.config.0
     ++ (codes "\",\"receipts\":"
     ++ (decimal s.receipts
-    ++ (codes ",\"receipt_limit\":65536,\"pending\":"
+    ++ (codes ",\"receipt_limit\":"
+    ++ (decimal s.receipt_limit
+    ++ (codes ",\"pending\":"
     ++ (decimal s.pending
-    ++ (codes ",\"record_limit\":4096,\"records\":" ++ decimal s.records))))))
+    ++ (codes ",\"record_limit\":"
+    ++ (decimal s.record_limit ++ (codes ",\"records\":" ++ decimal s.records))))))))))
 
 -- the members, without the braces around them
 abbrev pub status_members : Status → List ℕ

@@ -16,9 +16,12 @@ status_head s = codes "config "
     ++ (encode_lower s.config.0
     ++ (codes "\nreceipts "
     ++ (decimal s.receipts
-    ++ (codes " of 65536 pending "
+    ++ (codes " of "
+    ++ (decimal s.receipt_limit
+    ++ (codes " pending "
     ++ (decimal s.pending
-    ++ (codes "\nrecords " ++ (decimal s.records ++ (codes " of 4096" ++ codes "\n"))))))))
+    ++ (codes "\nrecords "
+    ++ (decimal s.records ++ (codes " of " ++ (decimal s.record_limit ++ codes "\n")))))))))))
 
 abbrev pub distrusted_mark : Bool → List ℕ
 distrusted_mark true = codes " distrusted\n"
@@ -69,22 +72,23 @@ distrusted_lines_of domain (Some s) = flat_map (distrusted_key_line domain) s.ke
 abbrev pub distrusted_lines : DomainStatus → List ℕ
 distrusted_lines s = distrusted_lines_of s.domain s.current
 
-abbrev pub held_line : List ℕ → ℕ → List ℕ
-held_line what count = codes "warning: " ++ (what
-    ++ (codes " held: " ++ (decimal count ++ codes "\n")))
+abbrev pub held_line : List ℕ → (count limit : ℕ) → List ℕ
+held_line what count limit = codes "warning: of "
+    ++ (decimal limit ++ (what ++ (codes " held: " ++ (decimal count ++ codes "\n"))))
 
-abbrev pub full_receipts_line : ℕ → List ℕ
-full_receipts_line count =
-    cond (is_nearly_full count 65536) (held_line (codes "of 65536 receipts") count) []
+abbrev pub full_receipts_line : (count limit : ℕ) → List ℕ
+full_receipts_line count limit =
+    cond (is_nearly_full count limit) (held_line (codes " receipts") count limit) []
 
-abbrev pub full_records_line : ℕ → List ℕ
-full_records_line count =
-    cond (is_nearly_full count 4096) (held_line (codes "of 4096 records of distrust") count) []
+abbrev pub full_records_line : (count limit : ℕ) → List ℕ
+full_records_line count limit =
+    cond (is_nearly_full count limit) (held_line (codes " records of distrust") count limit) []
 
 abbrev pub warning_lines : Status → List ℕ
 warning_lines s = flat_map keyless_line s.keyless_seeds.items
     ++ (flat_map distrusted_lines s.domains.items
-    ++ (full_receipts_line s.receipts ++ full_records_line s.records))
+    ++ (full_receipts_line s.receipts s.receipt_limit
+    ++ full_records_line s.records s.record_limit))
 
 -- ---- the whole
 

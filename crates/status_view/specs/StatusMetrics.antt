@@ -62,10 +62,10 @@ one_where false = 0
 
 abbrev pub gauge_value : Status → Gauge → ℕ
 gauge_value s Receipts = s.receipts
-gauge_value s ReceiptLimit = 65536
+gauge_value s ReceiptLimit = s.receipt_limit
 gauge_value s Pending = s.pending
 gauge_value s Records = s.records
-gauge_value s RecordLimit = 4096
+gauge_value s RecordLimit = s.record_limit
 gauge_value s KeylessSeeds = length s.keyless_seeds.items
 gauge_value s Warning = one_where (has_warning s)
 

@@ -16,8 +16,8 @@ use std::alloc::{AllocError, Global};
 /// | Member | What it has |
 /// |---|---|
 /// | `config` | the configuration's digest |
-/// | `receipts`, `receipt_limit`, `pending` | the held receipts, 65,536, and the pending ones |
-/// | `record_limit`, `records` | 4,096, and the held records of distrust |
+/// | `receipts`, `receipt_limit`, `pending` | the held receipts, the most, and the pending ones |
+/// | `record_limit`, `records` | the most records of distrust, and the held ones |
 /// | `domains` | for each trust domain `domain`, `current`, `accepted` and `conflicts` |
 /// | `keyless_seeds` | `domain` and `id` of each configured document without an X.509 authority |
 /// | `warning` | what [`has_warning`] returns |
@@ -60,9 +60,13 @@ fn push_counts(out: &mut Vec<u8>, status: &Status) -> Result<(), AllocError>
     push_digits(out, &status.config.0)?;
     out.extend_from_slice(b"\",\"receipts\":")?;
     push_number(out, status.receipts)?;
-    out.extend_from_slice(b",\"receipt_limit\":65536,\"pending\":")?;
+    out.extend_from_slice(b",\"receipt_limit\":")?;
+    push_number(out, status.receipt_limit)?;
+    out.extend_from_slice(b",\"pending\":")?;
     push_number(out, status.pending)?;
-    out.extend_from_slice(b",\"record_limit\":4096,\"records\":")?;
+    out.extend_from_slice(b",\"record_limit\":")?;
+    push_number(out, status.record_limit)?;
+    out.extend_from_slice(b",\"records\":")?;
     push_number(out, status.records)?;
     Ok(())
 }

@@ -14,7 +14,6 @@ use crate::metric::{DomainGauge, Gauge};
 use crate::standing::has_warning;
 use crate::status::{CurrentStatus, DomainStatus, KeyStatus, Status};
 use byte_lines::{push_digits, push_number};
-use closure_core::{MOST_RECEIPTS, MOST_RECORDS};
 use std::alloc::{AllocError, Global};
 
 static GAUGES: [Gauge; 7] = [
@@ -171,10 +170,10 @@ fn gauge_value(status: &Status, gauge: Gauge) -> u64
 {
     match gauge {
         Gauge::Receipts => status.receipts,
-        Gauge::ReceiptLimit => MOST_RECEIPTS as u64,
+        Gauge::ReceiptLimit => status.receipt_limit,
         Gauge::Pending => status.pending,
         Gauge::Records => status.records,
-        Gauge::RecordLimit => MOST_RECORDS as u64,
+        Gauge::RecordLimit => status.record_limit,
         Gauge::KeylessSeeds => status.keyless_seeds.len() as u64,
         Gauge::Warning => u64::from(has_warning(status)),
     }

@@ -8,7 +8,8 @@ use crate::domain_standing::domain_statuses;
 use crate::keyless::keyless_seeds;
 use crate::status::{CurrentStatus, DomainStatus, KeyStatus, KeylessSeed, Status};
 use bundle_view::conflicts;
-use closure_core::{Closure, MOST_RECEIPTS, MOST_RECORDS, NoMemory};
+use closure_core::{Closure, NoMemory};
+use receipt_core::{receipt_limit, record_limit};
 use std::alloc::Global;
 
 /// The status of a replica: the digest of its configuration, what it holds, and for each trust
@@ -26,8 +27,10 @@ pub fn read_status<C: Closure>(alloc: Global, closure: &C) -> Result<Status, NoM
     Ok(Status {
         config: closure.config().digest(),
         receipts: closure.receipt_count() as u64,
+        receipt_limit: receipt_limit(closure.config()) as u64,
         pending: closure.pending_count() as u64,
         records: closure.distrusts().count() as u64,
+        record_limit: record_limit(closure.config()) as u64,
         domains: domain_statuses(alloc, closure, clashes.as_slice())?,
         keyless_seeds: keyless_seeds(alloc, closure.config().seeds())?,
     })
@@ -41,8 +44,8 @@ pub fn has_warning(status: &Status) -> bool
 {
     has_any(status.keyless_seeds.as_slice())
         || some_list_distrusted(status.domains.as_slice())
-        || is_nearly_full(status.receipts, MOST_RECEIPTS as u64)
-        || is_nearly_full(status.records, MOST_RECORDS as u64)
+        || is_nearly_full(status.receipts, status.receipt_limit)
+        || is_nearly_full(status.records, status.record_limit)
 }
 
 fn has_any(seeds: &[KeylessSeed]) -> bool

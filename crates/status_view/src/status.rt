@@ -9,12 +9,16 @@ use spiffe_name::TrustDomain;
 pub struct Status {
     /// The configuration's digest.
     pub config: ConfigId,
-    /// How many receipts are held, of 65,536 at most.
+    /// How many receipts are held.
     pub receipts: u64,
-    /// How many of these no accepted document vouches for.
+    /// How many receipts may be held.
+    pub receipt_limit: u64,
+    /// How many of the held receipts no accepted document vouches for.
     pub pending: u64,
-    /// How many records of distrust are held, of 4,096 at most.
+    /// How many records of distrust are held.
     pub records: u64,
+    /// How many records of distrust may be held.
+    pub record_limit: u64,
     /// Each trust domain of the configuration, sorted.
     pub domains: Vec<DomainStatus>,
     /// The configured documents that have no X.509 authority, in the order of the configuration: no

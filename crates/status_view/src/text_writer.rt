@@ -12,7 +12,6 @@ ghost use Rattle.status_view.specs.StatusLines.{warning_lines};
 use crate::standing::is_nearly_full;
 use crate::status::{CurrentStatus, DomainStatus, KeyStatus, KeylessSeed, Status};
 use byte_lines::{push_digits, push_number};
-use closure_core::{MOST_RECEIPTS, MOST_RECORDS};
 use jwk_set::KeyId;
 use spiffe_name::TrustDomain;
 use std::alloc::{AllocError, Global};
@@ -23,8 +22,8 @@ use text_lines::push_number_or_none;
 /// | Line | What it says |
 /// |---|---|
 /// | `config <digest>` | the configuration |
-/// | `receipts <n> of 65536 pending <n>` | the held receipts, and the pending ones of these |
-/// | `records <n> of 4096` | the held records of distrust |
+/// | `receipts <n> of <n> pending <n>` | the held receipts, the most, and the pending ones |
+/// | `records <n> of <n>` | the held records of distrust, and the most |
 /// | `domain <domain>` | a trust domain; the lines of it have two spaces before them |
 /// | `current <id> sequence <n> refresh-hint <n>` | its current document; `none` for no number, and
 /// `current none` for no document |
@@ -51,11 +50,14 @@ fn push_head(out: &mut Vec<u8>, status: &Status) -> Result<(), AllocError>
     push_digits(out, &status.config.0)?;
     out.extend_from_slice(b"\nreceipts ")?;
     push_number(out, status.receipts)?;
-    out.extend_from_slice(b" of 65536 pending ")?;
+    out.extend_from_slice(b" of ")?;
+    push_number(out, status.receipt_limit)?;
+    out.extend_from_slice(b" pending ")?;
     push_number(out, status.pending)?;
     out.extend_from_slice(b"\nrecords ")?;
     push_number(out, status.records)?;
-    out.extend_from_slice(b" of 4096")?;
+    out.extend_from_slice(b" of ")?;
+    push_number(out, status.record_limit)?;
     out.extend_from_slice(b"\n")?;
     Ok(())
 }
@@ -136,8 +138,8 @@ fn push_warnings(out: &mut Vec<u8>, status: &Status) -> Result<(), AllocError>
 {
     push_keyless(out, status.keyless_seeds.as_slice())?;
     push_distrusted(out, status.domains.as_slice())?;
-    push_full_receipts(out, status.receipts)?;
-    push_full_records(out, status.records)
+    push_full_receipts(out, status.receipts, status.receipt_limit)?;
+    push_full_records(out, status.records, status.record_limit)
 }
 
 fn push_keyless(out: &mut Vec<u8>, seeds: &[KeylessSeed]) -> Result<(), AllocError>
@@ -223,30 +225,32 @@ fn push_listed_key(out: &mut Vec<u8>, domain: &TrustDomain, key: &KeyId) -> Resu
     Ok(())
 }
 
-fn push_full_receipts(out: &mut Vec<u8>, count: u64) -> Result<(), AllocError>
-    ensures { OnOk result (out.new.items ≡ out.old.items ++ full_receipts_line count) }
+fn push_full_receipts(out: &mut Vec<u8>, count: u64, limit: u64) -> Result<(), AllocError>
+    ensures { OnOk result (out.new.items ≡ out.old.items ++ full_receipts_line count limit) }
 {
-    if is_nearly_full(count, MOST_RECEIPTS as u64) {
-        push_held(out, "of 65536 receipts", count)?;
+    if is_nearly_full(count, limit) {
+        push_held(out, " receipts", count, limit)?;
     }
     Ok(())
 }
 
-fn push_full_records(out: &mut Vec<u8>, count: u64) -> Result<(), AllocError>
-    ensures { OnOk result (out.new.items ≡ out.old.items ++ full_records_line count) }
+fn push_full_records(out: &mut Vec<u8>, count: u64, limit: u64) -> Result<(), AllocError>
+    ensures { OnOk result (out.new.items ≡ out.old.items ++ full_records_line count limit) }
 {
-    if is_nearly_full(count, MOST_RECORDS as u64) {
-        push_held(out, "of 4096 records of distrust", count)?;
+    if is_nearly_full(count, limit) {
+        push_held(out, " records of distrust", count, limit)?;
     }
     Ok(())
 }
 
-fn push_held(out: &mut Vec<u8>, what: &str, count: u64) -> Result<(), AllocError>
-    ensures { OnOk result (out.new.items ≡ out.old.items ++ held_line what.now count) }
+fn push_held(out: &mut Vec<u8>, what: &str, count: u64, limit: u64) -> Result<(), AllocError>
+    ensures { OnOk result (out.new.items ≡ out.old.items ++ held_line what.now count limit) }
 {
-    out.extend_from_slice(b"warning: ")?;
+    out.extend_from_slice(b"warning: of ")?;
+    push_number(out, limit)?;
     out.extend_from_slice(what.as_bytes())?;
     out.extend_from_slice(b" held: ")?;
     push_number(out, count)?;
-    out.extend_from_slice(b"\n")
+    out.extend_from_slice(b"\n")?;
+    Ok(())
 }

@@ -44,7 +44,7 @@ warning_members (SameKey domain key) = key_members domain key.0
 warning_members (Expires domain key at) = expiry_members domain key.0 at
 warning_members (NotFetched domain fetched) = fetch_members domain fetched
 warning_members (QuietPeer peer since) = peer_members peer since
-warning_members (NearlyFull stock held) = stock_members stock held
+warning_members (NearlyFull stock held most) = stock_members stock held
 
 abbrev pub warning_json : Warning → List ℕ
 warning_json w = codes "{\"kind\":\""

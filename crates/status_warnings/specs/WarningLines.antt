@@ -28,7 +28,7 @@ kind_name (SameKey domain key) = codes "same-key"
 kind_name (Expires domain key at) = codes "expires"
 kind_name (NotFetched domain fetched) = codes "not-fetched"
 kind_name (QuietPeer peer since) = codes "quiet-peer"
-kind_name (NearlyFull stock held) = codes "nearly-full"
+kind_name (NearlyFull stock held most) = codes "nearly-full"
 
 abbrev pub stock_name : Stock → List ℕ
 stock_name Receipts = codes "receipts"
@@ -66,12 +66,13 @@ fetch_words domain fetched = domain ++ (codes " was last fetched: " ++ second_or
 abbrev pub peer_words : List ℕ → ℕ → List ℕ
 peer_words peer since = peer ++ (codes " had no session that ended well since " ++ decimal since)
 
-abbrev pub most_words : Stock → List ℕ
-most_words Receipts = codes " of 65536 receipts are held"
-most_words Records = codes " of 4096 records of distrust are held"
+abbrev pub held_words : Stock → List ℕ
+held_words Receipts = codes " receipts are held"
+held_words Records = codes " records of distrust are held"
 
-abbrev pub stock_words : Stock → ℕ → List ℕ
-stock_words stock held = decimal held ++ most_words stock
+abbrev pub stock_words : Stock → (held most : ℕ) → List ℕ
+stock_words stock held most = decimal held
+    ++ (codes " of " ++ (decimal most ++ held_words stock))
 
 abbrev pub warning_words : Warning → List ℕ
 warning_words (Domain fault domain) = domain_words fault domain
@@ -79,7 +80,7 @@ warning_words (SameKey domain key) = same_key_words domain key.0
 warning_words (Expires domain key at) = expiry_words domain key.0 at
 warning_words (NotFetched domain fetched) = fetch_words domain fetched
 warning_words (QuietPeer peer since) = peer_words peer since
-warning_words (NearlyFull stock held) = stock_words stock held
+warning_words (NearlyFull stock held most) = stock_words stock held most
 
 abbrev pub warning_line : Warning → List ℕ
 warning_line w = codes "warning: "

@@ -33,7 +33,7 @@ warning_labels (SameKey domain key) = key_labels domain key.0
 warning_labels (Expires domain key at) = key_labels domain key.0
 warning_labels (NotFetched domain fetched) = domain_label domain
 warning_labels (QuietPeer peer since) = quiet_label peer
-warning_labels (NearlyFull stock held) = stock_label stock
+warning_labels (NearlyFull stock held most) = stock_label stock
 
 abbrev pub warning_sample : Warning → List ℕ
 warning_sample w = codes "fedbundle_warning_info{kind=\""

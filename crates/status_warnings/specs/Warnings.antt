@@ -112,12 +112,13 @@ quiet_warning limits began p = peer_warning limits (quiet_since began p.ended_we
 -- ---- what is held
 
 abbrev pub stock_warning : Stock → (held most : ℕ) → List Warning
-stock_warning stock held most = cond (is_nearly_full held most) (NearlyFull stock held ∷ []) []
+stock_warning stock held most =
+    cond (is_nearly_full held most) (NearlyFull stock held most ∷ []) []
 
--- of at most 65,536 receipts and 4,096 records of distrust
+-- of the receipts and the records of distrust that may be held
 abbrev pub full_warnings : Status → List Warning
-full_warnings s =
-    stock_warning Receipts s.receipts 65536 ++ stock_warning Records s.records 4096
+full_warnings s = stock_warning Receipts s.receipts s.receipt_limit
+    ++ stock_warning Records s.records s.record_limit
 
 -- ---- the whole
 

@@ -77,7 +77,7 @@ fn push_members(alloc: Global, out: &mut Vec<u8>, warning: &Warning) -> Result<(
         Warning::Expires(domain, key, at) => push_expiry_members(out, domain, key, *at),
         Warning::NotFetched(domain, fetched) => push_fetch_members(out, domain, *fetched),
         Warning::QuietPeer(peer, since) => push_peer_members(alloc, out, peer.as_str(), *since),
-        Warning::NearlyFull(stock, held) => push_stock_members(out, *stock, *held),
+        Warning::NearlyFull(stock, held, _) => push_stock_members(out, *stock, *held),
     }
 }
 

@@ -18,8 +18,8 @@ pub enum Warning {
     NotFetched(TrustDomain, Option<i64>),
     /// No session with the peer ended well since this Unix second.
     QuietPeer(PeerAddress, u64),
-    /// This many are held.
-    NearlyFull(Stock, u64),
+    /// This many are held, and at most this many may be.
+    NearlyFull(Stock, u64, u64),
 }
 
 /// What is wrong with a trust domain.
@@ -38,8 +38,8 @@ pub enum DomainFault {
 /// What a replica holds a limited number of.
 #[derive(Clone, Copy, Debug, PartialEq, Eq)]
 pub enum Stock {
-    /// Receipts, of 65,536 at most.
+    /// Receipts.
     Receipts,
-    /// Records of distrust, of 4,096 at most.
+    /// Records of distrust.
     Records,
 }

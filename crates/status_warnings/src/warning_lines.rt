@@ -2,7 +2,7 @@
 ghost use Rattle.std.specs.Prelude.{◌≡◌, ◌++◌, OnOk};
 ghost use Rattle.std.specs.Fmt.{signed_decimal};
 ghost use Rattle.status_warnings.specs.WarningLines.{domain_words, expiry_words, fault_words};
-ghost use Rattle.status_warnings.specs.WarningLines.{fetch_words, most_words, peer_words};
+ghost use Rattle.status_warnings.specs.WarningLines.{fetch_words, held_words, peer_words};
 ghost use Rattle.status_warnings.specs.WarningLines.{second_or_never, stock_words};
 ghost use Rattle.status_warnings.specs.WarningLines.{lines_of_warnings, warning_line};
 ghost use Rattle.status_warnings.specs.WarningLines.{same_key_words, warning_words};
@@ -49,7 +49,7 @@ fn push_words(out: &mut Vec<u8>, warning: &Warning) -> Result<(), AllocError>
         Warning::Expires(domain, key, at) => push_expiry_words(out, domain, key, *at),
         Warning::NotFetched(domain, fetched) => push_fetch_words(out, domain, *fetched),
         Warning::QuietPeer(peer, since) => push_peer_words(out, peer.as_str(), *since),
-        Warning::NearlyFull(stock, held) => push_stock_words(out, *stock, *held),
+        Warning::NearlyFull(stock, held, most) => push_stock_words(out, *stock, *held, *most),
     }
 }
 
@@ -146,19 +146,21 @@ fn push_peer_words(out: &mut Vec<u8>, peer: &str, since: u64) -> Result<(), Allo
     Ok(())
 }
 
-fn push_stock_words(out: &mut Vec<u8>, stock: Stock, held: u64) -> Result<(), AllocError>
-    ensures { OnOk result (out.new.items ≡ out.old.items ++ stock_words stock held) }
+fn push_stock_words(out: &mut Vec<u8>, stock: Stock, held: u64, most: u64) -> Result<(), AllocError>
+    ensures { OnOk result (out.new.items ≡ out.old.items ++ stock_words stock held most) }
 {
     push_number(out, held)?;
-    out.extend_from_slice(most_words(stock).as_bytes())?;
+    out.extend_from_slice(b" of ")?;
+    push_number(out, most)?;
+    out.extend_from_slice(held_words(stock).as_bytes())?;
     Ok(())
 }
 
-fn most_words(stock: Stock) -> &'static str
-    ensures { result.now ≡ most_words stock }
+fn held_words(stock: Stock) -> &'static str
+    ensures { result.now ≡ held_words stock }
 {
     match stock {
-        Stock::Receipts => " of 65536 receipts are held",
-        Stock::Records => " of 4096 records of distrust are held",
+        Stock::Receipts => " receipts are held",
+        Stock::Records => " records of distrust are held",
     }
 }

@@ -62,7 +62,7 @@ fn push_labels(out: &mut Vec<u8>, warning: &Warning) -> Result<(), AllocError>
         Warning::Expires(domain, key, _) => push_key_labels(out, domain, key),
         Warning::NotFetched(domain, _) => push_domain_label(out, domain),
         Warning::QuietPeer(peer, _) => push_quiet_label(out, peer.as_str()),
-        Warning::NearlyFull(stock, _) => push_stock_label(out, *stock),
+        Warning::NearlyFull(stock, _, _) => push_stock_label(out, *stock),
     }
 }
 

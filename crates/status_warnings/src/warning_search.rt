@@ -23,10 +23,6 @@ static FAULTS: [DomainFault; 4] = [
     DomainFault::NoSequence,
 ];
 
-const MOST_RECEIPTS: u64 = 65_536;
-
-const MOST_RECORDS: u64 = 4_096;
-
 /// What is wrong, in this order:
 ///
 /// | Kind | When it is found |
@@ -320,8 +316,13 @@ fn is_quiet(limits: &WarnLimits, since: u64) -> bool
 fn push_full(found: &mut Vec<Warning>, status: &Status) -> Result<(), AllocError>
     ensures { OnOk result (found.new.items ≡ found.old.items ++ full_warnings status.now) }
 {
-    push_stock(found, Stock::Receipts, status.receipts, MOST_RECEIPTS)?;
-    push_stock(found, Stock::Records, status.records, MOST_RECORDS)?;
+    push_stock(
+        found,
+        Stock::Receipts,
+        status.receipts,
+        status.receipt_limit,
+    )?;
+    push_stock(found, Stock::Records, status.records, status.record_limit)?;
     Ok(())
 }
 
@@ -334,7 +335,7 @@ fn push_stock(
     ensures { OnOk result (found.new.items ≡ found.old.items ++ stock_warning stock held most) }
 {
     if is_nearly_full(held, most) {
-        found.push(Warning::NearlyFull(stock, held))?;
+        found.push(Warning::NearlyFull(stock, held, most))?;
     }
     Ok(())
 }

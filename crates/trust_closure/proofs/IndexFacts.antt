@@ -13,7 +13,6 @@ use Rattle.fed_config.specs.Configuration.{Configuration, HasDomain, AreDomains,
 use Rattle.wait_index.specs.Index.{Index, Last}
 use Rattle.wait_index.specs.Net.{Net, IsReached, root, ListsReached, ReportsFallen, visits_of, ClosesIn}
 use Rattle.std.specs.List.Sorted.{IsStrictlySortedBy}
-use Rattle.std.proofs.Common.{cond}
 use Rattle.receipt_core.specs.declared.distrust.Distrust.{Distrust}
 use Rattle.receipt_core.specs.declared.triple.Triple.{Triple}
 use Rattle.receipt_core.specs.Receipt.{Receipt, Pair, pair_of, IsReceipt, offers_of, distrust_cmp}

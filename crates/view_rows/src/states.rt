@@ -3,7 +3,7 @@
 use crate::configurations::AMPLE_ROOM;
 use byte_lines::MemSink;
 use closure_core::Closure;
-use fed_config::Config;
+use fed_config::{Config, Limits};
 use receipt_core::{Distrust, Receipt};
 use replica_view::{write_held, write_held_difference};
 use row_script::Script;
@@ -118,20 +118,32 @@ fn show_status<C: Closure>(
     script.show_lines(sink.as_bytes(), answer)
 }
 
-/// A replica of the configuration of this name that was given the lines, unless one is refused.
+/// A replica of the configuration of this name that was given the lines, unless one is refused. A
+/// name may have `@RECEIPTS,RECORDS` after it: how many of them it may hold.
 pub(crate) fn replica_of<C: Closure>(
     alloc: Global,
     script: &Script,
     config: &str,
     lines: &[u8],
 ) -> Result<Option<C>, AllocError> {
-    let text = script.text(config).unwrap_or(b"");
-    let Ok(config) = Config::read(alloc, text) else {
+    let (name, limits) = config.split_once("@").unwrap_or((config, ""));
+    let Ok(mut config) = Config::read(alloc, script.text(name).unwrap_or(b"")) else {
         return Ok(None);
     };
+    if let Some(limits) = limits_of(limits) {
+        config.set_limits(limits);
+    }
     let mut replica = C::new(alloc, &config)?;
     let is_given = give_all(alloc, &mut replica, lines);
     Ok(is_given.then_some(replica))
+}
+
+fn limits_of(words: &str) -> Option<Limits> {
+    let (receipts, records) = words.split_once(",")?;
+    Some(Limits {
+        receipts: receipts.parse::<usize>().ok()?,
+        records: records.parse::<usize>().ok()?,
+    })
 }
 
 fn give_all<C: Closure>(alloc: Global, replica: &mut C, lines: &[u8]) -> bool {

@@ -9,7 +9,7 @@ use Rattle.receipt_core.specs.Receipt.{Receipt, Pair, pair_of, need_of, offers_o
 use Rattle.receipt_core.specs.Acceptance.{Meaning, distrust_of, pair_of_seed}
 use Rattle.closure_core.specs.Inside.Nodes.{is_raised}
 use Rattle.closure_core.specs.Inside.Flags.{raised_count}
-use Rattle.receipt_core.specs.Limits.{receipt_limit}
+use Rattle.receipt_core.specs.Limits.{most_receipts}
 
 -- ---- receipts that may be vouched for
 
@@ -18,7 +18,7 @@ pub record AreTrusted (m : Meaning) (receipts : List Receipt) : Type 0 where
   pub exactly : (r : Receipt)
       → Contains receipts r ↔
       (Contains m.held r × (Contains m.records (distrust_of r.endpoint.domain r) → ⊥))
-  pub few : length receipts ≤ receipt_limit
+  pub few : length receipts ≤ most_receipts
 
 -- They are all of those, in the order of what they need.
 pub record AreWaiting (m : Meaning) (waiting : List Receipt) : Type 0 where

@@ -86,7 +86,7 @@ pub record HasJudged (c : Configuration) (lines : Lines) (m : Meaning)
   pub config : m.config ≡ c
   pub records : m.records ≡ []
   pub taken : AreTaken c lines.whole m.held
-  pub few : length m.held ≤ receipt_limit
+  pub few : length m.held ≤ receipt_limit c
   pub line_errors : List NumberedError
   pub all : AreLineErrors c lines line_errors
   pub stating : Appends stated reports (flat_map line_error_text line_errors)

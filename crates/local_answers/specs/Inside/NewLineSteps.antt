@@ -10,6 +10,7 @@ use Rattle.receipt_core.specs.Rising.{with_items}
 use Rattle.closure_core.specs.Refusals.{all_receipts, all_records}
 use Rattle.replica_core.specs.Absorbing.{of_receipts, of_records}
 use Rattle.replica_journal.specs.Journal.{entry_text}
+use Rattle.receipt_core.specs.Limits.{most_receipts}
 
 -- From all items, these are new to the set, and the rest is still to be looked at.
 pub record IsSifted {X : Type 0} (P : X → Type 0) (cmp : X → X → Ordering)
@@ -26,7 +27,7 @@ pub record SiftsReceipts (m : Meaning) (all rest : List Receipt) (text : List �
   pub sifted : IsSifted IsReceipt receipt_cmp m.held all rest new
   pub spelt : text ≡ flat_map entry_text (of_receipts new)
   pub counted : count ≡ length new
-  pub few : count + length rest ≤ 65536
+  pub few : count + length rest ≤ most_receipts
 
 -- the same for records
 pub record SiftsRecords (m : Meaning) (all rest : List Distrust) (text : List ℕ) : Type 0 where

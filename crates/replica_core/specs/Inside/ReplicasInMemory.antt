@@ -3,6 +3,7 @@ use Rattle.std.specs.Prelude.{◌≡◌, ℕ, ◌≤◌, cond, List, length, map
 use Rattle.std.specs.List.{AllByRecursion}
 use Rattle.std.specs.List.Sorted.{IsStrictlySortedBy}
 use Rattle.fed_config.specs.Configuration.{Configuration, HasDomain}
+use Rattle.fed_config.specs.declared.limits.Limits.{Limits}
 use Rattle.receipt_core.specs.declared.distrust.Distrust.{Distrust}
 use Rattle.receipt_core.specs.Receipt.{Receipt, receipt_cmp, distrust_cmp}
 use Rattle.receipt_core.specs.Acceptance.{Meaning, IsFitting}
@@ -17,8 +18,9 @@ use Rattle.replica_core.specs.declared.replicas_in_memory.MemoryReplicas.{Memory
 use Rattle.receipt_core.specs.Limits.{receipt_limit, record_limit}
 
 -- all this is gained, or nothing if it would be too much
-abbrev pub grown : State → State → State
-grown state gain = cond (is_within_limits (joined state gain)) (joined state gain) state
+abbrev pub grown : Limits → State → State → State
+grown limits state gain = cond (is_within_limits limits (joined state gain)) (joined state gain)
+    state
 
 -- ---- messages
 
@@ -44,13 +46,13 @@ have_in_message (Some (give_sent answerer place content)) = None
 pub record CanHold (config : Configuration) (receipts : List Receipt) : Type 0 where
   pub fitting : AllByRecursion (IsFitting config) receipts
   pub rising : IsStrictlySortedBy receipt_cmp receipts
-  pub few : length receipts ≤ receipt_limit
+  pub few : length receipts ≤ receipt_limit config
 
 -- the same for records of distrust
 pub record CanHoldRecords (config : Configuration) (records : List Distrust) : Type 0 where
   pub domains : AllByRecursion (λ x. HasDomain config x.domain) records
   pub rising : IsStrictlySortedBy distrust_cmp records
-  pub few : length records ≤ record_limit
+  pub few : length records ≤ record_limit config
 
 -- what is answered can be held
 abbrev pub IsSound : Configuration → Message → Type 0

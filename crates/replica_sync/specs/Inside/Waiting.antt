@@ -31,7 +31,7 @@ pub record IsEmptyNews (news : News) : Type 0 where
 pub record Waits (m : Meaning) (news : News) : Type 0 where
   pub welcome : AreWelcome m (of_records news.later.items)
   pub rising : IsStrictlySortedBy distrust_cmp news.later.items
-  pub few : length m.records + length news.later.items + news.free ≤ record_limit
+  pub few : length m.records + length news.later.items + news.free ≤ record_limit m.config
 
 -- The record, which is not held, may wait after them.
 pub record MayWait (m : Meaning) (news : News) (x : Distrust) : Type 0 where

@@ -1,11 +1,12 @@
 -- One receipt more is taken, or is distrusted.
-use Rattle.std.proofs.Common.{refl, sym, ◌∙◌, subst}
+use Rattle.std.proofs.Common.{arith, refl, sym, ◌∙◌, subst}
 use Rattle.std.specs.Prelude.{Contains}
 use Rattle.std.proofs.lemmas.Bool.{both_ways}
 use Rattle.receipt_core.specs.declared.distrust.Distrust.{Distrust}
 use Rattle.receipt_core.specs.declared.triple.Triple.{Triple}
 use Rattle.bundle_view.proofs.WaitingFacts.{AreSifted, sifted_none, sifted_takes, sifted_skips, sifted_all}
 use Rattle.bundle_view.proofs.trusted_receipts.list_trusted.Goals as goal
+use Rattle.receipt_core.proofs.LimitFacts.{receipt_limit-most}
 
 pub loop-receipt-init : goal.loop-receipt-init
 loop-receipt-init g c =
@@ -40,4 +41,4 @@ returns g c =
     let m = (g.C.Closure.state c.args.closure.now).meaning in
     sifted_all m m.records c.into_iter-receipt-iterator.result c.loop-receipt.waiting.items c.loop-receipt.receipt-iterator refl
     (c.into_iter-receipt-iterator.ensures.into_iter_gives ∙ c.receipts-receipt-items.ensures) c.in-None.ensures.steps.0
-    c.config-valid.ensures.valid.few c.loop-receipt.invariant
+    (omega (arith, c.config-valid.ensures.valid.few, receipt_limit-most m.config)) c.loop-receipt.invariant

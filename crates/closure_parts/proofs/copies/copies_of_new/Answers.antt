@@ -1,11 +1,24 @@
 -- One more is copied.
-use Rattle.std.proofs.Common.{List, ◌∙◌, subst}
+use Rattle.std.proofs.Common.{List, length, ◌≤◌, ◌∙◌, sym, ap, subst, arith}
 use Rattle.std.specs.List.{Contains}
 use Rattle.std.proofs.lemmas.Result.{err_from_is_err_and}
 use Rattle.receipt_core.specs.Receipt.{Receipt}
 use Rattle.closure_parts.specs.Held.{meaning_of}
-use Rattle.closure_parts.proofs.MergeFacts.{IsCopied, IsCopied-held, IsCopied-new, IsCopied-end, IsCopied-has, lacks_of}
+use Rattle.closure_parts.proofs.MergeFacts.{IsCopied, IsCopied-start, IsCopied-held, IsCopied-new, IsCopied-end, IsCopied-has, lacks_of}
+use Rattle.receipt_core.proofs.LimitFacts.{receipt_limit-most}
 use Rattle.closure_parts.proofs.copies.copies_of_new.Goals as goal
+
+pub loop-receipt-init : goal.loop-receipt-init
+loop-receipt-init c =
+    let all = c.into_iter-receipt-iterator.result in
+    let few : length all ≤ 65536 = omega (
+      arith,
+      ap length (c.into_iter-receipt-iterator.ensures.into_iter_gives ∙ c.receipts-receipt-items.ensures),
+      c.config-other_valid.ensures.valid.few,
+      receipt_limit-most c.args.other.now.config,
+    ) in
+    subst (IsCopied c.args.held.now.held all all) (sym c.new-copies.ensures.items)
+    (IsCopied-start c.args.held.now.held all few)
 
 pub loop-receipt-preserved : goal.loop-receipt-preserved
 loop-receipt-preserved c =

@@ -1,12 +1,12 @@
 -- One more receipt fits, or a cause holds for it.
-use Rattle.std.proofs.Common.{◌≡◌, List, Option, Some, sym, subst}
+use Rattle.std.proofs.Common.{List, Option, Some, sym, subst}
 use Rattle.std.specs.List.{Contains}
 use Rattle.receipt_core.specs.Receipt.{Receipt}
 use Rattle.receipt_core.specs.Acceptance.{IsFitting}
 use Rattle.closure_core.specs.Refusals.{IsOfUnknownDomain}
 use Rattle.closure_core.specs.declared.error.TakeError.{TakeError}
 use Rattle.closure_core.proofs.FitFacts.{fits_known}
-use Rattle.closure_parts.specs.Merge.{RefusesFitOfOne, first_cause_of}
+use Rattle.closure_parts.specs.Merge.{RefusesFitOfOne}
 use Rattle.closure_parts.proofs.MergeFacts.{IsPassed-next, IsPassed-end, IsPassed-has, IsCause, cause_kept, cause_next, cause_refuses, misfit_known}
 use Rattle.closure_parts.proofs.copies.fit_all.Goals as goal
 

@@ -1,10 +1,22 @@
 -- One more is not held.
-use Rattle.std.proofs.Common.{List, ◌∙◌, subst}
+use Rattle.std.proofs.Common.{List, length, ◌≤◌, ◌∙◌, ap, subst, arith}
 use Rattle.std.specs.List.{Contains}
 use Rattle.receipt_core.specs.Receipt.{Receipt}
 use Rattle.closure_parts.specs.Held.{meaning_of}
-use Rattle.closure_parts.proofs.MergeFacts.{IsCounted, IsCounted-new, counted_receipts, lacks_of}
+use Rattle.closure_parts.proofs.MergeFacts.{IsCounted, IsCounted-start, IsCounted-new, counted_receipts, lacks_of}
+use Rattle.receipt_core.proofs.LimitFacts.{receipt_limit-most}
 use Rattle.closure_parts.proofs.copies.new_receipts.Goals as goal
+
+pub loop-receipt-init : goal.loop-receipt-init
+loop-receipt-init c =
+    let all = c.into_iter-receipt-iterator.result in
+    let few : length all ≤ 65536 = omega (
+      arith,
+      ap length (c.into_iter-receipt-iterator.ensures.into_iter_gives ∙ c.receipts-receipt-items.ensures),
+      c.config-other_valid.ensures.valid.few,
+      receipt_limit-most c.args.other.now.config,
+    ) in
+    IsCounted-start c.args.held.now.held all 65536 few
 
 pub loop-receipt-preserved-then-not-holds : goal.loop-receipt-preserved-then-not-holds
 loop-receipt-preserved-then-not-holds c =

@@ -1,10 +1,22 @@
 -- One more is not held.
-use Rattle.std.proofs.Common.{List, ◌∙◌, subst}
+use Rattle.std.proofs.Common.{List, length, ◌≤◌, ◌∙◌, ap, subst, arith}
 use Rattle.std.specs.List.{Contains}
 use Rattle.receipt_core.specs.declared.distrust.Distrust.{Distrust}
 use Rattle.closure_parts.specs.Held.{meaning_of}
-use Rattle.closure_parts.proofs.MergeFacts.{IsCounted, IsCounted-new, counted_records, lacks_of}
+use Rattle.closure_parts.proofs.MergeFacts.{IsCounted, IsCounted-start, IsCounted-new, counted_records, lacks_of}
+use Rattle.receipt_core.proofs.LimitFacts.{record_limit-most}
 use Rattle.closure_parts.proofs.copies.new_records.Goals as goal
+
+pub loop-domain-init : goal.loop-domain-init
+loop-domain-init c =
+    let all = c.into_iter-domain-iterator.result in
+    let few : length all ≤ 4096 = omega (
+      arith,
+      ap length (c.into_iter-domain-iterator.ensures.into_iter_gives ∙ c.distrusts-domain-items.ensures),
+      c.config-other_valid.ensures.valid.few_records,
+      record_limit-most c.args.other.now.config,
+    ) in
+    IsCounted-start c.args.held.now.records all 4096 few
 
 pub loop-domain-preserved-then-not-is_distrusted : goal.loop-domain-preserved-then-not-is_distrusted
 loop-domain-preserved-then-not-is_distrusted c =

@@ -1,8 +1,9 @@
 -- One more is held.
-use Rattle.std.specs.Prelude.{MatchBool}
-use Rattle.receipt_core.specs.Limits.{record_limit}
 use Rattle.std.proofs.Common.{List, ltb, inr, refl, sym, ap, subst, ◌∙◌}
+use Rattle.std.specs.Prelude.{MatchBool}
 use Rattle.receipt_core.specs.declared.distrust.Distrust.{Distrust}
+use Rattle.receipt_core.specs.Limits.{record_limit}
+use Rattle.receipt_core.specs.Acceptance.{Meaning}
 use Rattle.receipt_core.specs.Receipt.{distrust_cmp}
 use Rattle.receipt_core.specs.Rising.{with_items}
 use Rattle.closure_parts.specs.Held.{meaning_of}
@@ -58,5 +59,6 @@ returns-clause-new c =
     c.in-None.ensures.steps.0 in
     subst (λ (xs : List Distrust). MatchBool (ltb c.records_left.result c.records_left-left.result)
     (HasNewRecord start xs) (AreOld start xs)) c.into_iter-domain-iterator.ensures.into_iter_gives
-    (grown_states start now all c.records_left-left.result c.records_left.result record_limit
-    c.loop-domain.invariant.grown held c.records_left-left.ensures c.records_left.ensures)
+    (grown_states start now all c.records_left-left.result c.records_left.result (record_limit start.config)
+    c.loop-domain.invariant.grown held c.records_left-left.ensures
+    (c.records_left.ensures ∙ ap (λ (m : Meaning). record_limit m.config) held))

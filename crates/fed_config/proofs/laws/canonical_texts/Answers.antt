@@ -1,5 +1,6 @@
 use Rattle.fed_config.proofs.CanonicalFacts.{no_floors, one_text, reads_back}
 use Rattle.fed_config.proofs.laws.canonical_texts.Goals as goal
+use Rattle.fed_config.proofs.LimitFacts.{no_limits}
 
 pub returns-clause-one_text : goal.returns-clause-one_text
 returns-clause-one_text c =
@@ -13,3 +14,6 @@ returns-clause-reads_back c =
 
 pub returns-clause-no_floors : goal.returns-clause-no_floors
 returns-clause-no_floors c = no_floors
+
+pub returns-clause-no_limits : goal.returns-clause-no_limits
+returns-clause-no_limits c = no_limits

@@ -1,22 +1,26 @@
 use Rattle.std.proofs.Common.{◌∙◌, ap, refl}
 use Rattle.receipt_core.specs.Acceptance.{Meaning}
+use Rattle.migration.specs.Carry.{config_for}
 use Rattle.migration.proofs.CarryFacts.{carried_over, stops_first, stops_records, stops_receipts}
 use Rattle.migration.proofs.carrying.carry.Goals as goal
 
 pub returns-in_err-closure-clause-stops : goal.returns-in_err-closure-clause-stops
 returns-in_err-closure-clause-stops g c =
-    λ bad. stops_first c.args.choice c.args.config.now (g.C.Closure.state c.args.held.now).meaning (g.E.Sink.contents c.args.lines.now)
+    let m = (g.C.Closure.state c.args.held.now).meaning in
+    λ bad. stops_first c.args.choice (config_for m c.args.config.now) m (g.E.Sink.contents c.args.lines.now)
 
 pub returns-in_err-records-clause-stops : goal.returns-in_err-records-clause-stops
 returns-in_err-records-clause-stops g c =
-    λ bad. stops_records c.args.choice c.args.config.now (g.C.Closure.state c.in_ok-closure.closure).meaning.config
+    let k = config_for (g.C.Closure.state c.args.held.now).meaning c.args.config.now in
+    λ bad. stops_records c.args.choice k (g.C.Closure.state c.in_ok-closure.closure).meaning.config
     (g.C.Closure.state c.args.held.now).meaning (g.E.Sink.contents c.args.lines.now) (g.E.Sink.contents c.carry_records.new.lines)
-    (ap (λ (m : Meaning). m.config) c.in_ok-closure.ensures) (c.in_err-records.ensures.stops refl)
+    (ap (λ (m : Meaning). m.config) c.in_ok-closure.ensures.meaning) (c.in_err-records.ensures.stops refl)
 
 pub returns-in_err-receipts-clause-stops : goal.returns-in_err-receipts-clause-stops
 returns-in_err-receipts-clause-stops g c =
-    let config = ap (λ (m : Meaning). m.config) c.in_ok-closure.ensures in
-    λ bad. stops_receipts c.args.choice c.args.config.now (g.C.Closure.state c.in_ok-closure.closure).meaning.config
+    let k = config_for (g.C.Closure.state c.args.held.now).meaning c.args.config.now in
+    let config = ap (λ (m : Meaning). m.config) c.in_ok-closure.ensures.meaning in
+    λ bad. stops_receipts c.args.choice k (g.C.Closure.state c.in_ok-closure.closure).meaning.config
     (g.C.Closure.state c.carry_records.new.closure).meaning.config
     (g.C.Closure.state c.args.held.now).meaning (g.C.Closure.state c.carry_records.new.closure).meaning.records
     (g.E.Sink.contents c.args.lines.now) (g.E.Sink.contents c.carry_records.new.lines) (g.E.Sink.contents c.carry_chosen.new.lines)
@@ -24,8 +28,9 @@ returns-in_err-receipts-clause-stops g c =
 
 pub returns-clause-carried : goal.returns-clause-carried
 returns-clause-carried g c =
-    let config = ap (λ (m : Meaning). m.config) c.in_ok-closure.ensures in
-    carried_over c.args.choice c.args.config.now (g.C.Closure.state c.in_ok-closure.closure).meaning.config
+    let k = config_for (g.C.Closure.state c.args.held.now).meaning c.args.config.now in
+    let config = ap (λ (m : Meaning). m.config) c.in_ok-closure.ensures.meaning in
+    carried_over c.args.choice k (g.C.Closure.state c.in_ok-closure.closure).meaning.config
     (g.C.Closure.state c.carry_records.new.closure).meaning.config
     (g.C.Closure.state c.args.held.now).meaning (g.C.Closure.state c.carry_chosen.new.closure).meaning
     (g.C.Closure.state c.carry_records.new.closure).meaning.records

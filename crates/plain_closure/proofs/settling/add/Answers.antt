@@ -6,7 +6,7 @@ use Rattle.closure_core.specs.Inside.Nodes.{flags_of}
 use Rattle.plain_closure.specs.Plain.{HasPlainFlags}
 use Rattle.std.proofs.lemmas.List.{length_push}
 use Rattle.closure_parts.proofs.NodeCountFacts.{count-push}
-use Rattle.plain_closure.proofs.PlainChangeFacts.{heads-lowered, raised-as, settled-from, gain-added}
+use Rattle.plain_closure.proofs.PlainChangeFacts.{heads-lowered, heads-few, raised-as, settled-from, gain-added}
 use Rattle.closure_parts.proofs.NodeCountFacts.{flags-push}
 use Rattle.plain_closure.proofs.settling.add.Goals as goal
 
@@ -22,6 +22,12 @@ count_accepted-after-requires-clause-heads c =
     let rel1 = c.place_receipt.new.released.items in
     heads-lowered new p1 low offers rel1 c.place_receipt.ensures.set c.clear-before.ensures.heads
     c.clear-before.ensures.size
+
+pub count_accepted-after-requires-clause-few : goal.count_accepted-after-requires-clause-few
+count_accepted-after-requires-clause-few c =
+    heads-few c.place_receipt.new.held c.place_receipt.new.pairs c.clear-before.new.self
+    c.args.seed_offers.now c.place_receipt.new.released.items c.place_receipt.ensures.set
+    c.config-valid.ensures.form c.config-valid.ensures.size c.clear-before.ensures.heads
 
 pub overflow_sub-result : goal.overflow_sub-result
 overflow_sub-result c =

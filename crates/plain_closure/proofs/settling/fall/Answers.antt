@@ -3,7 +3,7 @@ use Rattle.std.proofs.Common.{◌∙◌, ◌-◌, length, arith, ap}
 use Rattle.fed_config.specs.Configuration.{Configuration}
 use Rattle.closure_core.specs.Inside.Nodes.{flags_of}
 use Rattle.plain_closure.specs.Plain.{HasPlainFlags}
-use Rattle.plain_closure.proofs.PlainChangeFacts.{heads-lowered, raised-as, settled-from, set-closed, loss-fallen}
+use Rattle.plain_closure.proofs.PlainChangeFacts.{heads-lowered, heads-few, raised-as, settled-from, set-closed, loss-fallen}
 use Rattle.plain_closure.proofs.settling.fall.Goals as goal
 
 pub settle-requires-clause-offers : goal.settle-requires-clause-offers
@@ -35,6 +35,19 @@ count_accepted-after-requires-clause-heads c =
     c.config-valid.ensures.valid c.lower.ensures.size in
     heads-lowered new p low offers rel1 set c.clear-before.ensures.heads
     c.clear-before.ensures.size
+
+pub count_accepted-after-requires-clause-few : goal.count_accepted-after-requires-clause-few
+count_accepted-after-requires-clause-few c =
+    let new = c.args.held.now in
+    let p = c.args.pairs.now in
+    let offers = c.args.seed_offers.now in
+    let old = c.args.released.now.items in
+    let b = c.requires.before in
+    let rel1 = c.lower.new.released.items in
+    let set = set-closed b.old new b.more p offers old rel1 b.settled.set b.before
+    c.config-valid.ensures.valid c.lower.ensures.size in
+    heads-few new p c.clear-before.new.self offers rel1 set c.config-valid.ensures.form
+    c.config-valid.ensures.size c.clear-before.ensures.heads
 
 pub overflow_sub-result : goal.overflow_sub-result
 overflow_sub-result c =

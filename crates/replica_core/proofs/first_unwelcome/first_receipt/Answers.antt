@@ -13,6 +13,7 @@ use Rattle.replica_core.specs.Inside.Earlier.{Front, passed}
 use Rattle.replica_core.proofs.EarlierFacts.{front-next}
 use Rattle.replica_core.proofs.UnwelcomeFacts.{all-push, misfit-refused, places-next, receipt-judged, receipt-refused, take-next}
 use Rattle.replica_core.proofs.first_unwelcome.first_receipt.Goals as goal
+use Rattle.receipt_core.specs.Limits.{receipt_limit}
 
 pub returns-in-Err : goal.returns-in-Err
 returns-in-Err g c = λ records.
@@ -33,9 +34,9 @@ returns-in-None g c = λ records.
     let rs = c.args.receipts.now in
     let r = c.receipt-item.result in
     let same = c.loop-receipt.invariant.place in
-    let none : HasNoPlace 65536 (with_items receipt_cmp (take c.loop-receipt.place rs) m.held) r =
-    subst (λ i. HasNoPlace 65536 (with_items receipt_cmp (take i rs) m.held) r) (sym same)
-    (subst (λ (f : Front Receipt). HasNoPlace 65536 (with_items receipt_cmp (passed f) m.held) r) c.loop-receipt.invariant.front c.in-None.ensures.place) in
+    let none : HasNoPlace (receipt_limit m.config) (with_items receipt_cmp (take c.loop-receipt.place rs) m.held) r =
+    subst (λ i. HasNoPlace (receipt_limit m.config) (with_items receipt_cmp (take i rs) m.held) r) (sym same)
+    (subst (λ (f : Front Receipt). HasNoPlace (receipt_limit m.config) (with_items receipt_cmp (passed f) m.held) r) c.loop-receipt.invariant.front c.in-None.ensures.place) in
     receipt-refused m rs c.loop-receipt.place r Full (omega (arith, same, c.loop-receipt-test.true))
     (subst (λ i. get_or rs i r ≡ r) (sym same) (sym c.receipt-item.is))
     (subst (λ i. AreWelcome m (of_receipts (take i rs))) (sym same) (c.loop-receipt.invariant.welcome records))
@@ -55,16 +56,16 @@ loop-receipt-preserved g c =
     let same = c.loop-receipt.invariant.place in
     let own : c.config-config.result.now ≡ m.config = c.config-config.ensures.config in
     let at : get_or rs i r ≡ r = sym c.receipt-item.is in
-    let has : HasPlace receipt_cmp 65536 (with_items receipt_cmp (take c.loop-receipt.receipt-index rs) m.held) r
+    let has : HasPlace receipt_cmp (receipt_limit m.config) (with_items receipt_cmp (take c.loop-receipt.receipt-index rs) m.held) r
     (length rs - c.loop-receipt.receipt-index) c.in-Some.more =
-    subst (λ j. HasPlace receipt_cmp 65536 (with_items receipt_cmp (take c.loop-receipt.receipt-index rs) m.held) r (length rs - j) c.in-Some.more) same
-    (subst (λ (f : Front Receipt). HasPlace receipt_cmp 65536 (with_items receipt_cmp (passed f) m.held) r (length rs - c.loop-receipt.place) c.in-Some.more)
+    subst (λ j. HasPlace receipt_cmp (receipt_limit m.config) (with_items receipt_cmp (take c.loop-receipt.receipt-index rs) m.held) r (length rs - j) c.in-Some.more) same
+    (subst (λ (f : Front Receipt). HasPlace receipt_cmp (receipt_limit m.config) (with_items receipt_cmp (passed f) m.held) r (length rs - c.loop-receipt.place) c.in-Some.more)
     c.loop-receipt.invariant.front c.in-Some.ensures.place) in
     record {
       place = omega (arith, same);
       front = front-next c.loop-receipt.before c.place_for_receipt.new.before rs c.loop-receipt.receipt-index
           c.loop-receipt.invariant.front c.place_for_receipt.ensures.items c.place_for_receipt.ensures.count;
-      places = places-next receipt_cmp 65536 rs m.held i c.in-Some.more r c.loop-receipt-test.true at has.after;
+      places = places-next receipt_cmp (receipt_limit m.config) rs m.held i c.in-Some.more r c.loop-receipt-test.true at has.after;
       welcome = λ records. receipt-judged (record m { records = records }) rs i r c.loop-receipt-test.true at (c.loop-receipt.invariant.welcome records)
           (subst IsConfiguration own c.domains-form.ensures.form) (subst (λ (k : Configuration). IsFitting k r) own c.in_default.ensures.fits) has.place;
       forms = subst (λ (xs : List Receipt). AllByRecursion IsReceipt xs)

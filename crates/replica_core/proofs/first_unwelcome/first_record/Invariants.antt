@@ -5,6 +5,7 @@ use Rattle.receipt_core.specs.Rising.{with_items}
 use Rattle.replica_core.specs.Absorbing.{AreWelcome, of_records}
 use Rattle.replica_core.specs.Inside.FreePlaces.{HasPlaces}
 use Rattle.replica_core.proofs.first_unwelcome.first_record.Given as goal
+use Rattle.receipt_core.specs.Limits.{record_limit}
 
 abbrev pub invariant-loop-record : goal.invariant-loop-record
 invariant-loop-record g l =
@@ -12,6 +13,6 @@ invariant-loop-record g l =
     record {
       place : l.place ≡ l.record-index;
       front : l.before ≡ record { items = l.records; count = l.record-index };
-      places : HasPlaces 4096 (length (with_items distrust_cmp (take l.record-index l.records) m.records)) l.free (length l.records - l.record-index);
+      places : HasPlaces (record_limit m.config) (length (with_items distrust_cmp (take l.record-index l.records) m.records)) l.free (length l.records - l.record-index);
       welcome : AreWelcome m (of_records (take l.record-index l.records));
     }

@@ -2,6 +2,7 @@ use Rattle.std.proofs.Common.{◌≡◌, List, ap, arith, length, rules, subst, 
 use Rattle.std.specs.List.{AllByRecursion}
 use Rattle.receipt_core.specs.Acceptance.{IsFitting}
 use Rattle.receipt_core.specs.Receipt.{Receipt}
+use Rattle.receipt_core.proofs.LimitFacts.{receipt_limit-most}
 use Rattle.reseeding.proofs.StayFacts.{stay_all, stay_more, stay_none, stay_passed, stay_room}
 use Rattle.reseeding.proofs.staying.count_staying.Goals as goal
 
@@ -19,7 +20,7 @@ overflow_add-count g c =
     let room = stay_room m _ _ c.in-Some.receipt.now _ c.receipts.count c.in-Some.ensures.steps c.receipts.invariant in
     let size = ap length all in
     let few = c.config-valid.ensures.valid.few in
-    omega (arith, room, size, few)
+    omega (arith, room, size, few, receipt_limit-most m.config)
 
 pub receipts-preserved-then-is_staying : goal.receipts-preserved-then-is_staying
 receipts-preserved-then-is_staying g c =

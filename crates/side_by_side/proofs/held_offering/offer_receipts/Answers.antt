@@ -1,6 +1,7 @@
 use Rattle.std.proofs.Common.{◌≡◌, List, sym, subst, ap, length, rules, arith}
 use Rattle.std.specs.List.{AllByRecursion}
 use Rattle.receipt_core.specs.Receipt.{Receipt, IsReceipt, line}
+use Rattle.receipt_core.proofs.LimitFacts.{receipt_limit-most}
 use Rattle.replica_core.specs.declared.entry.Entry.TheVariants.{Receipt as AReceipt}
 use Rattle.side_by_side.specs.Offering.{as_kept}
 use Rattle.side_by_side.proofs.HeldOfferFacts.{item_form, item_more, item_none, item_place, own_line}
@@ -18,8 +19,9 @@ count_line-offered-requires g c =
     c.args.before c.receipts.offered c.receipts.invariant c.in-Some.ensures.steps in
     let size = ap length all in
     let few = c.config-valid.ensures.valid.few in
+    let most = receipt_limit-most (g.C.Closure.state c.args.from.now).meaning.config in
     let first = c.requires in
-    omega (arith, place, size, few, first)
+    omega (arith, place, size, few, most, first)
 
 pub receipts-preserved : goal.receipts-preserved
 receipts-preserved g c =

@@ -14,9 +14,17 @@ returns c =
     (two c.extend_from_slice-2.new.self.items
     (decimal c.args.status.now.receipts) _ _ _ c.in_ok-push_number.ensures
     (two c.push_number.new.out.items
-    (codes ",\"receipt_limit\":65536,\"pending\":") _ _ _ c.in_ok-extend_from_slice-3.ensures.items
+    (codes ",\"receipt_limit\":") _ _ _ c.in_ok-extend_from_slice-3.ensures.items
     (two c.extend_from_slice-3.new.self.items
-    (decimal c.args.status.now.pending) _ _ _ c.in_ok-push_number-2.ensures
-    (two c.push_number-2.new.out.items (codes ",\"record_limit\":4096,\"records\":")
-    (decimal c.args.status.now.records) _ _ c.in_ok-extend_from_slice-4.ensures.items
-    c.in_ok-push_number-3.ensures))))))
+    (decimal c.args.status.now.receipt_limit) _ _ _ c.in_ok-push_number-2.ensures
+    (two c.push_number-2.new.out.items
+    (codes ",\"pending\":") _ _ _ c.in_ok-extend_from_slice-4.ensures.items
+    (two c.extend_from_slice-4.new.self.items
+    (decimal c.args.status.now.pending) _ _ _ c.in_ok-push_number-3.ensures
+    (two c.push_number-3.new.out.items
+    (codes ",\"record_limit\":") _ _ _ c.in_ok-extend_from_slice-5.ensures.items
+    (two c.extend_from_slice-5.new.self.items
+    (decimal c.args.status.now.record_limit) _ _ _ c.in_ok-push_number-4.ensures
+    (two c.push_number-4.new.out.items (codes ",\"records\":")
+    (decimal c.args.status.now.records) _ _ c.in_ok-extend_from_slice-6.ensures.items
+    c.in_ok-push_number-5.ensures))))))))))

@@ -3,6 +3,7 @@ use Rattle.std.proofs.Common.{◌≡◌, ◌++◌, ◌∷◌, ◌+◌, ◌-◌, 
 use Rattle.std.specs.List.{All}
 use Rattle.std.proofs.lemmas.List.{take_rest, length-take, length-drop}
 use Rattle.std.proofs.lemmas.List.Elements.{All-drop}
+use Rattle.receipt_core.proofs.LimitFacts.{receipt_limit-most}
 use Rattle.closure_core.specs.Inside.Flags.{raised_count}
 use Rattle.closure_core.specs.Inside.Nodes.{flags_of, count_at}
 use Rattle.closure_parts.specs.NodeCounts.{AddsNodes}
@@ -48,6 +49,7 @@ raise-requires-clause-few c n =
       marked-few h c.place_receipt.new.pairs w c.place_receipt.ensures.built,
       c.config-few.ensures.form.few_seeds,
       c.config-few.ensures.valid.few,
+      receipt_limit-most h.config,
       c.config-few.ensures.size,
     )
 

@@ -3,6 +3,7 @@ use Rattle.std.proofs.Common.{◌<◌, ◌∷◌, [], List, ℕ, length, arith, 
 use Rattle.std.specs.Prelude.{◌↔◌}
 use Rattle.fed_config.specs.Configuration.{Configuration, AreDomains}
 use Rattle.receipt_core.specs.declared.distrust.Distrust.{Distrust}
+use Rattle.receipt_core.proofs.LimitFacts.{receipt_limit-most}
 use Rattle.label_index.specs.declared.label.Label.{Label}
 use Rattle.label_index.specs.Labels.{IsOfKey, Closes}
 use Rattle.closure_parts.specs.Held.{IsShutBy}
@@ -40,7 +41,13 @@ recount-lost-requires-clause-few c =
       ap (λ (k : Configuration). length k.seeds)
           b.before.config,
     ))
-    (omega (arith, c.config.ensures.valid.few, c.config.ensures.size, ap length b.before.arrived))
+    (omega (
+      arith,
+      c.config.ensures.valid.few,
+      receipt_limit-most c.args.held.now.config,
+      c.config.ensures.size,
+      ap length b.before.arrived,
+    ))
 
 pub returns-clause-indexed : goal.returns-clause-indexed
 returns-clause-indexed c =

@@ -1,6 +1,7 @@
 -- The labels of distrusted keys are closed, and what fell is no longer counted.
 use Rattle.std.proofs.Common.{List, ℕ, length, arith, sym, ap, subst}
 use Rattle.fed_config.specs.Configuration.{Configuration, AreDomains}
+use Rattle.receipt_core.proofs.LimitFacts.{receipt_limit-most}
 use Rattle.label_index.specs.Labels.{Closes}
 use Rattle.closure_parts.specs.Held.{HeldReceipts}
 use Rattle.closure_parts.specs.NodeCounts.{AreCounts}
@@ -39,6 +40,7 @@ recount-requires-clause-few c =
     (omega (
       arith,
       c.config-valid.ensures.valid.few,
+      receipt_limit-most c.args.held.now.config,
       c.config-valid.ensures.size,
       ap length
           b.before.arrived,

@@ -36,13 +36,13 @@ returns-clause-meaning c =
     } = λ i. record { domain = domains i; key = record { 0 = keys i } } in
     let answer = c.answer_of.ensures in
     subst (λ r. AddsOrRefuses (meaning_of c.args.self.now) (record { domain = c.args.domain.now; key = c.args.key })
-    (meaning_with c.self.inside.config (in_order c.self.inside.receipts) c.add.new.self) r) (sym answer)
+    (meaning_with c.self.inside.config (in_order c.self.inside.receipts) c.add.new.self.records) r) (sym answer)
     (subst (λ (h : HeldReceipts). AddsOrRefuses (meaning_of h) (record { domain = c.args.domain.now; key = c.args.key })
-    (meaning_with c.self.inside.config (in_order c.self.inside.receipts) c.add.new.self)
+    (meaning_with c.self.inside.config (in_order c.self.inside.receipts) c.add.new.self.records)
     (addition_result c.add.result)) c.self.view_is
     (subst (λ (d : Distrust). AddsOrRefuses
-    (meaning_with c.self.inside.config (in_order c.self.inside.receipts) c.self.inside.records) d
-    (meaning_with c.self.inside.config (in_order c.self.inside.receipts) c.add.new.self)
+    (meaning_with c.self.inside.config (in_order c.self.inside.receipts) c.self.inside.records.records) d
+    (meaning_with c.self.inside.config (in_order c.self.inside.receipts) c.add.new.self.records)
     (addition_result c.add.result)) same
     (added_or_refused c.self.inside.config (in_order c.self.inside.receipts) c.self.inside.records c.add.new.self
-    c.record_of.result below c.self.invariant.within c.add.result c.add.ensures)))
+    c.record_of.result below c.self.invariant.within c.self.invariant.limit c.add.result c.add.ensures)))

@@ -9,6 +9,7 @@ use Rattle.sorted_order.specs.Sought.{IsMissing, IsGap}
 use Rattle.closure_parts.specs.Held.{HeldReceipts, IsWellHeld, AreBucketed, bucket_cmp, capacity_with}
 use Rattle.closure_parts.proofs.HeldFacts.{bucket_sought, length_in_order, missing_inserts, bucketed_more, hoard_more}
 use Rattle.closure_parts.proofs.held.Held.insert.Goals as goal
+use Rattle.receipt_core.specs.Limits.{receipt_limit}
 
 pub before-spot-requires-clause-rising : goal.before-spot-requires-clause-rising
 before-spot-requires-clause-rising c =
@@ -34,8 +35,8 @@ invariant_of-self c =
     subst (λ (h : HeldReceipts). IsMissing (λ s. receipt_cmp s c.args.receipt) h.held c.args.place) (sym c.self.view_is) c.requires.absent.missing in
     let fits : IsFitting c.self.inside.config c.args.receipt =
     subst (λ (h : HeldReceipts). IsFitting h.config c.args.receipt) (sym c.self.view_is) c.requires.absent.fits in
-    let few : length (in_order c.self.inside.receipts) < 65536 =
-    subst (λ (h : HeldReceipts). length h.held < 65536) (sym c.self.view_is) c.requires.absent.few in
+    let few : length (in_order c.self.inside.receipts) < receipt_limit c.self.inside.config =
+    subst (λ (h : HeldReceipts). length h.held < receipt_limit h.config) (sym c.self.view_is) c.requires.absent.few in
     let size : length (in_order c.self.inside.receipts) ≡ length c.self.inside.receipts.items =
     length_in_order c.self.inside.receipts c.self.invariant.arranged in
     let gap : IsGap (λ n. compared_at (λ x. bucket_cmp x c.args.receipt) c.self.inside.receipts.items n) c.in-Some.buckets.items c.before-spot.result =
@@ -86,8 +87,8 @@ invariant_of-self-in-None c =
     subst (λ (h : HeldReceipts). IsMissing (λ s. receipt_cmp s c.args.receipt) h.held c.args.place) (sym c.self.view_is) c.requires.absent.missing in
     let fits : IsFitting c.self.inside.config c.args.receipt =
     subst (λ (h : HeldReceipts). IsFitting h.config c.args.receipt) (sym c.self.view_is) c.requires.absent.fits in
-    let few : length (in_order c.self.inside.receipts) < 65536 =
-    subst (λ (h : HeldReceipts). length h.held < 65536) (sym c.self.view_is) c.requires.absent.few in
+    let few : length (in_order c.self.inside.receipts) < receipt_limit c.self.inside.config =
+    subst (λ (h : HeldReceipts). length h.held < receipt_limit h.config) (sym c.self.view_is) c.requires.absent.few in
     let size : length (in_order c.self.inside.receipts) ≡ length c.self.inside.receipts.items =
     length_in_order c.self.inside.receipts c.self.invariant.arranged in
     hoard_more c.self.inside.config c.self.inside.receipts c.insert_with_hint.new.self c.self.inside.buckets

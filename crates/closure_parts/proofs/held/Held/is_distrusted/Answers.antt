@@ -27,13 +27,13 @@ returns-in-Some c =
       key = c.args.key;
     } = λ i. record { domain = domains i; key = record { 0 = keys i } } in
     subst (λ (h : HeldReceipts). IsTrue c.holds.result ↔ Contains h.records (record { domain = c.args.domain.now; key = c.args.key })) c.self.view_is
-    (subst (λ (d : Distrust). IsTrue c.holds.result ↔ Contains (distrusts_of (domains_of c.self.inside.config) c.self.inside.records) d) same
-    (distrust_held c.self.inside.config c.self.inside.records c.record_of.result c.holds.result below c.self.invariant.within c.holds.ensures))
+    (subst (λ (d : Distrust). IsTrue c.holds.result ↔ Contains (distrusts_of (domains_of c.self.inside.config) c.self.inside.records.records) d) same
+    (distrust_held c.self.inside.config c.self.inside.records.records c.record_of.result c.holds.result below c.self.invariant.within c.holds.ensures))
 
 pub returns-in-None : goal.returns-in-None
 returns-in-None c = (
   λ t. absurd (cc),
-  λ has. absurd (distrust_lacks c.self.inside.config c.self.inside.records
+  λ has. absurd (distrust_lacks c.self.inside.config c.self.inside.records.records
       (record { domain = c.args.domain.now; key = c.args.key }) c.self.invariant.within c.in-None.ensures
       (subst (λ (h : HeldReceipts). Contains h.records (record { domain = c.args.domain.now; key = c.args.key })) (sym c.self.view_is) has)),
 )

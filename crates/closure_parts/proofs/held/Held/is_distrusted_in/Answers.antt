@@ -10,7 +10,7 @@ use Rattle.closure_parts.proofs.held.Held.is_distrusted_in.Goals as goal
 pub returns : goal.returns
 returns c =
     let config = c.self.inside.config in
-    let records = c.self.inside.records in
+    let records = c.self.inside.records.records in
     let x : Record = record { key = c.args.key; domain = c.args.domain } in
     let held = λ (l : c.args.domain < length (domains_of config)).
     distrust_held config records x c.holds.result l c.self.invariant.within c.holds.ensures in

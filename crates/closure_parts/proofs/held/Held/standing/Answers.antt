@@ -12,6 +12,7 @@ use Rattle.closure_parts.specs.Held.{HeldReceipts, RefusesNew, meaning_of, domai
 use Rattle.closure_core.proofs.RisingFacts.{sought}
 use Rattle.closure_parts.proofs.HeldFacts.{misfit_repels, found_held, missing_lacks, length_in_order}
 use Rattle.closure_parts.proofs.held.Held.standing.Goals as goal
+use Rattle.receipt_core.specs.Limits.{receipt_limit}
 
 -- the receipt fits the configuration of what is held
 abbrev Fits : HeldReceipts → Receipt → Type 0
@@ -38,7 +39,7 @@ returns-in-Err c =
       config = c.self.inside.config;
       held = in_order c.self.inside.receipts;
       records =
-          distrusts_of (domains_of c.self.inside.config) c.self.inside.records;
+          distrusts_of (domains_of c.self.inside.config) c.self.inside.records.records;
     }) c.args.receipt.now c.in-Err.why
     c.in-Err.ensures.fits)
 
@@ -49,12 +50,12 @@ returns-in-Err-find_by_guess c =
     c.new-sought.ensures c.in-Err-find_by_guess.ensures in
     let size : length (in_order c.self.inside.receipts) ≡ length c.self.inside.receipts.items =
     length_in_order c.self.inside.receipts c.self.invariant.arranged in
-    let full : 65536 ≤ length (in_order c.self.inside.receipts) = omega arith in
+    let full : receipt_limit c.self.inside.config ≤ length (in_order c.self.inside.receipts) = omega arith in
     record {
       fits = subst (λ (h : HeldReceipts). Fits h c.args.receipt.now) c.self.view_is c.in_default.ensures.fits;
       unheld = λ has. missing_lacks (in_order c.self.inside.receipts) c.args.receipt.now c.in-Err-find_by_guess.field-0 missing
           (subst (λ (h : HeldReceipts). Contains h.held c.args.receipt.now) (sym c.self.view_is) has);
-      full = subst (λ (h : HeldReceipts). 65536 ≤ length h.held) c.self.view_is full;
+      full = subst (λ (h : HeldReceipts). receipt_limit h.config ≤ length h.held) c.self.view_is full;
     }
 
 pub returns-in-Err-2 : goal.returns-in-Err-2
@@ -64,12 +65,12 @@ returns-in-Err-2 c =
     c.new-sought.ensures c.in-Err-find_by_guess.ensures in
     let size : length (in_order c.self.inside.receipts) ≡ length c.self.inside.receipts.items =
     length_in_order c.self.inside.receipts c.self.invariant.arranged in
-    let few : length (in_order c.self.inside.receipts) < 65536 = omega arith in
+    let few : length (in_order c.self.inside.receipts) < receipt_limit c.self.inside.config = omega arith in
     record {
       is = c.check_fit.ensures.form;
       fits = subst (λ (h : HeldReceipts). Fits h c.args.receipt.now) c.self.view_is c.in_default.ensures.fits;
       unheld = λ has. missing_lacks (in_order c.self.inside.receipts) c.args.receipt.now c.in-Err-find_by_guess.field-0 missing
           (subst (λ (h : HeldReceipts). Contains h.held c.args.receipt.now) (sym c.self.view_is) has);
-      few = subst (λ (h : HeldReceipts). length h.held < 65536) c.self.view_is few;
+      few = subst (λ (h : HeldReceipts). length h.held < receipt_limit h.config) c.self.view_is few;
       missing = subst (λ (h : HeldReceipts). IsMissing (λ s. receipt_cmp s c.args.receipt.now) h.held c.in-Err-find_by_guess.field-0) c.self.view_is missing;
     }
