@@ -1,7 +1,9 @@
 """Receipts, snapshots and a configuration, always the same: a chain of documents, each under the key of the one before."""
 import base64
 import hashlib
+import heapq
 import random
+import tempfile
 
 from texts import url_text
 
@@ -9,6 +11,10 @@ DOMAIN = "a.example"
 ENDPOINT = "spiffe://a.example/bundle"
 SIZES = {"small": [16_384, 65_536], "usual": [4_096, 16_384]}
 KINDS = list(SIZES)
+# How many receipts a state holds if nothing else is said.
+USUAL_LIMIT = 65_536
+# So many bytes of lines are sorted in memory at once.
+PART_BYTES = 268_435_456
 
 
 def rsa(der, n):
@@ -91,9 +97,44 @@ def write_receipts(folder, kind, count):
 def write_snapshot(folder, kind, count):
     path = folder / f"{kind}-{count}.snapshot"
     if not path.exists():
-        digest = hashlib.sha256(config_text().encode()).hexdigest()
-        with path.open("w") as file:
-            file.write(f'{{"config":"{digest}","format":2}}\n')
-            file.writelines(sorted(lines(kind, count)))
-            file.write(f'{{"count":{count},"distrusts":0}}\n')
+        write_state(path, kind, count)
     return path
+
+
+def write_state(path, kind, count):
+    """A state file with this many receipts. The last line of their chain is returned."""
+    digest = hashlib.sha256(config_text().encode()).hexdigest()
+    with path.open("w") as file:
+        file.write(f'{{"config":"{digest}","format":2}}\n')
+        last = write_sorted(file, lines(kind, count), path.parent)
+        file.write(f'{{"count":{count},"distrusts":0}}\n')
+    return last
+
+
+def write_sorted(file, lines_, folder):
+    """Writes the lines in order, and returns the one that came last. If there are many, sorted parts of them are put in
+    files of the folder, so that not all are in memory."""
+    parts, part, length, last = [], [], 0, ""
+    for last in lines_:
+        part.append(last)
+        length += len(last)
+        if length >= PART_BYTES:
+            parts.append(sorted_part(part, folder))
+            part, length = [], 0
+    file.writelines(heapq.merge(*parts, sorted(part)))
+    for done in parts:
+        done.close()
+    return last
+
+
+def sorted_part(part, folder):
+    """A file without a name that has the lines in order."""
+    file = tempfile.TemporaryFile("w+", dir=folder)
+    file.writelines(sorted(part))
+    file.seek(0)
+    return file
+
+
+def limit_words(count):
+    """The arguments with which a command may hold this many receipts: none if it may anyway."""
+    return ["--most-receipts", str(count)] if count > USUAL_LIMIT else []

@@ -12,28 +12,28 @@ _fedbundle() {
             COMPREPLY=($(compgen -f -- "$word"))
             return
             ;;
-        --allow|--domain|--endpoint|--every|--expires-within|--format|--health|--key|--listen|--most-bytes|--most-request-bytes|--now|--peer|--peer-quiet|--peers|--public-key|--sessions|--wait) return ;;
+        --allow|--domain|--endpoint|--every|--expires-within|--format|--health|--key|--listen|--most-bytes|--most-receipts|--most-records|--most-request-bytes|--now|--peer|--peer-quiet|--peers|--public-key|--sessions|--wait) return ;;
     esac
     case ${COMP_WORDS[1]} in
         canon) words='--domain --format --verbose --help' ;;
         config) words='--config --with --format --wait --verbose --at --help' ;;
-        new) words='--config --state --wait --verbose --help' ;;
-        report) words='--config --state --format --new --wait --verbose --at --help' ;;
-        list) words='--config --state --domain --keys --format --new --wait --verbose --at --help' ;;
-        diff) words='--config --state --with --new --wait --verbose --at --help' ;;
-        graph) words='--config --state --domain --new --wait --verbose --at --help' ;;
-        status) words='--config --state --format --now --expires-within --peer-quiet --polls --new --wait --verbose --at --help' ;;
-        bundle) words='--config --state --domain --format --wait --verbose --at --help' ;;
-        explain) words='--config --state --domain --short --format --wait --verbose --at --help' ;;
-        observe) words='--config --state --domain --endpoint --key --wait --verbose --at --help' ;;
-        merge) words='--config --state --wait --most-bytes --verbose --at --help' ;;
-        migrate) words='--config --state --to --records-only --wait --verbose --at --help' ;;
-        reseed) words='--config --state --allow --floors --wait --verbose --at --help' ;;
-        polls) words='--config --state --now --format --wait --verbose --at --help' ;;
-        distrust) words='--config --state --domain --key --public-key --dry-run --new --wait --verbose --at --help' ;;
-        serve) words='--config --state --listen --sessions --verbose --help' ;;
-        pull) words='--config --state --peer --wait --most-bytes --verbose --help' ;;
-        replica) words='--config --previous --state --socket --read-socket --listen --health --audit --listen-anywhere --peers --every --peer-quiet --expires-within --most-bytes --most-request-bytes --new --verbose --help' ;;
+        new) words='--config --state --wait --most-receipts --most-records --verbose --help' ;;
+        report) words='--config --state --format --new --wait --most-receipts --most-records --verbose --at --help' ;;
+        list) words='--config --state --domain --keys --format --new --wait --most-receipts --most-records --verbose --at --help' ;;
+        diff) words='--config --state --with --new --wait --most-receipts --most-records --verbose --at --help' ;;
+        graph) words='--config --state --domain --new --wait --most-receipts --most-records --verbose --at --help' ;;
+        status) words='--config --state --format --now --expires-within --peer-quiet --polls --new --wait --most-receipts --most-records --verbose --at --help' ;;
+        bundle) words='--config --state --domain --format --wait --most-receipts --most-records --verbose --at --help' ;;
+        explain) words='--config --state --domain --short --format --wait --most-receipts --most-records --verbose --at --help' ;;
+        observe) words='--config --state --domain --endpoint --key --wait --most-receipts --most-records --verbose --at --help' ;;
+        merge) words='--config --state --wait --most-bytes --most-receipts --most-records --verbose --at --help' ;;
+        migrate) words='--config --state --to --records-only --wait --most-receipts --most-records --verbose --at --help' ;;
+        reseed) words='--config --state --allow --floors --wait --most-receipts --most-records --verbose --at --help' ;;
+        polls) words='--config --state --now --format --wait --most-receipts --most-records --verbose --at --help' ;;
+        distrust) words='--config --state --domain --key --public-key --dry-run --new --wait --most-receipts --most-records --verbose --at --help' ;;
+        serve) words='--config --state --listen --sessions --most-receipts --most-records --verbose --help' ;;
+        pull) words='--config --state --peer --wait --most-bytes --most-receipts --most-records --verbose --help' ;;
+        replica) words='--config --previous --state --socket --read-socket --listen --health --audit --listen-anywhere --peers --every --peer-quiet --expires-within --most-bytes --most-receipts --most-records --most-request-bytes --new --verbose --help' ;;
         stop) words='--wait --verbose --at --help' ;;
         help) words='canon config new report list diff graph status bundle explain observe merge migrate reseed polls distrust serve pull replica stop help' ;;
         *) return ;;

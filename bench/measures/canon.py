@@ -32,7 +32,7 @@ def public_key(random_, kty):
 
 
 def x509(random_, kty):
-    """An element with random bytes in a certificate's place, as many as one of its key type has."""
+    """An element with random bytes in a certificate's place, of the length that its key type has."""
     count = random_.randint(860, 900) if kty == "RSA" else random_.randint(480, 520)
     der = base64.b64encode(random_.randbytes(count)).decode()
     return {"use": "x509-svid", **public_key(random_, kty), "x5c": [der]}

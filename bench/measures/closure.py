@@ -1,10 +1,14 @@
 """Measures `trust_closure` and plain Rust that gives the same answers, both built here, run in turn.
 
-arguments: [TURNS [PART..]]    TURNS is how often each program takes each set; 5 if left out
+arguments: [TURNS [PART|SIZE|SHAPE..]]
+                           TURNS is how often each program takes each set; 5 if left out
                            PART is one of: takes double merges singly alike whole; all but the last if left out
+                           SIZE is how many receipts there are, in rising order; the usual ones if left out
+                           SHAPE is one of those of takes; all but `usual` if left out
 """
 import base64
 import hashlib
+import itertools
 import json
 import random
 import statistics
@@ -12,10 +16,12 @@ import tempfile
 from pathlib import Path
 
 from building import build_peer, build_with_earlier, own_rows, run, stop
+from receipts import document as document_of, usual as usual_authorities
 
 SIZES = [4_096, 16_384, 65_536]
 DOUBLES = [16_384, 32_768, 65_536]
 RECORDS = [256, 1_024, 4_096]
+PARTS = ["takes", "double", "merges", "singly", "alike", "whole"]
 SAMPLE = 64
 RING = 16
 LEAVES = 8
@@ -80,6 +86,17 @@ def forward(count):
         last = text
 
 
+def usual(count):
+    """As `forward`, with the authorities of usual bundles beside the common one."""
+    random_ = random.Random(f"usual {count}")
+    last = SEED
+    for sequence in range(2, count + 1):
+        authorities, _ = usual_authorities(random_)
+        text = document_of([authority(COMMON), *authorities], sequence)
+        yield receipt(text, last, COMMON)
+        last = text
+
+
 def reverse(count):
     return reversed(list(forward(count)))
 
@@ -131,15 +148,14 @@ def rings(count):
     yield from entries
 
 
-# Each shape with its sizes. Receipts of forty keys take some 17 KB each in memory.
-SHAPES = [
-    ("chain", forward, SIZES),
-    ("reversed", reverse, SIZES),
-    ("star", star, SIZES),
-    ("shuffled", shuffled, SIZES),
-    ("rings", rings, SIZES),
-    ("wide", wide, SIZES[:2]),
-]
+SHAPES = {"chain": forward, "reversed": reverse, "star": star, "shuffled": shuffled, "rings": rings, "wide": wide, "usual": usual}
+USUAL_SHAPES = [name for name in SHAPES if name != "usual"]
+# Receipts of forty keys take some 17 KB each in memory, so they are left out at the largest size, and above this one.
+MOST_WIDE = 65_536
+
+
+def sizes_of(name, sizes):
+    return [size for size in sizes[:-1] if size <= MOST_WIDE] if name == "wide" else sizes
 
 
 def both_ways(last, sequences):
@@ -152,20 +168,26 @@ def both_ways(last, sequences):
 
 
 def write(path, seed, receipts, certificates):
-    """The configuration with its one document, the receipts, and a record of distrust for each certificate."""
-    write_with(path, seed, receipts, map(record, certificates))
+    """The configuration with its one document, the receipts, and a record of distrust for each certificate. Returns how
+    many receipts there are."""
+    return write_with(path, seed, receipts, map(record, certificates))
 
 
 def write_with(path, seed, receipts, records):
     config = {"relationships": [RELATIONSHIP], "seeds": [{"bundle": json.loads(seed), "domain": DOMAIN}]}
-    path.write_text("".join(f"{line}\n" for line in [json.dumps(config), *receipts, *records]))
+    count = 0
+    with path.open("w") as file:
+        file.write(json.dumps(config) + "\n")
+        for count, line in enumerate(receipts, 1):
+            file.write(line + "\n")
+        file.writelines(f"{line}\n" for line in records)
+    return count
 
 
 def write_shape(path, make, count):
     """The receipts of a shape, and records of the keys that nothing rests on, of the rare ones, and of the common one."""
-    receipts = [*LEAF_LINES, *make(count + 1 - LEAVES)]
-    write(path, SEED, receipts, [*IDLE, *RARE, COMMON])
-    return len(receipts)
+    receipts = itertools.chain(LEAF_LINES, make(count + 1 - LEAVES))
+    return write(path, SEED, receipts, [*IDLE, *RARE, COMMON])
 
 
 def write_double(path, count, shuffles):
@@ -178,13 +200,13 @@ def write_double(path, count, shuffles):
     return len(receipts)
 
 
-def write_fan(path, records, shuffles):
-    """A full store: one document under each of 4,097 keys of the configured one, a double chain from there on, and
-    records of some of those keys. On each of them the whole chain rests, and it is reached otherwise too."""
+def write_fan(path, full, records, shuffles):
+    """A store of so many receipts: one document under each of 4,097 keys of the configured one, a double chain from there
+    on, and records of some of those keys. On each of them the whole chain rests, and it is reached otherwise too."""
     seed = document(1, *FAN)
     first = document(2, COMMON, OTHER)
     receipts = [receipt(first, seed, certificate) for certificate in FAN]
-    left = SIZES[-1] - len(receipts)
+    left = full - len(receipts)
     receipts += both_ways(first, range(3, left // 2 + 3))
     if shuffles:
         random.Random(left).shuffle(receipts)
@@ -245,41 +267,44 @@ def measure(programs, turns, add):
     return found
 
 
-ROW = "{:<9} {:>8} | {:>6} {:>6} | {:>6} {:>6} {:>5} | {:>5} {:>5} | {:>5} {:>5} | {:>5} {:>5} {:>5} | {:>5} {:>5}"
+ROW = "{:<9} {:>8} | {:>6} {:>6} | {:>6} {:>6} {:>5} | {:>5} {:>5} | {:>5} {:>5}"
+ROW += " | {:>5} {:>6} | {:>5} {:>6} {:>5} | {:>5} {:>5}"
 
 
-def print_takes(programs, path, turns):
+def print_takes(programs, path, turns, sizes, shapes):
     print("\nTakes and a distrust that reaches all: ns for each receipt. Growth: over the time for each receipt at the size")
     print("before. A distrust on which nothing rests, and one that reaches one receipt: us, the median of eight. Held: bytes")
     print("for each receipt beyond the receipt itself. Least times of the runs.\n")
-    heads = ["", "", "take", "", "plain", "", "", "none", "plain", "one", "plain", "all", "plain", "", "held", "plain"]
-    print(ROW.format(*heads))
-    heads = ["ns", "growth", "ns", "growth", "ratio", "us", "us", "us", "us", "ns", "ns", "ratio", "bytes", "bytes"]
+    heads = ["", "", "take", "", "plain", "", "", "none", "plain", "one", "plain"]
+    print(ROW.format(*heads, "all", "", "plain", "", "", "held", "plain"))
+    heads = ["ns", "growth", "ns", "growth", "ratio"]
+    heads = [*heads, "us", "us", "us", "us", *heads, "bytes", "bytes"]
     print(ROW.format("shape", "receipts", *heads), flush=True)
-    for name, make, sizes in SHAPES:
+    for name in shapes:
         last = None
-        for size in sizes:
-            last = print_shape(programs, path, name, make, size, turns, last)
+        for size in sizes_of(name, sizes):
+            last = print_shape(programs, path, name, SHAPES[name], size, turns, last)
 
 
 def print_shape(programs, path, name, make, size, turns, last):
     count = write_shape(path, make, size)
     found = measure(programs, turns, lambda runs, program: runs.add_with_memory(program, path))
     taken = [min(runs.taken) / count for runs in found]
-    grown = [f"{now / before:.2f}" for now, before in zip(taken, last)] if last else [""] * len(found)
+    fallen = [min(runs.of(2 * LEAVES, 2 * LEAVES + 1)) / count for runs in found]
     for at, word in own_rows(programs):
-        none, one, all_ = [
-            [min(found[of].of(*places)) for of in (at, 1)]
-            for places in ((0, LEAVES), (LEAVES, 2 * LEAVES), (2 * LEAVES, 2 * LEAVES + 1))
-        ]
+        none, one = [[min(found[of].of(*places)) for of in (at, 1)] for places in ((0, LEAVES), (LEAVES, 2 * LEAVES))]
         print(ROW.format(
-            word or name, count,
-            f"{taken[at]:.0f}", grown[at], f"{taken[1]:.0f}", grown[1], f"{taken[at] / taken[1]:.2f}",
-            *(f"{time / 1e3:.1f}" for time in [*none, *one]),
-            *(f"{time / count:.0f}" for time in all_), f"{all_[0] / all_[1]:.2f}",
+            word or name, count, *grown_cells(taken, last and last[0], at),
+            *(f"{time / 1e3:.1f}" for time in [*none, *one]), *grown_cells(fallen, last and last[1], at),
             *(f"{found[of].held / count:.0f}" for of in (at, 1)),
         ), flush=True)
-    return taken
+    return taken, fallen
+
+
+def grown_cells(times, last, at):
+    """The time and its growth of one of our programs, those of the peer, and the ratio."""
+    cells = [(f"{times[of]:.0f}", f"{times[of] / last[of]:.2f}" if last else "") for of in (at, 1)]
+    return *cells[0], *cells[1], f"{times[at] / times[1]:.2f}"
 
 
 MANY = "{:<28} {:<9} {:>8} {:>7} | {:>8} {:>8} {:>6} | {:>8} {:>8} {:>6} | {:>5}"
@@ -310,39 +335,42 @@ def print_line(last, key, count, records, own, other):
     print(MANY.format(word or what, order, count, records, *cells, f"{min(own) / min(other):.2f}"), flush=True)
 
 
-def print_double(programs, path, turns):
+def print_double(programs, path, turns, sizes):
     print_many("Double chains: each document under both keys of the one before. First one key is distrusted, then the other.")
     last = {}
     for shuffles in (False, True):
-        for size in DOUBLES:
+        for size in sizes:
             count = write_double(path, size, shuffles)
             found = measure(programs, turns, lambda runs, program: runs.add(program, "take", path))
             for at, what in enumerate(["reaches all, loses nothing", "reaches all, loses all"]):
                 print_lines(last, what, shuffles, count, 1, [runs.of(at, at + 1) for runs in found])
 
 
-def print_merges(programs, path, turns):
+def print_merges(programs, path, turns, sizes):
     print_many("One merge of records into a full store. The whole chain rests on each of them, and is reached otherwise.")
-    last = {}
-    for shuffles in (False, True):
-        for records in RECORDS:
-            count = write_fan(path, records, shuffles)
-            found = measure(programs, turns, lambda runs, program: runs.add(program, "merge", path))
-            print_lines(last, "one merge", shuffles, count, records, [runs.sums() for runs in found])
+    for size in sizes:
+        last = {}
+        for shuffles in (False, True):
+            for records in RECORDS:
+                count = write_fan(path, size, records, shuffles)
+                found = measure(programs, turns, lambda runs, program: runs.add(program, "merge", path))
+                print_lines(last, "one merge", shuffles, count, records, [runs.sums() for runs in found])
 
 
-def print_singly(programs, path, turns, records):
+def print_singly(programs, path, turns, sizes, records):
     print_many("The same records, each distrusted on its own, as a pull does: the times of all together.")
     for shuffles in (False, True):
-        count = write_fan(path, records, shuffles)
-        found = measure(programs, turns, lambda runs, program: runs.add(program, "take", path))
-        print_lines({}, "one after another", shuffles, count, records, [runs.sums() for runs in found])
+        last = {}
+        for size in sizes:
+            count = write_fan(path, size, records, shuffles)
+            found = measure(programs, turns, lambda runs, program: runs.add(program, "take", path))
+            print_lines(last, "one after another", shuffles, count, records, [runs.sums() for runs in found])
 
 
-def print_alike(programs, path, turns, records):
+def print_alike(programs, path, turns, sizes, records):
     print_many("Receipts under made-up keys whose ids begin alike, and records of some of these, each distrusted on its own.")
     last = {}
-    for size in SIZES:
+    for size in sizes:
         count = write_alike(path, size, records)
         found = measure(programs, turns, lambda runs, program: runs.add(program, "take", path))
         print_lines(last, "takes", False, count, 0, [runs.taken for runs in found])
@@ -351,22 +379,27 @@ def print_alike(programs, path, turns, records):
 
 def main(words):
     turns = int(words[0]) if words else 5
-    parts = words[1:] or ["takes", "double", "merges", "singly", "alike"]
+    named = [int(word) for word in words[1:] if word.isdigit()]
+    parts = [word for word in words[1:] if word in PARTS] or PARTS[:-1]
+    shapes = [name for name in SHAPES if name in words[1:]] or USUAL_SHAPES
+    if unknown := [word for word in words[1:] if not word.isdigit() and word not in PARTS and word not in SHAPES]:
+        stop(f"no part and no shape: {' '.join(unknown)}")
+    sizes, doubles, full = named or SIZES, named or DOUBLES, named or SIZES[-1:]
     own, earlier = build_with_earlier("closure", "trust_closure")
     programs = [own, build_peer("closure"), *earlier]
     print(f"{turns} runs of each program, in turns.")
     with tempfile.TemporaryDirectory() as folder:
         path = Path(folder) / "receipts"
         if "takes" in parts:
-            print_takes(programs, path, turns)
+            print_takes(programs, path, turns, sizes, shapes)
         if "double" in parts:
-            print_double(programs, path, turns)
+            print_double(programs, path, turns, doubles)
         if "merges" in parts:
-            print_merges(programs, path, turns)
+            print_merges(programs, path, turns, full)
         if "singly" in parts:
-            print_singly(programs, path, turns, SAMPLE)
+            print_singly(programs, path, turns, full, SAMPLE)
         if "alike" in parts:
-            print_alike(programs, path, turns, SAMPLE)
+            print_alike(programs, path, turns, sizes, SAMPLE)
         if "whole" in parts:
-            print_singly(programs, path, turns, RECORDS[-1])
+            print_singly(programs, path, turns, full, RECORDS[-1])
     print("\nAll programs gave the same answers on each set.")

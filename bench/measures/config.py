@@ -17,7 +17,7 @@ TURNS = 5
 
 
 def element(random_):
-    """An RSA key with random bytes in its certificate's place, as many as a seed of about 2 KiB leaves."""
+    """An RSA key with random bytes in its certificate's place, of the length that a seed of about 2 KiB leaves."""
     der = base64.b64encode(random_.randbytes((SEED_BYTES - 520) * 3 // 4)).decode()
     return {"use": "x509-svid", "kty": "RSA", "n": url_text(random_, 256), "e": "AQAB", "x5c": [der]}
 

@@ -27,7 +27,7 @@ def small(random_):
 
 
 def usual(random_):
-    """An RSA or EC authority with as many random bytes in its certificate's place as one of its key type has."""
+    """An RSA or EC authority with random bytes in its certificate's place, of the length that its key type has."""
     if random_.random() < 0.5:
         der = base64.b64encode(random_.randbytes(random_.randint(860, 900))).decode()
         return f'{{"e":"AQAB","kty":"RSA","n":"{url_text(random_, 256)}","use":"x509-svid","x5c":["{der}"]}}'

@@ -6,7 +6,7 @@ disk is that of the temporary folder. The bundles that are observed list the key
 them vouches for the next one.
 
 arguments: [COUNT [REQUESTS]]   how many usual receipts are held at first, 61440 if left out, and how often each request is
-                            made, 1000 if left out; a replica holds 65,536 at most
+                            made, 1000 if left out; a replica may hold 65,536, or what is needed here if that is more
 """
 import base64
 import hashlib
@@ -21,10 +21,11 @@ import time
 from pathlib import Path
 
 from building import built_program, stop
-from receipts import DOMAIN, ENDPOINT, config_text, lines
+from receipts import DOMAIN, ENDPOINT, config_text, limit_words, write_state
 
 LEAST_EVERY = 1
-SECONDS = 120
+SECONDS = 600
+MOST_BYTES = 1 << 40
 IDLE_SESSIONS = 20
 
 
@@ -47,16 +48,14 @@ def ask(path, words, text=b""):
 class Held:
     """The state of a replica, and the bundles that it may observe."""
 
-    def __init__(self, folder, count):
+    def __init__(self, folder, count, more, kind="usual"):
+        """So many receipts are held, and so many more may come."""
         self.folder = folder
         (folder / "config").write_text(config_text())
-        digest = hashlib.sha256(config_text().encode()).hexdigest()
-        chain = list(lines("usual", count))
-        with (folder / "state").open("w") as file:
-            file.write(f'{{"config":"{digest}","format":2}}\n')
-            file.writelines(sorted(chain))
-            file.write(f'{{"count":{count},"distrusts":0}}\n')
-        self.last = json.loads(chain[-1])["doc"]
+        self.last = json.loads(write_state(folder / "state", kind, count))["doc"]
+        # A session may bring 4 GiB, less the bytes of the files, if nothing else is said.
+        self.limits = limit_words(count + more)
+        self.limits += ["--most-bytes", str(MOST_BYTES)] if self.limits else []
         first = next(key for key in self.last["keys"] if "x5c" in key)
         self.key = hashlib.sha256(base64.b64decode(first["x5c"][0])).hexdigest()
         self.sequence = self.last["spiffe_sequence"]
@@ -155,8 +154,9 @@ def used(process):
     return int(Path(f"/proc/{process.pid}/schedstat").read_text().split()[0]) / 1e9
 
 
-def print_idle(answers, asks, sessions):
-    """What sessions that bring nothing cost both sides, all that the loop does for them included."""
+def idle_seconds(answers, asks, sessions):
+    """The seconds of a processor that a session that brings nothing takes at both sides, all that the loop does for it
+    included."""
     next_pull(asks)
     before = used(answers), used(asks)
     for _ in range(sessions):
@@ -164,7 +164,11 @@ def print_idle(answers, asks, sessions):
         if " new=0 records=0 " not in line or "fault" in line:
             stop(f"a session was not idle: {line}")
     after = used(answers), used(asks)
-    told = " and ".join(f"{1e3 * (end - begin) / sessions:.2f}" for begin, end in zip(before, after))
+    return [(end - begin) / sessions for begin, end in zip(before, after)]
+
+
+def print_idle(answers, asks, sessions):
+    told = " and ".join(f"{1e3 * seconds:.2f}" for seconds in idle_seconds(answers, asks, sessions))
     print(f"{sessions} idle sessions: {told} ms of a processor each, at the one that answers and the one that asks", flush=True)
 
 
@@ -202,9 +206,9 @@ def main(words):
     program = built_program()
     with tempfile.TemporaryDirectory(prefix="fedbundle-") as folder:
         folder = Path(folder)
-        held = Held(folder, count)
+        held = Held(folder, count, 3 * requests + 100)
         address = free_address()
-        replica, began = start(program, folder, "state", "--listen", address, "--every", "86400")
+        replica, began = start(program, folder, "state", "--listen", address, "--every", "86400", *held.limits)
         path = folder / "state.socket"
         print(f"{count} usual receipts are held; {(folder / 'state').stat().st_size} bytes of state")
         print(f"from the start to ready: {began:.2f} s; held then: {memory(replica, 'VmRSS') / 2**20:.0f} MiB")
@@ -215,7 +219,7 @@ def main(words):
         for clients in (1, 16):
             rate = observed_a_second(held, path, clients, requests // clients)
             print(f"acknowledged a second, {clients:>2} clients: {rate:.0f}", flush=True)
-        other, _ = start(program, folder, "other", "--peers", address, "--every", str(LEAST_EVERY))
+        other, _ = start(program, folder, "other", "--peers", address, "--every", str(LEAST_EVERY), *held.limits)
         first, idle = (next_pull(other) for _ in range(2))
         print(f"a pull of all: {first}\na pull between equal replicas: {idle}", flush=True)
         print_idle(replica, other, IDLE_SESSIONS)

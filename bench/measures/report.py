@@ -8,8 +8,10 @@ Plain Rust is built twice: as it comes, with the processor's own digests if it h
 as fedbundle's are. If $FEDBUNDLE_BEFORE names the program of an earlier commit, that one runs in the same turns, and
 its figures come last.
 
-arguments: [RUNS [SIZE..]]      RUNS is the number of timed runs of each program on each stream, 5 if left out; the
-                            sizes are 4096, 16384 and 65536 receipts, if none is given
+arguments: [RUNS [SIZE|NAME..]]
+                            RUNS is the number of timed runs of each program on each stream, 5 if left out; the
+                            sizes are 4096, 16384 and 65536 receipts, if none is given; a NAME is one of bundles, as
+                            tiny, or of a shape, as 'tree shuffled': all, if none of its kind is given
 """
 import base64
 import functools
@@ -20,11 +22,12 @@ import tempfile
 from pathlib import Path
 
 from building import build_peer, built_program, earlier_programs, run_timed, stop
+from receipts import limit_words
 from texts import compact, url_text
 
 DOMAIN = "a.example"
 ENDPOINT = f"spiffe://{DOMAIN}/spire/server"
-MOST_BYTES = 400_000_000
+MOST_BYTES = 4_000_000_000
 
 
 # Documents. Each has the text of its elements in order, and the key ids of its certificates.
@@ -134,9 +137,13 @@ def cycle(count, _random):
 SHAPES = {"chain": chain, "chain reversed": reversed_chain, "star": star, "tree shuffled": shuffled_tree, "cycle": cycle}
 
 
-def streams(sizes):
-    for bundles, (documents_of, make) in MAKES.items():
-        for shape in FEW_SHAPES.get(bundles, SHAPES):
+def streams(sizes, names):
+    """Those of the bundles and of the shapes that are named; all bundles, or all shapes, if none of them is."""
+    wanted = [bundles for bundles in MAKES if bundles in names] or list(MAKES)
+    shapes = [shape for shape in SHAPES if shape in names] or list(SHAPES)
+    for bundles in wanted:
+        documents_of, make = MAKES[bundles]
+        for shape in filter(shapes.__contains__, FEW_SHAPES.get(bundles, SHAPES)):
             receipts = SHAPES[shape]
             for size in sizes:
                 random_ = random.Random(size)
@@ -174,7 +181,10 @@ OTHER = " | {:>8} {:>6} {:>5} {:>5}"
 
 def main(words):
     runs = int(words[0]) if words else 5
-    sizes = [int(size) for size in words[1:]] or [4_096, 16_384, 65_536]
+    sizes = [int(word) for word in words[1:] if word.isdigit()] or [4_096, 16_384, 65_536]
+    names = [word for word in words[1:] if not word.isdigit()]
+    if unknown := [name for name in names if name not in MAKES and name not in SHAPES]:
+        stop(f"no bundles and no shape: {' '.join(unknown)}")
     program = built_program()
     plain = [build_peer("report"), build_peer("report", soft=True)]
     earlier = earlier_programs()
@@ -184,16 +194,16 @@ def main(words):
     print("those of a run on no receipts, for each byte of input.\n")
     others = ["plain", "soft", *["before"] * len(earlier)]
     print(row.format(*[""] * 4, "fedbundle", "", "", *(word for name in others for word in (name, "", "", ""))))
-    names = ["ms", "growth", "held"]
-    print(row.format("bundles", "shape", "receipts", "bytes", *names, *[*names, "ratio"] * len(others)), flush=True)
+    heads = ["ms", "growth", "held"]
+    print(row.format("bundles", "shape", "receipts", "bytes", *heads, *[*heads, "ratio"] * len(others)), flush=True)
     before = {}
     with tempfile.TemporaryDirectory() as name:
         folder = Path(name)
         empty, answers = folder / "empty", [folder / f"answer{at}" for at in range(1 + len(others))]
         empty.touch()
-        for bundles, shape, size, documents, receipts in streams(sizes):
+        for bundles, shape, size, documents, receipts in streams(sizes, names):
             config, path = write_stream(folder, documents, receipts)
-            words = ["report", "--config", config]
+            words = ["report", "--config", config, *limit_words(size)]
             commands = [[program, *words], *([one, config] for one in plain), *([one, *words] for one in earlier)]
             own = [measure(command, empty, answer)[1] for command, answer in zip(commands, answers)]
             found = [[measure(command, path, answer) for command, answer in zip(commands, answers)] for _ in range(runs)]

@@ -1,9 +1,12 @@
 """Measures snapshots and sessions of `replica_sync` beside plain Rust that reads and writes the same bytes, both built
 here, run in turn; then `pull` from `serve` over loopback, beside plain Rust that does the same.
 
-words: [TURNS [PART..]]   TURNS is how often each program takes each set, of which the least times count; 3 if left
-                          out. The parts are memory, loopback, quiet and thousand; all if left out
+words: [TURNS [PART|SIZE|KIND..]]
+                          TURNS is how often each program takes each set, of which the least times count; 3 if left
+                          out. The parts are memory, loopback, quiet and thousand; all if left out. A SIZE is a number of
+                          receipts, in rising order: all parts except the last have each of them. A KIND is small or usual
 """
+import filecmp
 import hashlib
 import os
 import random
@@ -16,10 +19,11 @@ import time
 from pathlib import Path
 
 from building import build_peer, build_with_earlier, built_program, earlier_programs, own_rows, run, stop
-from receipts import KINDS, SIZES, write_config, write_receipts, write_snapshot
+from receipts import KINDS, SIZES, limit_words, write_config, write_receipts, write_snapshot
 
 HOST = "127.0.0.1"
 SESSIONS = 1_000
+PARTS = ["memory", "loopback", "quiet", "thousand"]
 
 
 # Over memory.
@@ -61,15 +65,15 @@ SNAPSHOT = "{:<7} {:>8} {:>6} | {:>7} {:>6} {:>7} {:>5} | {:>7} {:>6} {:>7} {:>6
 SESSION = "{:<7} {:>8} {:<9} | {:>8} {:>8} {:>8} | {:>8} {:>6} {:>8} {:>6} {:>5} | {:>9} {:>10} | {:>5}"
 
 
-def print_snapshots(programs, folder, turns):
+def print_snapshots(programs, folder, turns, sizes):
     print("Snapshots. ns for each receipt, growth over the time for each at the size before, and the most bytes held for")
     print("each, the texts in memory included.")
     print(SNAPSHOT.format("", "", "", "write", "", "plain", "", "read", "", "plain", "", "", "held", "plain"))
     heads = ["ns", "growth", "ns", "ratio", "ns", "growth", "ns", "growth", "ratio", "bytes", "bytes"]
     print(SNAPSHOT.format("kind", "receipts", "bytes", *heads), flush=True)
-    for kind in KINDS:
+    for kind in sizes:
         before = None
-        for count in SIZES[kind]:
+        for count in sizes[kind]:
             path = write_receipts(folder, kind, count)
             found = measure(programs, ["snapshot"], path, turns, 2)
             wrote, read = [[best.times[at] / count for best in found] for at in (0, 1)]
@@ -90,7 +94,7 @@ def cases_of(count):
     return [("all", 0), ("one", count - 1), ("nothing", count)]
 
 
-def print_sessions(programs, folder, turns):
+def print_sessions(programs, folder, turns, sizes):
     print("\nSessions over memory: us for asking about all buckets, for answering, and for taking the answers, in which each")
     print("question is written again; then answering and taking together, which is a session, with its growth, in plain Rust")
     print("too, and the ratio; the bytes of the questions and of the answers; and how many times as long a session took as")
@@ -98,23 +102,23 @@ def print_sessions(programs, folder, turns):
     print(SESSION.format("", "", "", "ask", "answer", "take", "session", "", "plain", "", "", "asked", "answered", "over"))
     heads = ["us", "us", "us", "us", "growth", "us", "growth", "ratio", "bytes", "bytes", "ids"]
     print(SESSION.format("kind", "receipts", "gives", *heads), flush=True)
-    for kind in KINDS:
+    for kind in sizes:
         before = {}
-        for count in SIZES[kind]:
+        for count in sizes[kind]:
             path = write_receipts(folder, kind, count)
             ids = measure(programs[1:2], ["ids"], path, turns, 1)[0].times[0]
             for name, held in cases_of(count):
                 found = measure(programs, ["session", held], path, turns, 3)
                 whole = [best.times[1] + best.times[2] for best in found]
                 last = before.get(name)
-                grown = [growth(now / 4, old) for now, old in zip(whole, last)] if last else [""] * len(found)
+                grown = [growth(now / count, old) for now, old in zip(whole, last)] if last else [""] * len(found)
                 for at, word in own_rows(programs):
                     print(SESSION.format(
                         word or kind, count, name, *(f"{took / 1e3:.0f}" for took in found[at].times),
                         f"{whole[at] / 1e3:.0f}", grown[at], f"{whole[1] / 1e3:.0f}", grown[1],
                         f"{whole[at] / whole[1]:.2f}", found[at].same[1], found[at].same[2], f"{whole[at] / ids:.1f}",
                     ), flush=True)
-                before[name] = whole
+                before[name] = [took / count for took in whole]
 
 
 # Over loopback.
@@ -189,17 +193,19 @@ class Relay:
 
 
 class Ours:
-    """The words of the built program's commands."""
+    """The words of the built program's commands, over states of so many receipts at most."""
 
-    def __init__(self, program=None):
+    def __init__(self, most, program=None):
         self.program = program or built_program()
+        self.limit = limit_words(most)
 
     def serve(self, config, state, port, sessions):
         words = ["--config", config, "--state", state, "--listen", f"{HOST}:{port}", "--sessions", sessions]
-        return [self.program, "serve", *words]
+        return [self.program, "serve", *words, *self.limit]
 
     def pull(self, config, state, port):
-        return [self.program, "pull", "--config", config, "--state", state, "--peer", f"{HOST}:{port}"]
+        words = ["--config", config, "--state", state, "--peer", f"{HOST}:{port}"]
+        return [self.program, "pull", *words, *self.limit]
 
 
 class Peer:
@@ -256,13 +262,12 @@ def relayed(ours, config, theirs, mine, folder):
 LOOPBACK = "{:<7} {:>8} {:<9} | {:>7} {:>7} {:>5} | {:>9} {:>10} {:>8}"
 
 
-def print_loopback(programs, folder, turns):
+def print_loopback(programs, folder, turns, sizes):
     print("\nPulls from a server over loopback: the seconds of the whole process that pulls, in which it reads its state and")
     print("writes it, and the bytes both ways.")
     print(LOOPBACK.format("kind", "receipts", "held by", "s", "plain", "ratio", "asked", "answered", "new"), flush=True)
     config = write_config(folder)
-    for kind in KINDS:
-        count = SIZES[kind][-1]
+    for kind, count in of_kinds(sizes):
         full = write_snapshot(folder, kind, count)
         for name, theirs, mine in [("one side", full, None), ("both", full, full), ("neither", folder / "none", None)]:
             times, found = [float("inf")] * len(programs), set()
@@ -270,7 +275,7 @@ def print_loopback(programs, folder, turns):
                 for at, program in enumerate(programs):
                     took, new, state = pulled(program, config, theirs, mine, folder)
                     times[at] = min(times[at], took)
-                    found.add((new, state.read_bytes() == full.read_bytes()))
+                    found.add((new, filecmp.cmp(state, full, shallow=False)))
             if len(found) != 1:
                 stop(f"{name}: the pulls differ: {found}")
             asked, answered = relayed(programs[0], config, theirs, mine, folder)
@@ -293,27 +298,28 @@ LACKING = {
 
 def write_part(folder, full, lacks):
     """The snapshot without some of its receipts, and how many these are."""
-    first, *lines, _ = full.read_bytes().splitlines(keepends=True)
-    ids = [hashlib.sha256(line[:-1]).digest() for line in lines]
+    with full.open("rb") as file:
+        _, *ids, _ = [hashlib.sha256(line[:-1]).digest() for line in file]
     without = lacks(ids)
-    kept = [line for line, id in zip(lines, ids) if id not in without]
     path = folder / "part"
-    path.write_bytes(b"".join([first, *kept, b'{"count":%d,"distrusts":0}\n' % len(kept)]))
+    with full.open("rb") as file, path.open("wb") as part:
+        part.write(next(file))
+        part.writelines(line for id, line in zip(ids, file) if id not in without)
+        part.write(b'{"count":%d,"distrusts":0}\n' % (len(ids) - len(without)))
     return path, len(without)
 
 
 QUIET = "{:<7} {:>8} {:<12} {:>7} | {:>7} {:>7} {:>5} {:>7} | {:>9} {:>10} {:>10} {:>10}"
 
 
-def print_quiet(programs, folder, turns):
+def print_quiet(programs, folder, turns, sizes):
     """Ours and the peer's begin with sums; an earlier program may not."""
     print("\nPulls over loopback by what is missing: the seconds of the whole process that pulls, with its state, and the bytes")
     print("both ways, of an earlier program too if there is one.")
     heads = ["s", "plain", "ratio", "before", "asked", "answered", "before", "before"]
     print(QUIET.format("kind", "receipts", "missing", "", *heads), flush=True)
     config = write_config(folder)
-    for kind in KINDS:
-        count = SIZES[kind][-1]
+    for kind, count in of_kinds(sizes):
         full = write_snapshot(folder, kind, count)
         for name, lacks in LACKING.items():
             mine, missing = write_part(folder, full, lacks)
@@ -322,7 +328,7 @@ def print_quiet(programs, folder, turns):
                 for at, program in enumerate(programs):
                     took, new, state = pulled(program, config, full, mine, folder)
                     times[at] = min(times[at], took)
-                    if new != missing or state.read_bytes() != full.read_bytes():
+                    if new != missing or not filecmp.cmp(state, full, shallow=False):
                         stop(f"{name}: a pull brought {new}")
             moved = [relayed(program, config, full, mine, folder) for program in [programs[0], *programs[2:]]]
             took = [f"{times[0]:.2f}", f"{times[1]:.2f}", f"{times[0] / times[1]:.2f}", *(f"{it:.2f}" for it in times[2:])]
@@ -364,9 +370,20 @@ def print_thousand(ours, folder):
     print(f"session, the client's time in it; the server said: {said}")
 
 
+def of_kinds(sizes):
+    return [(kind, count) for kind in sizes for count in sizes[kind]]
+
+
 def main(words):
     turns = int(words[0]) if words else 3
-    parts = words[1:] or ["memory", "loopback", "quiet", "thousand"]
+    parts = [word for word in words[1:] if word in PARTS] or PARTS
+    kinds = [kind for kind in KINDS if kind in words[1:]] or KINDS
+    named = [int(word) for word in words[1:] if word.isdigit()]
+    if unknown := [word for word in words[1:] if not word.isdigit() and word not in PARTS and word not in KINDS]:
+        stop(f"no part and no kind: {' '.join(unknown)}")
+    sizes = {kind: named or SIZES[kind] for kind in kinds}
+    last = {kind: named or SIZES[kind][-1:] for kind in kinds}
+    most = max(count for _, count in of_kinds(sizes))
     random.seed(1)
     peer = build_peer("sync")
     print(f"Least times of {turns} runs of each program, in turns.\n")
@@ -374,11 +391,12 @@ def main(words):
         if "memory" in parts:
             own, earlier = build_with_earlier("sync", "replica_sync", "trust_closure")
             programs = [own, peer, *earlier]
-            print_snapshots(programs, Path(folder), turns)
-            print_sessions(programs, Path(folder), turns)
+            print_snapshots(programs, Path(folder), turns, sizes)
+            print_sessions(programs, Path(folder), turns, sizes)
         if "loopback" in parts:
-            print_loopback([Ours(), Peer(peer)], Path(folder), turns)
+            print_loopback([Ours(most), Peer(peer)], Path(folder), turns, last)
         if "quiet" in parts:
-            print_quiet([Ours(), Peer(peer), *map(Ours, earlier_programs())], Path(folder), turns)
+            earlier = [Ours(most, program) for program in earlier_programs()]
+            print_quiet([Ours(most), Peer(peer), *earlier], Path(folder), turns, last)
         if "thousand" in parts:
-            print_thousand(Ours(), Path(folder))
+            print_thousand(Ours(most), Path(folder))

@@ -9,7 +9,7 @@ use std::collections::{BTreeMap, BTreeSet, HashMap};
 use std::ops::Bound;
 use std::rc::Rc;
 
-const MOST_RECEIPTS: usize = 65_536;
+const MOST_RECEIPTS: usize = 4_194_304;
 const UNMARKED: usize = usize::MAX;
 
 pub struct Seed {

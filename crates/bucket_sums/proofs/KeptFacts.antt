@@ -29,6 +29,7 @@ use Rattle.bucket_sums.specs.Inside.KeptSteps.{ArePartSums, IsRisingBoth, IsSumO
 use Rattle.bucket_sums.specs.declared.kept_sums.CountedSum.{CountedSum}
 use Rattle.bucket_sums.specs.declared.kept_sums.KeptSums.{KeptSums}
 use Rattle.bucket_sums.proofs.SumFacts.{bytes_of}
+use Rattle.receipt_core.specs.Limits.{most_receipts}
 use Rattle.receipt_core.proofs.LimitFacts.{receipt_limit-most}
 
 -- ---- sorted lists, one among another
@@ -210,7 +211,7 @@ unchanged_sums kept m valid same were =
     ∙ ap sums_of (state_same were.before (state_of m) were.rising (rises m valid) were.grown receipts records)
 
 -- A bucket has few receipts.
-pub few_in_bucket : (m : Meaning) (bucket : ℕ) → IsMeaning m → length (receipts_in bucket m.held) ≤ 65536
+pub few_in_bucket : (m : Meaning) (bucket : ℕ) → IsMeaning m → length (receipts_in bucket m.held) ≤ most_receipts
 few_in_bucket m bucket valid =
     let parts = length-filter_both (is_in_bucket bucket) (λ r. not (is_in_bucket bucket r)) (λ r. refl) m.held in
     let few = valid.few in

@@ -14,7 +14,7 @@ use Rattle.receipt_core.specs.Acceptance.{Meaning, IsMeaning}
 use Rattle.receipt_core.proofs.LineFacts.{one_distrust, one_receipt}
 use Rattle.receipt_core.proofs.RisingFacts.{Contains-from_has, Has, Has-from_contains, IsExactOn, same_members}
 use Rattle.receipt_core.proofs.RisingFacts.{with_items-all, with_items-has, with_items-keeps, with_items-new, with_items-rising}
-use Rattle.replica_core.specs.State.{State, bucket_of_id, id_cmp, ids_held, is_named, is_of_bucket, joined, receipts_lacking}
+use Rattle.replica_core.specs.State.{State, bucket_of_id, id_cmp, ids_held, ids_named, is_named, is_of_bucket, joined, receipts_lacking}
 use Rattle.replica_core.specs.Session.{state_of}
 use Rattle.replica_core.proofs.BucketFacts.{bucket-small}
 use Rattle.replica_core.proofs.ExchangeFacts.{lacking, named-held}
@@ -86,7 +86,7 @@ formed m valid = record { receipts = valid.receipts; records = valid.distrusts; 
 module _ (k : Meaning) (valid : IsMeaning k) where
   -- the receipts of an answer
   abbrev given : State → ℕ → List Receipt
-  given state bucket = receipts_lacking (state_of k) bucket (ids_held state bucket)
+  given state bucket = receipts_lacking (state_of k) bucket (ids_named state bucket)
 
   given-receipts : (state : State) (bucket : ℕ) → AllByRecursion IsReceipt (given state bucket)
   given-receipts state bucket =
@@ -105,7 +105,7 @@ module _ (k : Meaning) (valid : IsMeaning k) where
   -- An answer brings each receipt of the bucket whose id is not held.
   brings-one : (state : State) (bucket : ℕ) (r : Receipt) → IsFormed state → Has k.held r → bucket_of_id r ≡ bucket → HasId (after_answer k state bucket) r
   brings-one state bucket r own has here =
-      elim (cases_Bool (is_named (ids_held state bucket) r)) [
+      elim (cases_Bool (is_named (ids_named state bucket) r)) [
         | inl named ↦
             let source = named-held state bucket r named in
             record {
@@ -116,7 +116,7 @@ module _ (k : Meaning) (valid : IsMeaning k) where
         | inr unnamed ↦
             let sent : Contains (given state bucket) r =
             filter-to (lacking state bucket) k.held r (Contains-from_has k.held r has)
-            (and_from (is_of_bucket bucket r) (not (is_named (ids_held state bucket) r)) (eq-eqb (bucket_of_id r) bucket here) (ap not unnamed)) in
+            (and_from (is_of_bucket bucket r) (not (is_named (ids_named state bucket) r)) (eq-eqb (bucket_of_id r) bucket here) (ap not unnamed)) in
             record {
               it = r;
               held = with_items-new IsReceipt receipt_cmp exact-receipts (given state bucket) state.held (given-receipts state bucket) own.receipts r

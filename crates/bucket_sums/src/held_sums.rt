@@ -11,7 +11,7 @@ use crate::sum::Sum;
 use closure_core::{Closure, Distrusts};
 use jwk_set::KeyId;
 use receipt_core::{Distrust, ReceiptId};
-use replica_sync::have;
+use replica_core::bucket_ids;
 use sha2::{Digest, Sha256};
 use spiffe_name::TrustDomain;
 use std::alloc::{AllocError, Global};
@@ -43,13 +43,9 @@ pub(crate) fn sum_of_bucket<C: Closure>(
     ensures { IfOk result
         (λ sum. sum.0 ≡ bucket_sum (state_of (C.state closure.now).meaning) bucket) }
 {
-    match have(alloc, closure, bucket) {
-        Ok(own) => {
-            let text = text_of_ids(alloc, own.ids())?;
-            Ok(sum_of(text.as_slice()))
-        }
-        Err(_) => Err(AllocError),
-    }
+    let ids = bucket_ids(alloc, closure, bucket)?;
+    let text = text_of_ids(alloc, ids.as_slice())?;
+    Ok(sum_of(text.as_slice()))
 }
 
 pub(crate) fn sum_of_records<C: Closure>(alloc: Global, closure: &C) -> Result<Sum, AllocError>

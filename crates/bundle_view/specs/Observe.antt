@@ -125,7 +125,7 @@ pub record HasLowDocument (m : Meaning) (fetched : FetchedBundle) : Type 0 where
   pub read : IsDocument fetched.bytes document
   pub misses : MissesFloor m.config fetched.domain document
 
--- The document is below its floor; or the receipt is new, and as many are held as may be; or memory
+-- The document is below its floor; or the receipt is new, and no more may be held; or memory
 -- was wanted, for the tree of all bytes that are within the limit.
 abbrev pub RefusesTaking : Meaning → FetchedBundle → TakeError → Type 0
 RefusesTaking m fetched BelowFloor = HasLowDocument m fetched

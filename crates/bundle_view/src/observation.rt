@@ -110,8 +110,8 @@ pub fn observed_receipt<C: Closure>(
 /// from now on.
 ///
 /// # Errors
-/// What is held is as before. [`ObserveError::Take`] with `Full`: the receipt is not held, and as
-/// many are held as may be; or with `NoMemory`: memory ran out.
+/// What is held is as before. [`ObserveError::Take`] with `Full`: the receipt is not held, and
+/// no more may be held; or with `NoMemory`: memory ran out.
 pub fn take_observed<C: Closure>(closure: &mut C, receipt: Receipt) -> Result<(), ObserveError>
     ensures { (fetched : FetchedBundle)
         → IsObservation (C.state closure.old).meaning fetched receipt → MatchResult result

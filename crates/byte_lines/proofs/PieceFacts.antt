@@ -30,7 +30,7 @@ AppendsBeginning-second a b c first second before (count, appended) =
 
 -- if the source ended within the limit, all of its bytes were taken
 pub TakesUpTo-end : (a b : Option (List ℕ)) (limit : ℕ) (taken : List ℕ) → Consumes a b taken → IsAtEnd b → length taken ≤ limit → TakesUpTo a b limit taken
-TakesUpTo-end None b limit taken consumed end within = tt
+TakesUpTo-end None b limit taken consumed end within = within
 TakesUpTo-end (Some x) None limit taken consumed end within = absurd consumed
 TakesUpTo-end (Some x) (Some y) limit taken consumed end within =
     let whole : x ≡ taken = consumed ∙ ap (λ l. taken ++ l) end ∙ append-nil taken in

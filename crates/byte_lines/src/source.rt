@@ -1,7 +1,6 @@
 //! The device that bytes are read from.
 ghost use Rattle.std.specs.Prelude.{◌≡◌, ℕ, ◌+◌, ◌^◌, ◌<◌, ◌≤◌, ◌||◌, ◌++◌, List, Bool, true};
-ghost use Rattle.std.specs.Prelude.{false, length, take, is_err, Option, IfOk, OnOk, IsErrOf};
-ghost use Rattle.std.specs.Prelude.{vec_len};
+ghost use Rattle.std.specs.Prelude.{false, length, take, is_err, Option, IfOk, OnOk, vec_len};
 ghost use Rattle.std.specs.Io.{ReadsAtMost};
 ghost use Rattle.std.specs.Io.KnownBytes.{Consumes, IsAtEnd};
 ghost use Rattle.byte_lines.specs.Device.{TakesUpTo, is_source_fault};
@@ -80,14 +79,10 @@ pub fn read_up_to<R: Source>(
     source: &mut R,
     limit: usize,
 ) -> Result<Vec<u8>, DeviceError>
-    ensures within { IfOk result (λ taken. vec_len taken ≤ limit) }
     ensures bytes { IfOk result
         (λ taken. TakesUpTo (R.remaining source.old) (R.remaining source.new) limit taken.items) }
-    ensures end { IfOk result (λ taken. vec_len taken < limit → IsAtEnd (R.remaining source.new)) }
     ensures spends { IfOk result
         (λ taken. R.budget source.new + vec_len taken ≤ R.budget source.old) }
-
-    ensures io { IsErrOf result DeviceError.Io → R.has_failed source.new ≡ true }
     ensures fault { R.has_failed source.new ≡ (is_source_fault result || R.has_failed source.old) }
     ensures lasting { OnOk result (0 < limit → R.has_failed source.old ≡ false) }
 {

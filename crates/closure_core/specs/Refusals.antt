@@ -59,7 +59,7 @@ RefusesFit c r _ = ⊥
 abbrev pub IsBeyond : Room → Receipt → Type 0
 IsBeyond room r = 0 < room.receipts → length (offers_of (pair_of r)) ≤ room.offers → ⊥
 
--- The receipt fits and is new, and as many are held as may be.
+-- The receipt fits and is new, and no more may be held.
 pub record IsOneTooMany (m : Meaning) (r : Receipt) : Type 0 where
   pub fits : IsFitting m.config r
   pub unheld : Contains m.held r → ⊥
@@ -82,7 +82,7 @@ RefusesReceipt m room r _ = ⊥
 
 -- ---- one record of distrust
 
--- The configuration has the domain, the record is new, and as many are held as may be.
+-- The configuration has the domain, the record is new, and no more may be held.
 pub record IsOneRecordTooMany (m : Meaning) (x : Distrust) : Type 0 where
   pub domain : HasDomain m.config x.domain
   pub unheld : Contains m.records x → ⊥

@@ -26,7 +26,7 @@ pub type NoMemory = AllocError;
 /// id and an X.509 authority with the receipt's key, and that key is not distrusted in that domain.
 /// A receipt that no accepted document vouches for is pending, and is still held. How many receipts
 /// and records of distrust are held at most is what the configuration's limits say, and never more
-/// than 65,536 receipts and 4,096 records.
+/// than 4,194,304 receipts and 65,536 records.
 pub trait Closure: Drop {
     ghost use Rattle.receipt_core.specs.Acceptance.{Meaning, IsMeaning, IsMember};
     ghost use Rattle.closure_core.specs.AcceptedList.{IsAcceptedList, IsPendingCount, document_of};

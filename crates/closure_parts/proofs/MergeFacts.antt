@@ -29,6 +29,7 @@ use Rattle.closure_parts.proofs.ConfigFacts.{place_has}
 use Rattle.closure_core.proofs.ContainsFacts.{contains_first, contains_later, contains_none, contains_cases}
 use Rattle.closure_core.proofs.FitFacts.{fits_right, wrong_known, low_known, low_right}
 use Rattle.closure_core.proofs.RisingFacts.{not_again, with_items_keeps}
+use Rattle.receipt_core.specs.Limits.{most_receipts}
 use Rattle.closure_core.proofs.UnionFacts.{receipt_sets, record_sets, always}
 
 -- ---- how far a loop has come
@@ -178,16 +179,16 @@ pub record IsCopied (held all rest copies : List Receipt) : Type 0 where
   pub within : (r : Receipt) → Contains rest r → Contains all r
   pub each : (r : Receipt) → Contains copies r → Contains all r
   pub unheld : (r : Receipt) → Contains copies r → Contains held r → ⊥
-  pub counted : IsCounted held all rest (length copies) 65536
+  pub counted : IsCounted held all rest (length copies) most_receipts
 
 -- Before the first receipt none is copied: the loop's beginning.
-pub IsCopied-start : (held all : List Receipt) → length all ≤ 65536 → IsCopied held all all []
+pub IsCopied-start : (held all : List Receipt) → length all ≤ most_receipts → IsCopied held all all []
 IsCopied-start held all few = record {
   joined = refl;
   within = λ r has. has;
   each = λ r has. absurd (contains_none r has);
   unheld = λ r has. absurd (contains_none r has);
-  counted = IsCounted-start held all 65536 few;
+  counted = IsCounted-start held all most_receipts few;
 }
 
 -- A receipt that is held is not copied.
@@ -204,7 +205,7 @@ IsCopied-held held all rest later copies r rising copied e has =
       within = λ s more. copied.within s (subst (λ (xs : List Receipt). Contains xs s) (sym e) (contains_later r later s more));
       each = copied.each;
       unheld = copied.unheld;
-      counted = IsCounted-held held all rest later r (length copies) 65536 copied.counted e has;
+      counted = IsCounted-held held all rest later r (length copies) most_receipts copied.counted e has;
     }
 
 -- A receipt that is not held is copied.
@@ -223,7 +224,8 @@ IsCopied-new held all rest later copies new r copy copied e lacks push same =
           [ inl old ↦ copied.each s old | inr same ↦ subst (Contains all) same here ];
       unheld = λ s has. elim (Contains-push_cases copies r s (subst (λ (xs : List Receipt). Contains xs s) pushed has))
           [ inl old ↦ copied.unheld s old | inr same ↦ λ holds. lacks (subst (Contains held) (sym same) holds) ];
-      counted = subst (λ n. IsCounted held all later n 65536) (sym size) (IsCounted-new held all rest later r (length copies) 65536 copied.counted e lacks);
+      counted = subst (λ n. IsCounted held all later n most_receipts) (sym size)
+          (IsCounted-new held all rest later r (length copies) most_receipts copied.counted e lacks);
     }
 
 -- If nothing is left, all are copied that are not held.
@@ -234,7 +236,7 @@ IsCopied-end m other rest copies is was copied e = record {
       ∙ sym (ap (λ (xs : List Receipt). with_items receipt_cmp (copies ++ xs) m.held) e) ∙ copied.joined;
   each = copied.each;
   unheld = copied.unheld;
-  count = counted_receipts m other rest (length copies) 65536 is was copied.counted e;
+  count = counted_receipts m other rest (length copies) most_receipts is was copied.counted e;
 }
 
 -- The next receipt is one of all.

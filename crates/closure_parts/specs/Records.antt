@@ -18,7 +18,7 @@ pub record KeptRecords : Type 0 where
   pub records : List Record
   pub limit : ℕ
 
--- They rise and are not too many, and there is room for as many as there may be.
+-- They rise and are not too many, and there is room for all that may be held.
 pub record AreRecords (kept : KeptRecords) (capacity : ℕ) : Type 0 where
   pub rising : IsStrictlySortedBy record_cmp kept.records
   pub few : length kept.records ≤ kept.limit

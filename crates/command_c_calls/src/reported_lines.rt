@@ -24,7 +24,7 @@ pub struct ReportedLines {
 /// # Errors
 /// The first of these that holds:
 /// - [`CallError::Config`]: the bytes are not a configuration,
-/// - [`CallError::Full`]: more than 65,536 different receipts fit,
+/// - [`CallError::Full`]: more different receipts fit than may be held,
 /// - [`CallError::NoMemory`]: memory ran out.
 pub fn report_lines(alloc: Global, config: &[u8], lines: &[u8]) -> Result<ReportedLines, CallError>
     ensures { MatchResult result (ReportsBytes config.now lines.now)

@@ -1,1 +1,1 @@
-mod ConfigFacts
+pub mod ConfigFacts

@@ -11,7 +11,7 @@ use thiserror::Error;
 /// Why a stream of receipts gives no report.
 #[derive(Clone, Copy, Debug, PartialEq, Eq, Error)]
 pub enum RunError {
-    /// More than 65,536 different receipts fit.
+    /// More different receipts fit than may be held.
     #[error("E1 Full")]
     Full,
     /// Memory ran out.

@@ -257,7 +257,7 @@ pub(crate) fn say_state(
     let Some(path) = given(call, OptionName::Config) else {
         return Ok(());
     };
-    let Ok(config) = options::config(rt, rt.alloc(), path) else {
+    let Ok(config) = options::config_limited(rt, call, path) else {
         return Ok(());
     };
     let state = state_path(call);
@@ -282,7 +282,7 @@ fn say_changed_state(
     previous: &str,
     error: &CommandError,
 ) -> Result<(), AllocError> {
-    let Ok(config) = options::config(rt, rt.alloc(), previous) else {
+    let Ok(config) = options::config_limited(rt, call, previous) else {
         return Ok(());
     };
     let path = state_path(call);

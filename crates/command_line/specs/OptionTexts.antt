@@ -14,9 +14,12 @@ use Rattle.command_line.specs.declared.command_name.CommandName.{CommandName}
 use Rattle.command_line.specs.declared.command_name.OptionName.{OptionName}
 use Rattle.command_line.specs.declared.command_name.OptionName.TheVariants.{MostBytes, Verbose}
 use Rattle.command_line.specs.declared.command_name.OptionName.TheVariants.{Wait}
+use Rattle.command_line.specs.declared.command_name.OptionName.TheVariants.{MostReceipts}
+use Rattle.command_line.specs.declared.command_name.OptionName.TheVariants.{MostRecords}
 use Rattle.command_line.specs.declared.option_error.OptionError.{OptionError}
 use Rattle.command_line.specs.declared.option_error.OptionError.TheVariants.{BadNumber}
 use Rattle.command_line.specs.declared.option_texts.Manner.{Manner}
+use Rattle.command_line.specs.declared.option_texts.MostHeld.{MostHeld}
 use Rattle.command_line.specs.declared.option_texts.BundleFormat.{BundleFormat}
 use Rattle.command_line.specs.declared.option_texts.BundleFormat.TheVariants.{Json, Pem}
 use Rattle.command_line.specs.declared.option_texts.OutputForm.{OutputForm}
@@ -120,3 +123,36 @@ SaysNoManner name texts (BadNumber MostBytes) =
     ((n : ℕ) × SaysWait (option_said name texts Wait) (Some n))
     × SaysMostBytes (option_said name texts MostBytes) None
 SaysNoManner name texts error = ⊥
+
+-- ---- how much may be held
+
+-- the number of the text, or another one if there is no text; and `None` if that is 0, or if the
+-- text is not the text of a number
+abbrev pub SaysCount : (otherwise most : ℕ) → Option (List ℕ) → Option ℕ → Type 0
+SaysCount otherwise most text (Some n) = SaysNumber otherwise most text (Some n) × (1 ≤ n)
+SaysCount otherwise most text None =
+    (n : ℕ) → SaysNumber otherwise most text (Some n) → 1 ≤ n → ⊥
+
+-- How many receipts may be held: 65,536, or a number from 1 to 4,194,304.
+abbrev pub SaysMostReceipts : Option (List ℕ) → Option ℕ → Type 0
+SaysMostReceipts = SaysCount 65536 4194304
+
+-- How many records of distrust may be held: 4,096, or a number from 1 to 65,536.
+abbrev pub SaysMostRecords : Option (List ℕ) → Option ℕ → Type 0
+SaysMostRecords = SaysCount 4096 65536
+
+-- what the arguments say of how much may be held
+pub record SaysMostHeld (name : CommandName) (texts : List (Option (List ℕ)))
+    (most : MostHeld) : Type 0 where
+  pub receipts : SaysMostReceipts (option_said name texts MostReceipts) (Some most.receipts)
+  pub records : SaysMostRecords (option_said name texts MostRecords) (Some most.records)
+
+-- The receipts are not a number in their range; or they are one or are left out, and the records
+-- are not a number in their range.
+abbrev pub SaysNoMostHeld : CommandName → List (Option (List ℕ)) → OptionError → Type 0
+SaysNoMostHeld name texts (BadNumber MostReceipts) =
+    SaysMostReceipts (option_said name texts MostReceipts) None
+SaysNoMostHeld name texts (BadNumber MostRecords) =
+    ((n : ℕ) × SaysMostReceipts (option_said name texts MostReceipts) (Some n))
+    × SaysMostRecords (option_said name texts MostRecords) None
+SaysNoMostHeld name texts error = ⊥

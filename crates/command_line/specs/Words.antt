@@ -35,6 +35,8 @@ use Rattle.command_line.specs.declared.command_name.OptionName.TheVariants.{Opti
 use Rattle.command_line.specs.declared.command_name.OptionName.TheVariants.{ExpiresWithin, Audit}
 use Rattle.command_line.specs.declared.command_name.OptionName.TheVariants.{PeerQuiet, Floors}
 use Rattle.command_line.specs.declared.command_name.OptionName.TheVariants.{Previous}
+use Rattle.command_line.specs.declared.command_name.OptionName.TheVariants.{MostReceipts}
+use Rattle.command_line.specs.declared.command_name.OptionName.TheVariants.{MostRecords}
 
 abbrev pub option_text : OptionName → List ℕ
 option_text Config = codes "config"
@@ -79,6 +81,8 @@ option_text Polls = codes "polls"
 option_text Health = codes "health"
 option_text Audit = codes "audit"
 option_text Previous = codes "previous"
+option_text MostReceipts = codes "most-receipts"
+option_text MostRecords = codes "most-records"
 
 -- it has no text after it
 abbrev pub is_flag : OptionName → Bool
@@ -118,15 +122,20 @@ may_be_left_out Polls = true
 may_be_left_out Health = true
 may_be_left_out Audit = true
 may_be_left_out Previous = true
+may_be_left_out MostReceipts = true
+may_be_left_out MostRecords = true
 may_be_left_out option = false
 
--- it names a file that a running replica has itself, or it is the format of a command that no such
--- replica carries out, so arguments with `--at` leave it out
+-- it names a file that a running replica has itself, or it limits what is held, which that replica
+-- does itself, or it is the format of a command that no such replica carries out, so arguments with
+-- `--at` leave it out
 abbrev pub is_place : OptionName → Bool
 is_place Config = true
 is_place State = true
 is_place OptionalState = true
 is_place FileFormat = true
+is_place MostReceipts = true
+is_place MostRecords = true
 is_place option = false
 
 abbrev pub name_text : CommandName → List ℕ
@@ -154,30 +163,40 @@ name_text command.Stop = codes "stop"
 abbrev pub options_of : CommandName → List OptionName
 options_of command.Canon = Domain ∷ FileFormat ∷ Verbose ∷ []
 options_of command.Config = Config ∷ With ∷ Format ∷ Wait ∷ Verbose ∷ At ∷ []
-options_of command.New = Config ∷ State ∷ Wait ∷ Verbose ∷ []
-options_of command.Report = Config ∷ OptionalState ∷ Format ∷ New ∷ Wait ∷ Verbose ∷ At ∷ []
+options_of command.New = Config ∷ State ∷ Wait ∷ MostReceipts ∷ MostRecords ∷ Verbose ∷ []
+options_of command.Report = Config ∷ OptionalState ∷ Format ∷ New ∷ Wait ∷ MostReceipts
+    ∷ MostRecords ∷ Verbose ∷ At ∷ []
 options_of command.List = Config ∷ State ∷ OptionalDomain ∷ Keys ∷ Format ∷ New ∷ Wait
-    ∷ Verbose ∷ At ∷ []
-options_of command.Diff = Config ∷ State ∷ With ∷ New ∷ Wait ∷ Verbose ∷ At ∷ []
-options_of command.Graph = Config ∷ State ∷ OptionalDomain ∷ New ∷ Wait ∷ Verbose ∷ At ∷ []
-options_of command.Status = Config ∷ State ∷ Format ∷ OptionalNow ∷ ExpiresWithin ∷ PeerQuiet
-    ∷ Polls ∷ New ∷ Wait ∷ Verbose ∷ At ∷ []
-options_of command.Bundle = Config ∷ State ∷ Domain ∷ Format ∷ Wait ∷ Verbose ∷ At ∷ []
-options_of command.Explain = Config ∷ State ∷ Domain ∷ Short ∷ Format ∷ Wait ∷ Verbose ∷ At
-    ∷ []
-options_of command.Observe = Config ∷ State ∷ Domain ∷ Endpoint ∷ Key ∷ Wait ∷ Verbose
+    ∷ MostReceipts ∷ MostRecords ∷ Verbose ∷ At ∷ []
+options_of command.Diff = Config ∷ State ∷ With ∷ New ∷ Wait ∷ MostReceipts ∷ MostRecords ∷ Verbose
     ∷ At ∷ []
-options_of command.Merge = Config ∷ State ∷ Wait ∷ MostBytes ∷ Verbose ∷ At ∷ []
-options_of command.Migrate = Config ∷ State ∷ To ∷ RecordsOnly ∷ Wait ∷ Verbose ∷ At ∷ []
-options_of command.Reseed = Config ∷ State ∷ Allow ∷ Floors ∷ Wait ∷ Verbose ∷ At ∷ []
-options_of command.Polls = Config ∷ State ∷ Now ∷ Format ∷ Wait ∷ Verbose ∷ At ∷ []
+options_of command.Graph = Config ∷ State ∷ OptionalDomain ∷ New ∷ Wait ∷ MostReceipts ∷ MostRecords
+    ∷ Verbose ∷ At ∷ []
+options_of command.Status = Config ∷ State ∷ Format ∷ OptionalNow ∷ ExpiresWithin ∷ PeerQuiet
+    ∷ Polls ∷ New ∷ Wait ∷ MostReceipts ∷ MostRecords ∷ Verbose ∷ At ∷ []
+options_of command.Bundle = Config ∷ State ∷ Domain ∷ Format ∷ Wait ∷ MostReceipts ∷ MostRecords
+    ∷ Verbose ∷ At ∷ []
+options_of command.Explain = Config ∷ State ∷ Domain ∷ Short ∷ Format ∷ Wait ∷ MostReceipts
+    ∷ MostRecords ∷ Verbose ∷ At ∷ []
+options_of command.Observe = Config ∷ State ∷ Domain ∷ Endpoint ∷ Key ∷ Wait ∷ MostReceipts
+    ∷ MostRecords ∷ Verbose ∷ At ∷ []
+options_of command.Merge = Config ∷ State ∷ Wait ∷ MostBytes ∷ MostReceipts ∷ MostRecords ∷ Verbose
+    ∷ At ∷ []
+options_of command.Migrate = Config ∷ State ∷ To ∷ RecordsOnly ∷ Wait ∷ MostReceipts ∷ MostRecords
+    ∷ Verbose ∷ At ∷ []
+options_of command.Reseed = Config ∷ State ∷ Allow ∷ Floors ∷ Wait ∷ MostReceipts ∷ MostRecords
+    ∷ Verbose ∷ At ∷ []
+options_of command.Polls = Config ∷ State ∷ Now ∷ Format ∷ Wait ∷ MostReceipts ∷ MostRecords
+    ∷ Verbose ∷ At ∷ []
 options_of command.Distrust = Config ∷ State ∷ Domain ∷ OptionalKey ∷ PublicKey ∷ DryRun ∷ New
-    ∷ Wait ∷ Verbose ∷ At ∷ []
-options_of command.Serve = Config ∷ State ∷ Listen ∷ Sessions ∷ Verbose ∷ []
-options_of command.Pull = Config ∷ State ∷ Peer ∷ Wait ∷ MostBytes ∷ Verbose ∷ []
+    ∷ Wait ∷ MostReceipts ∷ MostRecords ∷ Verbose ∷ At ∷ []
+options_of command.Serve = Config ∷ State ∷ Listen ∷ Sessions ∷ MostReceipts ∷ MostRecords ∷ Verbose
+    ∷ []
+options_of command.Pull = Config ∷ State ∷ Peer ∷ Wait ∷ MostBytes ∷ MostReceipts ∷ MostRecords
+    ∷ Verbose ∷ []
 options_of command.Replica = Config ∷ Previous ∷ State ∷ Socket ∷ ReadSocket ∷ OptionalListen
     ∷ Health ∷ Audit ∷ ListenAnywhere ∷ Peers ∷ Every ∷ PeerQuiet ∷ ExpiresWithin ∷ MostBytes
-    ∷ MostRequestBytes ∷ New ∷ Verbose ∷ []
+    ∷ MostReceipts ∷ MostRecords ∷ MostRequestBytes ∷ New ∷ Verbose ∷ []
 options_of command.Stop = Wait ∷ Verbose ∷ At ∷ []
 
 abbrev pub all_names : List CommandName

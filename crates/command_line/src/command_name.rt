@@ -57,6 +57,8 @@ pub enum OptionName {
     Audit,
     /// The configuration that a replica changes from.
     Previous,
+    MostReceipts,
+    MostRecords,
 }
 
 /// A subcommand.
@@ -176,6 +178,8 @@ impl OptionName {
             OptionName::Health => "health",
             OptionName::Audit => "audit",
             OptionName::Previous => "previous",
+            OptionName::MostReceipts => "most-receipts",
+            OptionName::MostRecords => "most-records",
         }
     }
 
@@ -226,11 +230,14 @@ impl OptionName {
                 | OptionName::Health
                 | OptionName::Audit
                 | OptionName::Previous
+                | OptionName::MostReceipts
+                | OptionName::MostRecords
         )
     }
 
-    /// Whether it names a file that a running replica has itself, or is the format of a command
-    /// that no such replica carries out: arguments with `--at` leave it out.
+    /// Whether it names a file that a running replica has itself, or limits what is held, which
+    /// that replica does itself, or is the format of a command that no such replica carries out:
+    /// arguments with `--at` leave it out.
     pub fn is_place(self) -> bool
         ensures { result ≡ is_place self }
     {
@@ -240,6 +247,8 @@ impl OptionName {
                 | OptionName::State
                 | OptionName::OptionalState
                 | OptionName::FileFormat
+                | OptionName::MostReceipts
+                | OptionName::MostRecords
         )
     }
 }
@@ -259,24 +268,28 @@ static CONFIG: [OptionName; 6] = [
     OptionName::At,
 ];
 
-static NEW: [OptionName; 4] = [
+static NEW: [OptionName; 6] = [
     OptionName::Config,
     OptionName::State,
     OptionName::Wait,
+    OptionName::MostReceipts,
+    OptionName::MostRecords,
     OptionName::Verbose,
 ];
 
-static REPORT: [OptionName; 7] = [
+static REPORT: [OptionName; 9] = [
     OptionName::Config,
     OptionName::OptionalState,
     OptionName::Format,
     OptionName::New,
     OptionName::Wait,
+    OptionName::MostReceipts,
+    OptionName::MostRecords,
     OptionName::Verbose,
     OptionName::At,
 ];
 
-static LIST: [OptionName; 9] = [
+static LIST: [OptionName; 11] = [
     OptionName::Config,
     OptionName::State,
     OptionName::OptionalDomain,
@@ -284,31 +297,37 @@ static LIST: [OptionName; 9] = [
     OptionName::Format,
     OptionName::New,
     OptionName::Wait,
+    OptionName::MostReceipts,
+    OptionName::MostRecords,
     OptionName::Verbose,
     OptionName::At,
 ];
 
-static GRAPH: [OptionName; 7] = [
+static GRAPH: [OptionName; 9] = [
     OptionName::Config,
     OptionName::State,
     OptionName::OptionalDomain,
     OptionName::New,
     OptionName::Wait,
+    OptionName::MostReceipts,
+    OptionName::MostRecords,
     OptionName::Verbose,
     OptionName::At,
 ];
 
-static DIFF: [OptionName; 7] = [
+static DIFF: [OptionName; 9] = [
     OptionName::Config,
     OptionName::State,
     OptionName::With,
     OptionName::New,
     OptionName::Wait,
+    OptionName::MostReceipts,
+    OptionName::MostRecords,
     OptionName::Verbose,
     OptionName::At,
 ];
 
-static STATUS: [OptionName; 11] = [
+static STATUS: [OptionName; 13] = [
     OptionName::Config,
     OptionName::State,
     OptionName::Format,
@@ -318,82 +337,98 @@ static STATUS: [OptionName; 11] = [
     OptionName::Polls,
     OptionName::New,
     OptionName::Wait,
+    OptionName::MostReceipts,
+    OptionName::MostRecords,
     OptionName::Verbose,
     OptionName::At,
 ];
 
-static BUNDLE: [OptionName; 7] = [
+static BUNDLE: [OptionName; 9] = [
     OptionName::Config,
     OptionName::State,
     OptionName::Domain,
     OptionName::Format,
     OptionName::Wait,
+    OptionName::MostReceipts,
+    OptionName::MostRecords,
     OptionName::Verbose,
     OptionName::At,
 ];
 
-static EXPLAIN: [OptionName; 8] = [
+static EXPLAIN: [OptionName; 10] = [
     OptionName::Config,
     OptionName::State,
     OptionName::Domain,
     OptionName::Short,
     OptionName::Format,
     OptionName::Wait,
+    OptionName::MostReceipts,
+    OptionName::MostRecords,
     OptionName::Verbose,
     OptionName::At,
 ];
 
-static OBSERVE: [OptionName; 8] = [
+static OBSERVE: [OptionName; 10] = [
     OptionName::Config,
     OptionName::State,
     OptionName::Domain,
     OptionName::Endpoint,
     OptionName::Key,
     OptionName::Wait,
+    OptionName::MostReceipts,
+    OptionName::MostRecords,
     OptionName::Verbose,
     OptionName::At,
 ];
 
-static MERGE: [OptionName; 6] = [
+static MERGE: [OptionName; 8] = [
     OptionName::Config,
     OptionName::State,
     OptionName::Wait,
     OptionName::MostBytes,
+    OptionName::MostReceipts,
+    OptionName::MostRecords,
     OptionName::Verbose,
     OptionName::At,
 ];
 
-static MIGRATE: [OptionName; 7] = [
+static MIGRATE: [OptionName; 9] = [
     OptionName::Config,
     OptionName::State,
     OptionName::To,
     OptionName::RecordsOnly,
     OptionName::Wait,
+    OptionName::MostReceipts,
+    OptionName::MostRecords,
     OptionName::Verbose,
     OptionName::At,
 ];
 
-static RESEED: [OptionName; 7] = [
+static RESEED: [OptionName; 9] = [
     OptionName::Config,
     OptionName::State,
     OptionName::Allow,
     OptionName::Floors,
     OptionName::Wait,
+    OptionName::MostReceipts,
+    OptionName::MostRecords,
     OptionName::Verbose,
     OptionName::At,
 ];
 
-static POLLS: [OptionName; 7] = [
+static POLLS: [OptionName; 9] = [
     OptionName::Config,
     OptionName::State,
     OptionName::Now,
     OptionName::Format,
     OptionName::Wait,
+    OptionName::MostReceipts,
+    OptionName::MostRecords,
     OptionName::Verbose,
     OptionName::At,
 ];
 
-static DISTRUST: [OptionName; 10] = [
+static DISTRUST: [OptionName; 12] = [
     OptionName::Config,
     OptionName::State,
     OptionName::Domain,
@@ -402,28 +437,34 @@ static DISTRUST: [OptionName; 10] = [
     OptionName::DryRun,
     OptionName::New,
     OptionName::Wait,
+    OptionName::MostReceipts,
+    OptionName::MostRecords,
     OptionName::Verbose,
     OptionName::At,
 ];
 
-static SERVE: [OptionName; 5] = [
+static SERVE: [OptionName; 7] = [
     OptionName::Config,
     OptionName::State,
     OptionName::Listen,
     OptionName::Sessions,
+    OptionName::MostReceipts,
+    OptionName::MostRecords,
     OptionName::Verbose,
 ];
 
-static PULL: [OptionName; 6] = [
+static PULL: [OptionName; 8] = [
     OptionName::Config,
     OptionName::State,
     OptionName::Peer,
     OptionName::Wait,
     OptionName::MostBytes,
+    OptionName::MostReceipts,
+    OptionName::MostRecords,
     OptionName::Verbose,
 ];
 
-static REPLICA: [OptionName; 17] = [
+static REPLICA: [OptionName; 19] = [
     OptionName::Config,
     OptionName::Previous,
     OptionName::State,
@@ -438,6 +479,8 @@ static REPLICA: [OptionName; 17] = [
     OptionName::PeerQuiet,
     OptionName::ExpiresWithin,
     OptionName::MostBytes,
+    OptionName::MostReceipts,
+    OptionName::MostRecords,
     OptionName::MostRequestBytes,
     OptionName::New,
     OptionName::Verbose,

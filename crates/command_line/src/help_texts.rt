@@ -4,7 +4,7 @@ use crate::command_name::{CommandName, OptionName};
 /// What `--version` prints: the version on a line of its own; then the kit with which it is proved
 /// and built, and the formats: the numbers are those in the first lines that are written.
 pub const VERSION: &str = "\
-0.9.2
+0.10.0
 kit rattle-kit-13f logic dac8208d650f15bf
 state format 2, and 1 is read
 journal format 2
@@ -17,7 +17,8 @@ pub(crate) const USAGE: &str = "fedbundle <COMMAND>";
 /// What help says after the list of subcommands.
 pub(crate) const NOTES: &str = "\
 `fedbundle <COMMAND> --help` says what a subcommand reads, what it writes, and how it ends.
-A missing state holds nothing, unless that says that it is refused.
+A missing state holds nothing, unless that says that it is refused. A state that holds more
+than --most-receipts and --most-records allow is refused.
 
 An error is one line on standard error, `fedbundle: ` and a code. Exit status:
   0  done
@@ -70,7 +71,8 @@ const REPORT_NOTES: &str = "\
 Reads the configuration. With --state it reads the state file, and nothing from standard
 input; a missing state is refused without --new. Without --state it reads from
 standard input receipts, each a line of at most 8,388,608 bytes, as `observe` prints them.
-At most 65,536 different ones are taken, and no record of distrust is known.
+At most 65,536 different ones are taken, or the number of --most-receipts, and no record of
+distrust is known.
 
 Writes to standard output the report: the configuration's digest, how many receipts are
 held and how many of them are pending, and for each domain its current document, its
@@ -209,8 +211,8 @@ was fetched, JSON of at most 1,048,576 bytes. What --endpoint and --key say is t
 of TLS on the connection that brought it, and is believed.
 
 Writes to standard output the receipt, on a line, and then the state file with it, by way
-of FILE.new and under the lock of FILE.lock: at most 65,536 receipts are held. What is
-printed counts only if the exit status is 0.
+of FILE.new and under the lock of FILE.lock: at most 65,536 receipts are held, or the
+number of --most-receipts. What is printed counts only if the exit status is 0.
 
 Ends with 0; with 1 if anything read is refused, if the endpoint is another than the
 relationship says, or if the current document of its domain does not list the key. Then
@@ -222,8 +224,8 @@ under the same configuration, with lines of at most 8,388,608 bytes.
 
 Writes to standard output `new` and how many of its receipts were not held, and then the
 state file, which holds what either held, by way of FILE.new and under the lock of
-FILE.lock: at most 65,536 receipts and 4,096 records of distrust. What is printed counts
-only if the exit status is 0.
+FILE.lock: at most 65,536 receipts and 4,096 records of distrust, or the numbers of
+--most-receipts and --most-records. What is printed counts only if the exit status is 0.
 
 Ends with 0; with 1 if anything read is refused or the two together are too many. Then
 nothing is taken, and the state file is as it was.";
@@ -281,9 +283,9 @@ const DISTRUST_NOTES: &str = "\
 Reads the configuration and the state file, and nothing from standard input.
 
 Writes the state file, by way of FILE.new and under the lock of FILE.lock, with the record
-that the key vouches for nothing in the domain any more; at most 4,096 records are held,
-and none is ever taken back. It prints nothing; with --verbose it first writes to standard
-error what the record changes.
+that the key vouches for nothing in the domain any more; at most 4,096 records are held, or
+the number of --most-records, and none is ever taken back. It prints nothing; with
+--verbose it first writes to standard error what the record changes.
 
 A key id is that of one certificate. With --public-key in place of --key it makes a record
 for each key of the domain that is known now and whose certificate has this public key, as
@@ -333,9 +335,9 @@ takes what is answered.
 
 Writes to standard output `new` and how many receipts were not held, and then the state
 file, by way of FILE.new and under the lock of FILE.lock: at most 65,536 receipts and
-4,096 records of distrust are held. If the session ends with an error, what came before it
-is taken and written too, `new` is not printed, and the error's line ends with `taken` and
-how many receipts were new.
+4,096 records of distrust are held, or the numbers of --most-receipts and --most-records.
+If the session ends with an error, what came before it is taken and written too, `new` is
+not printed, and the error's line ends with `taken` and how many receipts were new.
 
 To connect takes 30 seconds at most: if it does not succeed, or if nobody serves at the
 address, it ends with the error S9, and writes nothing. The session ends with S9 if a read
@@ -347,7 +349,9 @@ connection or it failed.";
 
 const REPLICA_NOTES: &str = "\
 Reads the configuration and the state file, and nothing from standard input. It keeps what
-they hold in memory, and the lock of FILE.lock, until `stop` ends it.
+they hold in memory, and the lock of FILE.lock, until `stop` ends it. At most 65,536
+receipts and 4,096 records of distrust are held, or the numbers of --most-receipts and
+--most-records; the commands with --at leave these two out.
 
 Answers requests of this machine on the socket, whose mode is 0600: the commands with --at.
 At the one of --read-socket, whose mode is 0660, it refuses `stop` and all that would
@@ -439,6 +443,8 @@ impl OptionName {
             OptionName::Health => "ADDRESS",
             OptionName::Audit => "PATH",
             OptionName::Previous => "FILE",
+            OptionName::MostReceipts => "COUNT",
+            OptionName::MostRecords => "COUNT",
         }
     }
 
@@ -512,6 +518,9 @@ impl OptionName {
                 "The address of health, metrics and a page: an IP address and a port",
             OptionName::Previous =>
                 "The configuration to change from; a missing file counts as if it was not named",
+            OptionName::MostReceipts => "How many receipts may be held, from 1 to 4194304 [65536]",
+            OptionName::MostRecords =>
+                "How many records of distrust may be held, from 1 to 65536 [4096]",
         }
     }
 }
@@ -570,100 +579,110 @@ impl CommandName {
                 [--wait <SECONDS>] [--verbose]"
             }
             CommandName::New => {
-                "fedbundle new --config <FILE> --state <FILE> [--wait <SECONDS>] [--verbose]"
+                "fedbundle new --config <FILE> --state <FILE> [--wait <SECONDS>] \
+                [--most-receipts <COUNT>] [--most-records <COUNT>] [--verbose]"
             }
             CommandName::Report => {
                 "fedbundle report --config <FILE> [--state <FILE>] [--format <FORMAT>] [--new] \
-                [--verbose]\n       \
+                [--most-receipts <COUNT>] [--most-records <COUNT>] [--verbose]\n       \
                 fedbundle report --at <PATH> [--format <FORMAT>] [--wait <SECONDS>] [--verbose]"
             }
             CommandName::List => {
                 "fedbundle list --config <FILE> --state <FILE> [--domain <DOMAIN>] [--keys] \
-                [--format <FORMAT>] [--new] [--verbose]\n       \
+                [--format <FORMAT>] [--new] [--most-receipts <COUNT>] [--most-records <COUNT>] \
+                [--verbose]\n       \
                 fedbundle list --at <PATH> [--domain <DOMAIN>] [--keys] [--format <FORMAT>] \
                 [--wait <SECONDS>] [--verbose]"
             }
             CommandName::Diff => {
                 "fedbundle diff --config <FILE> --state <FILE> --with <FILE> [--new] \
-                [--verbose]\n       \
+                [--most-receipts <COUNT>] [--most-records <COUNT>] [--verbose]\n       \
                 fedbundle diff --at <PATH> --with <FILE> [--wait <SECONDS>] [--verbose]"
             }
             CommandName::Graph => {
                 "fedbundle graph --config <FILE> --state <FILE> [--domain <DOMAIN>] [--new] \
-                [--verbose]\n       \
+                [--most-receipts <COUNT>] [--most-records <COUNT>] [--verbose]\n       \
                 fedbundle graph --at <PATH> [--domain <DOMAIN>] [--wait <SECONDS>] [--verbose]"
             }
             CommandName::Status => {
                 "fedbundle status --config <FILE> --state <FILE> [--format <FORMAT>] \
                 [--now <SECONDS>] [--expires-within <DAYS>] [--polls <FILE>] [--new] \
-                [--verbose]\n       \
+                [--most-receipts <COUNT>] [--most-records <COUNT>] [--verbose]\n       \
                 fedbundle status --at <PATH> [--format <FORMAT>] [--now <SECONDS>] \
                 [--expires-within <DAYS>] [--peer-quiet <SECONDS>] [--polls <FILE>] \
                 [--wait <SECONDS>] [--verbose]"
             }
             CommandName::Bundle => {
                 "fedbundle bundle --config <FILE> --state <FILE> --domain <DOMAIN> \
-                [--format <FORMAT>] [--verbose]\n       \
+                [--format <FORMAT>] [--most-receipts <COUNT>] [--most-records <COUNT>] \
+                [--verbose]\n       \
                 fedbundle bundle --at <PATH> --domain <DOMAIN> [--format <FORMAT>] \
                 [--wait <SECONDS>] [--verbose]"
             }
             CommandName::Explain => {
                 "fedbundle explain --config <FILE> --state <FILE> --domain <DOMAIN> [--short] \
-                [--format <FORMAT>] [--verbose]\n       \
+                [--format <FORMAT>] [--most-receipts <COUNT>] [--most-records <COUNT>] \
+                [--verbose]\n       \
                 fedbundle explain --at <PATH> --domain <DOMAIN> [--short] [--format <FORMAT>] \
                 [--wait <SECONDS>] [--verbose]"
             }
             CommandName::Observe => {
                 "fedbundle observe --config <FILE> --state <FILE> --domain <DOMAIN> \
-                --endpoint <SPIFFE_ID> --key <KEY_ID> [--wait <SECONDS>] [--verbose]\n       \
+                --endpoint <SPIFFE_ID> --key <KEY_ID> [--wait <SECONDS>] [--most-receipts <COUNT>] \
+                [--most-records <COUNT>] [--verbose]\n       \
                 fedbundle observe --at <PATH> --domain <DOMAIN> --endpoint <SPIFFE_ID> \
                 --key <KEY_ID> [--wait <SECONDS>] [--verbose]"
             }
             CommandName::Merge => {
                 "fedbundle merge --config <FILE> --state <FILE> [--wait <SECONDS>] \
-                [--most-bytes <BYTES>] [--verbose]\n       \
+                [--most-bytes <BYTES>] [--most-receipts <COUNT>] [--most-records <COUNT>] \
+                [--verbose]\n       \
                 fedbundle merge --at <PATH> [--wait <SECONDS>] [--most-bytes <BYTES>] [--verbose]"
             }
             CommandName::Migrate => {
-                "fedbundle migrate --config <FILE> --state <FILE> [--to <FILE>] \
-                [--records-only] [--verbose]\n       \
-                fedbundle migrate --at <PATH> [--to <FILE>] [--records-only] \
-                [--wait <SECONDS>] [--verbose]"
+                "fedbundle migrate --config <FILE> --state <FILE> [--to <FILE>] [--records-only] \
+                [--most-receipts <COUNT>] [--most-records <COUNT>] [--verbose]\n       \
+                fedbundle migrate --at <PATH> [--to <FILE>] [--records-only] [--wait <SECONDS>] \
+                [--verbose]"
             }
             CommandName::Reseed => {
                 "fedbundle reseed --config <FILE> --state <FILE> [--allow <DOMAIN>] [--floors] \
-                [--verbose]\n       \
+                [--most-receipts <COUNT>] [--most-records <COUNT>] [--verbose]\n       \
                 fedbundle reseed --at <PATH> [--allow <DOMAIN>] [--floors] [--wait <SECONDS>] \
                 [--verbose]"
             }
             CommandName::Polls => {
                 "fedbundle polls --config <FILE> --state <FILE> --now <SECONDS> \
-                [--format <FORMAT>] [--verbose]\n       \
-                fedbundle polls --at <PATH> --now <SECONDS> [--format <FORMAT>] \
-                [--wait <SECONDS>] [--verbose]"
+                [--format <FORMAT>] [--most-receipts <COUNT>] [--most-records <COUNT>] \
+                [--verbose]\n       \
+                fedbundle polls --at <PATH> --now <SECONDS> [--format <FORMAT>] [--wait <SECONDS>] \
+                [--verbose]"
             }
             CommandName::Distrust => {
                 "fedbundle distrust --config <FILE> --state <FILE> --domain <DOMAIN> \
-                --key <KEY_ID> [--dry-run] [--new] [--wait <SECONDS>] [--verbose]\n       \
+                --key <KEY_ID> [--dry-run] [--new] [--wait <SECONDS>] [--most-receipts <COUNT>] \
+                [--most-records <COUNT>] [--verbose]\n       \
                 fedbundle distrust --at <PATH> --domain <DOMAIN> --key <KEY_ID> [--dry-run] \
                 [--wait <SECONDS>] [--verbose]\n       \
-                fedbundle distrust .. --domain <DOMAIN> --public-key <DIGEST> \
-                [--wait <SECONDS>] [--verbose]"
+                fedbundle distrust .. --domain <DOMAIN> --public-key <DIGEST> [--wait <SECONDS>] \
+                [--verbose]"
             }
             CommandName::Serve => {
                 "fedbundle serve --config <FILE> --state <FILE> --listen <ADDRESS> \
-                --sessions <COUNT> [--verbose]"
+                --sessions <COUNT> [--most-receipts <COUNT>] [--most-records <COUNT>] [--verbose]"
             }
             CommandName::Pull => {
-                "fedbundle pull --config <FILE> --state <FILE> --peer <ADDRESS> \
-                [--wait <SECONDS>] [--most-bytes <BYTES>] [--verbose]"
+                "fedbundle pull --config <FILE> --state <FILE> --peer <ADDRESS> [--wait <SECONDS>] \
+                [--most-bytes <BYTES>] [--most-receipts <COUNT>] [--most-records <COUNT>] \
+                [--verbose]"
             }
             CommandName::Replica => {
                 "fedbundle replica --config <FILE> [--previous <FILE>] --state <FILE> \
                 --socket <PATH> [--read-socket <PATH>] [--listen <ADDRESS>] [--health <ADDRESS>] \
                 [--audit <PATH>] [--listen-anywhere] [--peers <ADDRESS,..>] [--every <SECONDS>] \
-                [--peer-quiet <SECONDS>] [--expires-within <DAYS>] \
-                [--most-bytes <BYTES>] [--most-request-bytes <BYTES>] [--new] [--verbose]"
+                [--peer-quiet <SECONDS>] [--expires-within <DAYS>] [--most-bytes <BYTES>] \
+                [--most-receipts <COUNT>] [--most-records <COUNT>] [--most-request-bytes <BYTES>] \
+                [--new] [--verbose]"
             }
             CommandName::Stop => "fedbundle stop --at <PATH> [--wait <SECONDS>] [--verbose]",
         }

@@ -3,6 +3,7 @@ ghost use Rattle.std.specs.Prelude.{◌≡◌, ◌↔◌, ◌==◌, ℕ, IfOk, I
 ghost use Rattle.std.specs.Prelude.{option_map, slice_index_or};
 ghost use Rattle.hex.specs.Hex.{decode_sized, encode_lower};
 ghost use Rattle.command_line.specs.OptionTexts.{IsKeyText, IsNoKeyText, ReadsNumber, SaysManner};
+ghost use Rattle.command_line.specs.OptionTexts.{SaysCount, SaysMostHeld, SaysNoMostHeld};
 ghost use Rattle.command_line.specs.OptionTexts.{SaysNoManner, SaysNumber};
 ghost use Rattle.command_line.specs.OptionTexts.{SaysBundleFormat, SaysExplanationForm, SaysFlag};
 ghost use Rattle.command_line.specs.OptionTexts.{SaysNoBundleFormat, option_said};
@@ -24,6 +25,16 @@ const MAX_WAIT_SECONDS: u64 = 86_400;
 
 /// How many bytes are held at most if nothing else is said.
 const MOST_BYTES: u64 = 4_294_967_296;
+
+/// How many receipts and how many records of distrust may be held if nothing else is said, and at
+/// most.
+const USUAL_RECEIPTS: u64 = 65_536;
+
+const MOST_RECEIPTS: u64 = 4_194_304;
+
+const USUAL_RECORDS: u64 = 4_096;
+
+const MOST_RECORDS: u64 = 65_536;
 
 /// How `bundle` writes a document.
 #[derive(Clone, Copy, Debug, PartialEq, Eq)]
@@ -64,6 +75,15 @@ pub struct Manner {
     pub most_bytes: u64,
     /// Whether more is said on standard error.
     pub is_verbose: bool,
+}
+
+/// How much may be held.
+#[derive(Clone, Copy, Debug)]
+pub struct MostHeld {
+    /// The most receipts.
+    pub receipts: u64,
+    /// The most records of distrust.
+    pub records: u64,
 }
 
 /// The text that the arguments give the option of this name, if they give it one.
@@ -139,6 +159,30 @@ pub fn manner_of(call: &Call<'_>) -> Result<Manner, OptionError>
     })
 }
 
+/// What the arguments say of how much may be held: 65,536 receipts, or the number of
+/// `--most-receipts`, from 1 to 4,194,304; and 4,096 records of distrust, or the number of
+/// `--most-records`, from 1 to 65,536.
+///
+/// # Errors
+/// A text is not a number, or a number out of its range.
+pub fn limits_given(call: &Call<'_>) -> Result<MostHeld, OptionError>
+    ensures ok { IfOk result (SaysMostHeld call.now.name
+        (map (option_map (λ t. t.now)) call.now.texts.items)) }
+    ensures refused { IfErr result (λ error. (option : OptionName) × (error ≡ BadNumber option)) }
+    ensures none { IfErr result (SaysNoMostHeld call.now.name
+        (map (option_map (λ t. t.now)) call.now.texts.items)) }
+{
+    let receipts = given(call, OptionName::MostReceipts);
+    let records = given(call, OptionName::MostRecords);
+    let Some(receipts) = count_up_to(receipts, USUAL_RECEIPTS, MOST_RECEIPTS) else {
+        return Err(OptionError::BadNumber(OptionName::MostReceipts));
+    };
+    let Some(records) = count_up_to(records, USUAL_RECORDS, MOST_RECORDS) else {
+        return Err(OptionError::BadNumber(OptionName::MostRecords));
+    };
+    Ok(MostHeld { receipts, records })
+}
+
 /// The number of an option: that of its text, which is at most `most`, or `otherwise` if the
 /// arguments leave it out.
 ///
@@ -160,6 +204,17 @@ pub fn number_given(
     match number_up_to(given(call, option), otherwise, most) {
         Some(number) => Ok(number),
         None => Err(OptionError::BadNumber(option)),
+    }
+}
+
+// The number of the text, or the other one if there is no text, if it is at least 1.
+fn count_up_to(text: Option<&str>, otherwise: u64, most: u64) -> Option<u64>
+    ensures { SaysCount otherwise most (option_map (λ t. t.now) text.entry) result }
+{
+    match number_up_to(text, otherwise, most) {
+        Some(count) if 1 <= count => Some(count),
+        Some(_) => None,
+        None => None,
     }
 }
 

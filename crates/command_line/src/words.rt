@@ -50,12 +50,13 @@ pub(crate) enum WordsPlace {
 /// Reads the arguments after the program's name, as `clap` reads them for the command with these
 /// subcommands, each of whose options has one text: the subcommand, and the text of each of its
 /// options. A flag's text is `true` if it is given, and else `false`. Arguments with `--at` leave
-/// out `--config` and `--state`, which a running replica has itself.
+/// out `--config`, `--state`, `--most-receipts` and `--most-records`, all of which a running
+/// replica has itself.
 ///
 /// # Errors
 /// - [`WordsError::Words`]: `clap` refuses the arguments, or they ask for help or for the version,
 /// - [`WordsError::Usage`]: `clap` takes the arguments, and the subcommand or an option that it
-///   wants is missing, or `--at` is given with a file,
+///   wants is missing, or `--at` is given with one that a running replica has itself,
 /// - [`WordsError::NoMemory`]: memory ran out.
 pub fn read_words<'a>(alloc: Global, words: &'a [&'a str]) -> Result<Call<'a>, WordsError>
     ensures { ReadsWords CommandLine (map (λ w. w.now) words.now) result }
@@ -64,10 +65,11 @@ pub fn read_words<'a>(alloc: Global, words: &'a [&'a str]) -> Result<Call<'a>, W
 }
 
 /// Reads the arguments of a request to a running replica: those of the command line without `--at`,
-/// and without `--config` and `--state`, which the replica has itself.
+/// and without `--config`, `--state`, `--most-receipts` and `--most-records`, all of which the
+/// replica has itself.
 ///
 /// # Errors
-/// Those of [`read_words`]; [`WordsError::Usage`] if one of these three is given.
+/// Those of [`read_words`]; [`WordsError::Usage`] if one of these five is given.
 pub fn read_request<'a>(alloc: Global, words: &'a [&'a str]) -> Result<Call<'a>, WordsError>
     ensures { ReadsWords Request (map (λ w. w.now) words.now) result }
 {

@@ -1,8 +1,8 @@
 //! The texts of options that name a file, a socket or a number, read.
 use byte_lines::FromRead;
 use command_exits::{CommandError, Exit, read_config};
-use command_line::{Call, OptionName, given, is_flag_given, read_sessions, wanted};
-use fed_config::Config;
+use command_line::{Call, OptionName, given, is_flag_given, limits_given, read_sessions, wanted};
+use fed_config::{Config, Limits};
 use std::alloc::Global;
 use std::fs::Files;
 use std::net::SocketAddr;
@@ -22,15 +22,19 @@ pub fn config<R: Files>(files: &R, alloc: Global, path: &str) -> Result<Config, 
     read_config(alloc, &mut file(files, path)?)
 }
 
-/// The configuration in the file, or `None` if there is no such file.
-pub fn config_there<R: Files>(
-    files: &R,
-    alloc: Global,
-    path: &str,
-) -> Result<Option<Config>, CommandError> {
-    match fs::metadata(files, path) {
+/// The configuration in the file, with the limits that the arguments give it.
+pub fn config_limited(rt: &HostRuntime, call: &Call<'_>, path: &str) -> Result<Config, Exit> {
+    let limits = limits_of(call)?;
+    let mut config = config(rt, rt.alloc(), path)?;
+    config.set_limits(limits);
+    Ok(config)
+}
+
+/// The same, or `None` if there is no such file.
+pub fn config_there(rt: &HostRuntime, call: &Call<'_>, path: &str) -> Result<Option<Config>, Exit> {
+    match fs::metadata(rt, path) {
         Err(error) if error.kind() == io::ErrorKind::NotFound => Ok(None),
-        _ => Ok(Some(config(files, alloc, path)?)),
+        _ => Ok(Some(config_limited(rt, call, path)?)),
     }
 }
 
@@ -52,9 +56,18 @@ pub fn session_count(text: &str) -> Result<u32, Exit> {
     read_sessions(text).ok_or(Exit::BadNumber(OptionName::Sessions))
 }
 
-/// The configuration in the file that the arguments name.
+/// The configuration in the file that the arguments name, with the limits that they give it.
 pub fn config_of(rt: &HostRuntime, call: &Call<'_>) -> Result<Config, Exit> {
-    Ok(config(rt, rt.alloc(), wanted(call, OptionName::Config)?)?)
+    config_limited(rt, call, wanted(call, OptionName::Config)?)
+}
+
+// How much may be held, as the arguments say.
+fn limits_of(call: &Call<'_>) -> Result<Limits, Exit> {
+    let most = limits_given(call)?;
+    Ok(Limits {
+        receipts: most.receipts as usize,
+        records: most.records as usize,
+    })
 }
 
 /// Whether the arguments allow a replica to listen there.

@@ -183,7 +183,9 @@ same_seed s u a b = let same : seed_from s.domain s.document ≡ seed_from u.dom
 -- configurations with equal parts are equal
 same_configuration : (b c : Configuration) → b.relationships ≡ c.relationships → b.seeds ≡ c.seeds → b.floors ≡ c.floors
     → b.limits ≡ c.limits → b ≡ c
-same_configuration b c p q r l = let same : configuration_of b.relationships b.seeds b.floors b.limits ≡ configuration_of c.relationships c.seeds c.floors c.limits = cc in same
+same_configuration b c p q r l =
+    let same : configuration_of b.relationships b.seeds b.floors b.limits ≡ configuration_of c.relationships c.seeds c.floors c.limits = cc in
+    same
 
 -- a strictly sorted list is the list of its own set
 itself : {X : Type 0} (cmp : X → X → Ordering) (xs : List X) → IsStrictlySortedBy cmp xs → IsSetOf cmp xs xs

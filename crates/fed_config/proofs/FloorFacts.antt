@@ -1,6 +1,6 @@
 -- The floors that the members of an object are.
-use Rattle.std.proofs.Common.{◌≡◌, ℕ, ◌+◌, ◌<◌, ◌≤◌, inl, inr, List, [], ◌∷◌, ◌++◌, length, get_or, take, String, Global, string_bytes, string_cmp, Less, Equal}
-use Rattle.std.proofs.Common.{codes, Some, Ok, Err, Result, refl, sym, ap, ap₂, ◌∙◌, subst}
+use Rattle.std.proofs.Common.{◌≡◌, ℕ, ◌+◌, inl, inr, List, [], ◌∷◌, ◌++◌, String, Global, string_bytes, string_cmp, Less}
+use Rattle.std.proofs.Common.{codes, Some, Ok, Err, Result, refl, sym, ap, ap₂, ◌∙◌}
 use Rattle.std.specs.Result.{MatchResult}
 use Rattle.std.specs.Ordering.{nat_cmp}
 use Rattle.std.specs.Cmp.Lexicographic.{slice_cmp}
@@ -13,7 +13,7 @@ use Rattle.serde_json.specs.View.{view, members_view}
 use Rattle.serde_json.specs.declared.value.Value.{Value}
 use Rattle.fed_config.specs.Configuration.{floor_cmp, floor_members}
 use Rattle.fed_config.specs.Inside.Entries.{AreFloors}
-use Rattle.fed_config.specs.Written.{HasCount, HasFloors, SaysFloors}
+use Rattle.fed_config.specs.Written.{HasCount, SaysFloors}
 use Rattle.fed_config.specs.Reading.{Fails}
 use Rattle.fed_config.specs.declared.error.ConfigError.{ConfigError}
 use Rattle.fed_config.specs.declared.error.ConfigError.TheVariants.{Shape}

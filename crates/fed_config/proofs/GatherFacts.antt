@@ -1,5 +1,5 @@
 -- The domains that are gathered, sorted and each once, are those of the configuration.
-use Rattle.std.proofs.Common.{◌≡◌, ℕ, suc, ◌+◌, ◌<◌, ◌⊎◌, inl, inr, List, [], ◌∷◌, ◌++◌, length, get_or, drop, map, refl}
+use Rattle.std.proofs.Common.{◌≡◌, ℕ, ◌+◌, ◌<◌, ◌⊎◌, inl, inr, List, [], ◌∷◌, ◌++◌, length, get_or, drop, map, refl}
 use Rattle.std.proofs.Common.{sym, ap, ◌∙◌, subst, append_assoc, bytes_eq, arith}
 use Rattle.std.specs.List.{Contains, flat_map, dedup, zip}
 use Rattle.std.specs.List.Sorted.{IsPermutation, IsSorted}

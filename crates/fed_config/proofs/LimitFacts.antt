@@ -1,4 +1,4 @@
--- Of the limits of a configuration nothing else in it speaks.
+-- Nothing else in a configuration depends on its limits.
 use Rattle.std.proofs.Common.{◌≡◌, refl, List, ℕ, [], ◌∷◌}
 use Rattle.std.specs.List.{AllByRecursion}
 use Rattle.fed_config.specs.Configuration.{Configuration, AreDomains, IsConfiguration, IsFloor, config_id_of, config_text}

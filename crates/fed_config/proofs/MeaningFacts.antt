@@ -9,7 +9,7 @@ use Rattle.serde_json.specs.Find.{get}
 use Rattle.url.specs.Parts.{Parts, serialize}
 use Rattle.spiffe_name.specs.SpiffeId.{Id, IsId, IsIdText}
 use Rattle.spiffe_name.specs.TrustDomain.{IsDomainText}
-use Rattle.bundle_doc.specs.Bundle.{Bundle, Means, Fits}
+use Rattle.bundle_doc.specs.Bundle.{Bundle, Means}
 use Rattle.fed_config.specs.EndpointUrl.{IsParsed, KeepsUrl}
 use Rattle.fed_config.specs.Written.{RelationshipText, SeedText, Written, HasCount, SaysFloors, SaysRelationshipText, SaysSeedText, SaysWritten, IsText}
 use Rattle.fed_config.specs.Written.{member_count}

@@ -1,6 +1,4 @@
 //! How much may be held under a configuration.
-ghost use Rattle.std.specs.Prelude.{◌≡◌};
-ghost use Rattle.fed_config.specs.Limits.{usual_limits};
 
 /// The most receipts under a configuration that was read.
 pub(crate) const USUAL_RECEIPTS: usize = 65_536;
@@ -18,16 +16,4 @@ pub struct Limits {
     pub receipts: usize,
     /// The most records of distrust.
     pub records: usize,
-}
-
-impl Limits {
-    /// The limits of a configuration that was read: 65,536 receipts and 4,096 records.
-    pub fn usual() -> Limits
-        ensures { result ≡ usual_limits }
-    {
-        Limits {
-            receipts: USUAL_RECEIPTS,
-            records: USUAL_RECORDS,
-        }
-    }
 }

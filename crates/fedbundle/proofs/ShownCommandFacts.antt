@@ -1,5 +1,5 @@
 -- What each command does that shows what is held, by what its functions answer
-use Rattle.std.proofs.Common.{◌≡◌, ℕ, Bool, true, false, if◌then◌else◌, List, [], length, Option, Some, None, Result, Ok, Err, inl, inr, refl, ap, ◌∙◌, subst}
+use Rattle.std.proofs.Common.{◌≡◌, ℕ, if◌then◌else◌, List, [], length, Option, Some, None, Result, Ok, Err, inl, inr, refl, ap, ◌∙◌, subst}
 use Rattle.std.proofs.Common.{sym}
 use Rattle.std.specs.Global.{Vec}
 use Rattle.fed_config.specs.Configuration.{Configuration}
@@ -12,16 +12,11 @@ use Rattle.reseeding.specs.declared.new_start.Reseeded.TheVariants.{Refusals, Se
 use Rattle.command_line.specs.declared.option_texts.OutputForm.{OutputForm}
 use Rattle.command_line.specs.declared.command_name.CommandName.{CommandName}
 use Rattle.command_line.specs.declared.command_name.CommandName.TheVariants as command
-use Rattle.byte_lines.specs.declared.error.DeviceError.{DeviceError}
-use Rattle.byte_lines.specs.declared.error.DeviceError.TheVariants.{Io as SourceFailed}
-use Rattle.byte_lines.specs.declared.error.DeviceError.TheVariants.{NoMemory as NoMemoryForBytes}
 use Rattle.fedbundle.specs.CommandRun.{CommandRun}
-use Rattle.command_exits.specs.DeviceRuns.{DeviceRun, HasFailed}
-use Rattle.command_exits.specs.Errors.{of_read}
+use Rattle.command_exits.specs.DeviceRuns.{DeviceRun}
 use Rattle.fedbundle.specs.Migrate.{move_to}
 use Rattle.fedbundle.specs.Shown.{IsUntouched, ShownCall, ShowsBy}
 use Rattle.fedbundle.specs.ShownCommands.{ComparesConfigsIn, MovesTo, MovesToRead, PrintsBoth, PrintsWhole}
-use Rattle.command_exits.specs.ConfigSource.{ReadsConfig}
 use Rattle.fedbundle.specs.ShownCommands.{ReseedChoice, ReseedsInto, TwoTexts, reseed_texts, stay_line}
 use Rattle.fedbundle.specs.ShownCommands.{ShowsConfig, ShowsConfigIn, ShowsMove, ShowsNamed, config_call}
 use Rattle.command_exits.specs.declared.error.CommandError.TheVariants.{Io}

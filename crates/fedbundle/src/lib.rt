@@ -36,10 +36,10 @@ pub use command_exits::{
     write_exit, write_fault,
 };
 pub use command_line::{
-    BundleFormat, Call, CommandName, ExplanationForm, Manner, OptionError, OptionName, OutputForm,
-    WordsError, command_of, given, is_flag_given, manner_of, number_given, read_bundle_format,
-    read_explanation_form, read_key, read_output_form, read_request, read_sessions, read_words,
-    wanted,
+    BundleFormat, Call, CommandName, ExplanationForm, Manner, MostHeld, OptionError, OptionName,
+    OutputForm, WordsError, command_of, given, is_flag_given, limits_given, manner_of,
+    number_given, read_bundle_format, read_explanation_form, read_key, read_output_form,
+    read_request, read_sessions, read_words, wanted,
 };
 pub use counts::write_counted;
 pub use distrust::{run_distrust, show_distrust};

@@ -43,7 +43,8 @@ use trust_closure::IndexedClosure;
 /// # Errors
 /// After each the source may have been read in part, and `line_errors` holds a beginning of what
 /// there was to report.
-/// - [`RunError::Full`]: more than 65,536 different receipts fit. Nothing was written on `sink`.
+/// - [`RunError::Full`]: more different receipts fit than may be held. Nothing was written on
+///   `sink`.
 /// - [`RunError::NoMemory`]: memory ran out. Nothing was written on `sink`.
 /// - [`RunError::Io`]: the source or `line_errors` failed, and nothing was written on `sink`; or
 ///   `sink` failed after a beginning of the report.

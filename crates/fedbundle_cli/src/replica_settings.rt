@@ -49,9 +49,10 @@ pub(crate) fn run(rt: &HostRuntime, config: Config, call: &Call<'_>) -> Result<u
 }
 
 // The configuration that is changed from is left out if its file is missing, or if it is the same.
+// Both have the limits that the arguments say.
 fn configs_of(rt: &HostRuntime, next: Config, call: &Call<'_>) -> Result<GivenConfigs, Exit> {
     let previous = match given(call, OptionName::Previous) {
-        Some(path) => options::config_there(rt, rt.alloc(), path)?,
+        Some(path) => options::config_there(rt, call, path)?,
         None => None,
     };
     let digest = next.digest();

@@ -15,7 +15,7 @@ use Rattle.receipt_core.proofs.RisingFacts.{Contains-from_has, Has, Has-from_con
 use Rattle.replica_core.specs.Absorbing.{with_entries, with_entry}
 use Rattle.replica_core.specs.Convergence.{Gains, IsPartOf, only_receipt, only_record}
 use Rattle.replica_core.specs.Session.{HaveMessage, give_of, have_of, state_of}
-use Rattle.replica_core.specs.State.{State, ids_held, is_within_limits, joined, limits_of, no_state}
+use Rattle.replica_core.specs.State.{State, ids_named, is_within_limits, joined, limits_of, no_state}
 use Rattle.replica_core.specs.World.{Rules, World, WorldRun, apply, empty_world, gained, gains, happens, is_replica, rules_of, run_from}
 use Rattle.replica_core.specs.World.{give_sent, have_sent, is_fitting, is_known, sends, where_so}
 use Rattle.replica_core.specs.declared.entry.Entry.{Entry}
@@ -285,7 +285,7 @@ pub asks-in-world : (m : Meaning) (n i bucket : ℕ) (w : World) → i < n → b
     → happens (rules_of m.config n) w (Ask i bucket) ≡ apply (limits_of m.config) w (sends (sent_have i (have_of m bucket)))
 asks-in-world m n i bucket w l low here =
     asked-is (rules_of m.config n) w i bucket l low
-    ∙ ap (λ (state : State). with_message w (have_sent i bucket (ids_held state bucket))) here
+    ∙ ap (λ (state : State). with_message w (have_sent i bucket (ids_named state bucket))) here
 
 -- The answer that a replica makes is the one that it sends by answering.
 pub answers-in-world : (m : Meaning) (have : HaveMessage) (n i asker place : ℕ) (w : World) → i < n → w.now i ≡ state_of m

@@ -1,5 +1,5 @@
 -- What the commands that change what is held answer, and what is replied to their calls.
-use Rattle.std.proofs.Common.{◌≡◌, ◌||◌, ◌⊎◌, ℕ, ◌+◌, ◌<◌, Bool, true, false, List, [], ◌∷◌, ◌++◌, length, map, get_or, drop, drop-cons, add-one, append_assoc}
+use Rattle.std.proofs.Common.{◌≡◌, ◌||◌, ℕ, ◌+◌, ◌<◌, Bool, true, false, List, [], ◌∷◌, ◌++◌, length, map, get_or, drop, drop-cons, add-one, append_assoc}
 use Rattle.std.proofs.Common.{inl, inr, Option, Some, Result, Ok, Err, IfErr, IfOk, OnErr, refl, sym, ap, ◌∙◌, subst}
 use Rattle.std.proofs.Common.{arith}
 use Rattle.std.proofs.lemmas.Bool.{both_ways, cases_lt}
@@ -30,7 +30,7 @@ use Rattle.command_line.specs.declared.command_name.OptionName.TheVariants.{Doma
 use Rattle.command_exits.specs.declared.error.CommandError.{CommandError}
 use Rattle.command_exits.specs.declared.error.CommandError.TheVariants.{NoMemory, Observe, Sync, Take}
 use Rattle.command_exits.specs.declared.exits.Exit.{Exit}
-use Rattle.command_exits.specs.declared.exits.Exit.TheVariants.{Refused, TooManyBytes, Usage}
+use Rattle.command_exits.specs.declared.exits.Exit.TheVariants.{Refused, Usage}
 use Rattle.request_lines.specs.RequestLines.{SaysWords}
 use Rattle.request_lines.specs.declared.request_error.RequestError.TheVariants as line_error
 use Rattle.local_answers.specs.Journalling.{JournalsChange}
@@ -39,7 +39,7 @@ use Rattle.fedbundle.specs.SaidValues.{SaysRecord, SaysVerdict}
 use Rattle.local_answers.specs.RequestRun.{Answers, AnswersObserve, AnswersShown, CallRun, ChangeRun, Ends, EndsDistrust, EndsMerge, EndsMergeCall, EndsOver}
 use Rattle.local_answers.specs.RequestRun.{AnswersMerge, IsWithinRoom, exit_of_unread}
 use Rattle.local_answers.specs.RequestRun.{EndsObserve, LeavesRoom}
-use Rattle.local_answers.specs.RequestRun.{HasStreams, IsEnded, IsNoRequest, IsWith, RepliesByKind, RepliesTo, RepliesToCall, RepliesToError}
+use Rattle.local_answers.specs.RequestRun.{HasStreams, IsNoRequest, IsWith, RepliesByKind, RepliesTo, RepliesToCall, RepliesToError}
 use Rattle.local_answers.specs.RequestRun.{SaysOfWords, is_help}
 use Rattle.local_answers.specs.RequestRun.{SaysDistrusted, SaysFetched, change_run, memory_exit, said}
 use Rattle.local_answers.specs.declared.reply.Reply.{Reply}

@@ -1,5 +1,5 @@
 -- What is replied if nothing can be changed.
-use Rattle.std.proofs.Common.{◌⊎◌, ℕ, false, List, inl, inr, Result, Ok, Err, IfErr, IfOk}
+use Rattle.std.proofs.Common.{ℕ, false, List, inl, inr, Result, Ok, Err, IfErr, IfOk}
 use Rattle.command_line.specs.Words.{CallsInRequest}
 use Rattle.command_exits.specs.declared.exits.Exit.{Exit}
 use Rattle.request_lines.specs.RequestLines.{SaysWords}

@@ -23,7 +23,7 @@ use Rattle.fedbundle.specs.Explain.{receipt_line}
 use Rattle.fedbundle.specs.Merge.{count_text}
 use Rattle.fedbundle.specs.Observe.{Fetched, MakesReceipt, RefusesToMake, fetched_bundle}
 use Rattle.command_exits.specs.declared.error.CommandError.{CommandError}
-use Rattle.command_exits.specs.declared.error.CommandError.TheVariants.{Io, NoMemory, Observe, Sync, Take}
+use Rattle.command_exits.specs.declared.error.CommandError.TheVariants.{Io, NoMemory, Observe, Take}
 use Rattle.command_exits.specs.declared.exits.Exit.TheVariants.{Refused}
 use Rattle.local_answers.specs.Journalling.{AreLinesOfOther, IsLineIfNew, JournalsChange}
 use Rattle.local_answers.specs.RequestRun.{AnswersMerge, AnswersObserve, EndsMerge, EndsObserve, change_run, exit_of_unread, memory_exit}

@@ -1,5 +1,5 @@
 -- What the commands that show what is held answer over memory, and what is replied to their calls.
-use Rattle.std.proofs.Common.{◌≡◌, ◌⊎◌, inl, inr, ℕ, ℤ, Bool, List, [], ◌++◌, length, Option, Some, None, Ok, Err, Result, IfErr, IfOk}
+use Rattle.std.proofs.Common.{◌≡◌, inl, inr, ℕ, ℤ, Bool, List, [], ◌++◌, length, Option, Some, None, Ok, Err, Result, IfErr, IfOk}
 use Rattle.std.proofs.Common.{true, false, refl, sym, ap, ◌∙◌, subst}
 use Rattle.receipt_core.specs.Acceptance.{Meaning}
 use Rattle.receipt_core.specs.declared.distrust.Distrust.{Distrust}
@@ -32,7 +32,7 @@ use Rattle.command_line.specs.declared.option_texts.BundleFormat.{BundleFormat}
 use Rattle.command_line.specs.declared.option_texts.BundleFormat.TheVariants.{Json, Pem}
 use Rattle.command_line.specs.declared.option_texts.OutputForm.{OutputForm}
 use Rattle.command_line.specs.declared.option_texts.OutputForm.TheVariants as output
-use Rattle.local_answers.specs.RequestRun.{Answers, AnswersShown, CallRun, Ends, EndsAnyhow, EndsOver, EndsShown, IsEnded, IsWith}
+use Rattle.local_answers.specs.RequestRun.{Answers, AnswersShown, CallRun, Ends, EndsAnyhow, EndsOver, IsEnded, IsWith}
 use Rattle.local_answers.specs.RequestRun.{exit_over_memory, memory_exit, shown_in}
 use Rattle.local_answers.specs.declared.reply.Reply.{Reply}
 

@@ -6,7 +6,7 @@ use Rattle.command_line.specs.declared.command_name.CommandName.{CommandName}
 use Rattle.command_line.specs.declared.command_name.OptionName.{OptionName}
 use Rattle.command_line.specs.declared.command_name.OptionName.TheVariants.{At}
 
--- a request may have it: it names no file, and no replica
+-- a request may have it: it is nothing that the replica has itself, and names no replica
 abbrev pub is_asked : OptionName → Bool
 is_asked At = false
 is_asked option = not (is_place option)

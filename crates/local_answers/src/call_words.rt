@@ -8,8 +8,9 @@ use command_line::{Call, OptionName};
 use std::alloc::{AllocError, Global};
 
 /// The arguments by which a request asks a running replica for what the command line asks for: the
-/// subcommand, and each option that is given but `--config`, `--state` and `--at`. An option and
-/// its text are one argument, so a text may begin with a hyphen.
+/// subcommand, and each option that is given, without `--at` and those that the replica has itself,
+/// as `--config`, `--state` and `--most-receipts`. An option and its text are one argument, so a
+/// text may begin with a hyphen.
 ///
 /// # Errors
 /// Memory ran out.

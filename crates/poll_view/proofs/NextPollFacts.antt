@@ -1,9 +1,9 @@
 -- What is known of the next poll of a domain of the log
-use Rattle.std.proofs.Common.{◌≡◌, ℕ, ℤ, inl, inr, Bool, true, false, cond, List, [], ◌∷◌, map, Option, None, Some, refl, sym, ap, Result, Ok, Err}
+use Rattle.std.proofs.Common.{◌≡◌, ℕ, ℤ, inl, inr, Bool, true, false, cond, List, [], ◌∷◌, map, Option, None, Some, refl, ap, Err}
 use Rattle.std.specs.List.{AllZip, Contains}
 use Rattle.std.proofs.lemmas.Slice.Eq.{bytes_eq-Decides}
 use Rattle.std.specs.Str.{bytes_eq}
-use Rattle.poll_log.specs.Polling.{PollStatus, IsPollDue, IsNext, IsNextAfter, polled_domains, standing_in}
+use Rattle.poll_log.specs.Polling.{PollStatus, IsNext, IsNextAfter, polled_domains, standing_in}
 use Rattle.poll_log.specs.declared.error.PollError.{PollError}
 use Rattle.poll_log.specs.declared.error.PollError.TheVariants.{PastRange}
 use Rattle.closure_core.proofs.ContainsFacts.{contains_none, contains_cases}

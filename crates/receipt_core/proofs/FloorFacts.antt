@@ -1,10 +1,9 @@
 -- Floors: what they let through, and what they cost.
-use Rattle.std.proofs.Common.{◌≡◌, ◌↔◌, ◌∙◌, ℕ, ◌≤◌, List, [], ◌∷◌, Option, Some, None, Bool, true, false, IsTrue, refl, sym, ap, subst, arith}
+use Rattle.std.proofs.Common.{◌≡◌, ◌↔◌, ◌∙◌, ℕ, ◌≤◌, List, [], ◌∷◌, Some, None, Bool, true, false, IsTrue, refl, sym, subst, arith}
 use Rattle.std.specs.Prelude.{Contains, MatchBool}
 use Rattle.std.specs.List.{AllByRecursion}
 use Rattle.bundle_doc.specs.Bundle.{Bundle}
 use Rattle.fed_config.specs.Configuration.{Configuration, IsFloorOf, Reaches, ReachesFloor}
-use Rattle.fed_config.specs.declared.floor.Floor.{Floor}
 use Rattle.receipt_core.specs.declared.distrust.Distrust.{Distrust}
 use Rattle.receipt_core.specs.Receipt.{Receipt, Pair, pair_of}
 use Rattle.receipt_core.specs.Acceptance.{IsFitting, MissesFloor, Leads, Meaning, IsMeaning, IsMember, AreLetThrough, without_floors, pair_of_seed}

@@ -1,5 +1,5 @@
 -- The limits of a configuration are themselves limited.
-use Rattle.std.proofs.Common.{◌≡◌, ◌≤◌, ◌∙◌, ℕ, ap, arith}
+use Rattle.std.proofs.Common.{◌≡◌, ◌≤◌, ℕ, ap, arith}
 use Rattle.std.specs.Prelude.{max, min}
 use Rattle.fed_config.specs.Configuration.{Configuration}
 use Rattle.fed_config.specs.declared.limits.Limits.{Limits}
@@ -21,7 +21,7 @@ pub record_limit-least : (c : Configuration) → 1 ≤ record_limit c
 unfolding record_limit
 record_limit-least c = omega arith
 
--- Configurations with the same limits let as much be held.
+-- Configurations with the same limits have the same limit of receipts.
 pub receipt_limit-same : (c d : Configuration) → c.limits ≡ d.limits → receipt_limit c ≡ receipt_limit d
 unfolding receipt_limit
 receipt_limit-same c d same = ap (λ (l : Limits). max 1 (min l.receipts most_receipts)) same

@@ -4,10 +4,10 @@ use Rattle.fed_config.specs.Configuration.{Configuration}
 
 -- what a limit may be at most, and counts as if it is more
 abbrev pub most_receipts : ℕ
-most_receipts = 65536
+most_receipts = 4194304
 
 abbrev pub most_records : ℕ
-most_records = 4096
+most_records = 65536
 
 -- the most receipts that are held under a configuration: 0 counts as 1
 unfoldable pub receipt_limit : Configuration → ℕ

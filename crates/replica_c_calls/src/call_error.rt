@@ -45,7 +45,7 @@ pub enum CallError {
     /// A snapshot or a message is refused.
     #[error("{0}")]
     Sync(SyncError),
-    /// More than 65,536 different receipts fit.
+    /// More different receipts fit than may be held.
     #[error("E1 Full")]
     Full,
     /// Memory ran out.

@@ -85,6 +85,12 @@ take-from (suc n) (y ∷ ys) x c =
       | inr d ↦ contains-later y ys x (take-from n ys x d)
     ]
 
+-- What holds of all items holds of the first ones.
+pub take-each : {X : Type 0} (P : X → Type 0) (n : ℕ) (xs : List X) → AllByRecursion P xs → AllByRecursion P (take n xs)
+take-each P zero xs all = tt
+take-each P (suc n) [] all = tt
+take-each P (suc n) (x ∷ xs) all = (all.0, take-each P n xs all.1)
+
 -- Each item of a mapped list is the image of an item of the list.
 pub map-from : {X Y : Type 0} (f : X → Y) (xs : List X) (y : Y) → Contains (map f xs) y → (x : X) × Contains xs x × (f x ≡ y)
 map-from f [] y c = absurd (contains-none y c)

@@ -6,13 +6,14 @@ use Rattle.std.specs.List.{AllByRecursion}
 use Rattle.std.proofs.lemmas.Bool.{cases_Bool, and_from}
 use Rattle.std.proofs.lemmas.Slice.Eq.{bytes_eq-Decides}
 use Rattle.receipt_core.specs.Receipt.{Receipt, IsReceipt, IsDistrust, receipt_id_of}
-use Rattle.replica_core.specs.State.{State, id_cmp, joined, is_within_limits, bucket_of_id, is_of_bucket, is_named, ids_held, receipts_lacking}
+use Rattle.replica_core.specs.State.{State, id_cmp, joined, is_within_limits, bucket_of_id, is_of_bucket, is_named, ids_held, ids_named}
+use Rattle.replica_core.specs.State.{most_named, receipts_lacking}
 use Rattle.replica_core.specs.World.{Message, have_sent, give_sent, World, Rules, with_state, sends, where_so, sends_give}
 use Rattle.replica_core.specs.World.{takes_whole, gained, apply, happens, is_replica}
 use Rattle.replica_core.specs.Convergence.{Inquiry, IsInquiry, Exchange, at_have, at_give, at_taking, after_taking, HasAll, IsPartOf}
 use Rattle.replica_core.specs.declared.event.Event.{Event}
 use Rattle.replica_core.specs.declared.event.Event.TheVariants.{Ask, Answer, Absorb}
-use Rattle.replica_core.proofs.ContainsFacts.{filter-from, filter-to, map-from, any-from, each-to, get-new, contains-none}
+use Rattle.replica_core.proofs.ContainsFacts.{filter-from, filter-to, map-from, any-from, each-to, get-new, contains-none, take-from}
 use Rattle.replica_core.proofs.JoinLawFacts.{Laws, Keeps, joined-only}
 use Rattle.replica_core.proofs.EventFacts.{at-here, part-trans, part-event, part-run, sent-stays, replica-true}
 
@@ -28,9 +29,9 @@ content_of state b ids = record { held = receipts_lacking state b ids; records =
 
 -- A replica that asks sends a have.
 pub asked-is : (rules : Rules) (w : World) (i b : ℕ) → i < rules.replicas → b ≤ 255
-    → happens rules w (Ask i b) ≡ with_message w (have_sent i b (ids_held (w.now i) b))
+    → happens rules w (Ask i b) ≡ with_message w (have_sent i b (ids_named (w.now i) b))
 asked-is rules w i b l m =
-    ap (λ (t : Bool). apply rules.limits w (where_so t (sends (have_sent i b (ids_held (w.now i) b)))))
+    ap (λ (t : Bool). apply rules.limits w (where_so t (sends (have_sent i b (ids_named (w.now i) b)))))
     (and_from (is_replica rules i) (nat_le b 255) (replica-true rules i l) (le-leb b 255 m))
 
 -- A replica that answers a have sends what it has of it.
@@ -51,9 +52,9 @@ absorbed-is rules w i j n k content l e t =
 
 -- the have is at its place
 pub asked-here : (rules : Rules) (w : World) (i b : ℕ) → i < rules.replicas → b ≤ 255
-    → slice_get (happens rules w (Ask i b)).sent (length w.sent) ≡ Some (have_sent i b (ids_held (w.now i) b))
+    → slice_get (happens rules w (Ask i b)).sent (length w.sent) ≡ Some (have_sent i b (ids_named (w.now i) b))
 asked-here rules w i b l m =
-    ap (λ (v : World). slice_get v.sent (length w.sent)) (asked-is rules w i b l m) ∙ get-new w.sent (have_sent i b (ids_held (w.now i) b))
+    ap (λ (v : World). slice_get v.sent (length w.sent)) (asked-is rules w i b l m) ∙ get-new w.sent (have_sent i b (ids_named (w.now i) b))
 
 -- The answer is at its place.
 answered-here : (rules : Rules) (w : World) (i j b k : ℕ) (ids : List (List ℕ)) → j < rules.replicas → slice_get w.sent k ≡ Some (have_sent i b ids)
@@ -70,12 +71,13 @@ absorbed-here rules w i j n k content l e t =
 -- ---- what an exchange gives
 
 -- an id that a have names is that of a receipt that the asker held
-pub named-held : (state : State) (b : ℕ) (r : Receipt) → is_named (ids_held state b) r ≡ true
+pub named-held : (state : State) (b : ℕ) (r : Receipt) → is_named (ids_named state b) r ≡ true
     → (s : Receipt) × Contains state.held s × (receipt_id_of s ≡ receipt_id_of r)
 named-held state b r e =
-    let found = any-from (λ id. bytes_eq id (receipt_id_of r)) (ids_held state b) e in
+    let found = any-from (λ id. bytes_eq id (receipt_id_of r)) (ids_named state b) e in
+    let held = take-from most_named (ids_held state b) found.0 found.1 in
     let same : found.0 ≡ receipt_id_of r = (bytes_eq-Decides found.0 (receipt_id_of r)).0 found.2 in
-    elim (joined-only id_cmp (map receipt_id_of (filter (is_of_bucket b) state.held)) [] found.0 found.1) [
+    elim (joined-only id_cmp (map receipt_id_of (filter (is_of_bucket b) state.held)) [] found.0 held) [
       | inl c ↦
           let source = map-from receipt_id_of (filter (is_of_bucket b) state.held) found.0 c in
           (source.0, (filter-from (is_of_bucket b) state.held source.0 source.1).0, source.2 ∙ same)
@@ -84,26 +86,26 @@ named-held state b r e =
 
 -- whether the receipt is of the bucket and not among those that the asker named
 abbrev pub lacking : State → ℕ → Receipt → Bool
-lacking asking b r = is_of_bucket b r && not (is_named (ids_held asking b) r)
+lacking asking b r = is_of_bucket b r && not (is_named (ids_named asking b) r)
 
 -- the asker held what it named, and takes the others
 gives : (laws : Laws) (i b : ℕ) (asking given before : State) → IsPartOf asking before → Keeps IsReceipt IsDistrust given → Keeps IsReceipt IsDistrust before
-    → HasAll b given (joined before (content_of given b (ids_held asking b)))
+    → HasAll b given (joined before (content_of given b (ids_named asking b)))
 gives laws i b asking given before part forms own = record {
   receipts = λ r c e.
-      elim (cases_Bool (is_named (ids_held asking b) r)) [
+      elim (cases_Bool (is_named (ids_named asking b) r)) [
         | inl named ↦
             let s = named-held asking b r named in
-            (s.0, laws.receipts.old (receipts_lacking given b (ids_held asking b)) before.held s.0 (part.receipts s.0 s.1), s.2)
+            (s.0, laws.receipts.old (receipts_lacking given b (ids_named asking b)) before.held s.0 (part.receipts s.0 s.1), s.2)
         | inr unnamed ↦
-            let sent : Contains (receipts_lacking given b (ids_held asking b)) r =
+            let sent : Contains (receipts_lacking given b (ids_named asking b)) r =
             filter-to (lacking asking b) given.held r c
-            (and_from (is_of_bucket b r) (not (is_named (ids_held asking b) r)) (eq-eqb (bucket_of_id r) b e)
+            (and_from (is_of_bucket b r) (not (is_named (ids_named asking b) r)) (eq-eqb (bucket_of_id r) b e)
             (ap not unnamed)) in
-            let each : AllByRecursion IsReceipt (receipts_lacking given b (ids_held asking b)) =
-            each-to IsReceipt (receipts_lacking given b (ids_held asking b))
+            let each : AllByRecursion IsReceipt (receipts_lacking given b (ids_named asking b)) =
+            each-to IsReceipt (receipts_lacking given b (ids_named asking b))
             (λ s d. forms.receipts s (filter-from (lacking asking b) given.held s d).0) in
-            (r, laws.receipts.new (receipts_lacking given b (ids_held asking b)) before.held r each (each-to IsReceipt before.held own.receipts) sent, refl)
+            (r, laws.receipts.new (receipts_lacking given b (ids_named asking b)) before.held r each (each-to IsReceipt before.held own.receipts) sent, refl)
       ];
   distrusts = λ x c. laws.records.new given.records before.records x (each-to IsDistrust given.records forms.records)
       (each-to IsDistrust before.records own.records) c;
@@ -121,17 +123,17 @@ exchange-gives laws rules start inquiry events is x forms own =
     let w = at_have rules start x.course in
     let v = at_give rules start x.course in
     let u = at_taking rules start x.course in
-    let q : slice_get v.sent x.course.have_place ≡ Some (have_sent i b (ids_held (w.now i) b)) =
-    sent-stays rules x.course.asked (happens rules w (Ask i b)) x.course.have_place (have_sent i b (ids_held (w.now i) b))
-    (subst (λ k. slice_get (happens rules w (Ask i b)).sent k ≡ Some (have_sent i b (ids_held (w.now i) b))) (sym x.asked_at)
+    let q : slice_get v.sent x.course.have_place ≡ Some (have_sent i b (ids_named (w.now i) b)) =
+    sent-stays rules x.course.asked (happens rules w (Ask i b)) x.course.have_place (have_sent i b (ids_named (w.now i) b))
+    (subst (λ k. slice_get (happens rules w (Ask i b)).sent k ≡ Some (have_sent i b (ids_named (w.now i) b))) (sym x.asked_at)
     (asked-here rules w i b is.asker is.bucket))
     in
-    let a : slice_get u.sent x.course.give_place ≡ Some (give_sent j x.course.have_place (content_of (v.now j) b (ids_held (w.now i) b))) =
+    let a : slice_get u.sent x.course.give_place ≡ Some (give_sent j x.course.have_place (content_of (v.now j) b (ids_named (w.now i) b))) =
     sent-stays rules x.course.answered (happens rules v (Answer j x.course.have_place)) x.course.give_place
-    (give_sent j x.course.have_place (content_of (v.now j) b (ids_held (w.now i) b)))
+    (give_sent j x.course.have_place (content_of (v.now j) b (ids_named (w.now i) b)))
     (subst (λ k. slice_get (happens rules v (Answer j x.course.have_place)).sent k
-    ≡ Some (give_sent j x.course.have_place (content_of (v.now j) b (ids_held (w.now i) b)))) (sym x.answered_at)
-    (answered-here rules v i j b x.course.have_place (ids_held (w.now i) b) is.answerer q))
+    ≡ Some (give_sent j x.course.have_place (content_of (v.now j) b (ids_named (w.now i) b)))) (sym x.answered_at)
+    (answered-here rules v i j b x.course.have_place (ids_named (w.now i) b) is.answerer q))
     in
     let part : IsPartOf (w.now i) (u.now i) =
     part-trans (w.now i) (v.now i) (u.now i)
@@ -143,6 +145,6 @@ exchange-gives laws rules start inquiry events is x forms own =
     in
     subst (HasAll b (v.now j))
     (sym (absorbed-here rules u i j x.course.give_place x.course.have_place
-    (content_of (v.now j) b (ids_held (w.now i) b)) is.asker a
-    (x.whole (content_of (v.now j) b (ids_held (w.now i) b)) a)))
+    (content_of (v.now j) b (ids_named (w.now i) b)) is.asker a
+    (x.whole (content_of (v.now j) b (ids_named (w.now i) b)) a)))
     (gives laws i b (w.now i) (v.now j) (u.now i) part forms own)

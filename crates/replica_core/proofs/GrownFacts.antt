@@ -210,7 +210,8 @@ unfit-distrusted old new x (Ok DistrustedAlready) h f = h.meaning
 unfit-distrusted old new x (Err why) h f = h.meaning
 
 -- A record of a known domain is not refused while there is a place.
-record-refused : (old : Meaning) (x : Distrust) (why : TakeError) → RefusesDistrust old x why → HasDomain old.config x.domain → length old.records < record_limit old.config → ⊥
+record-refused : (old : Meaning) (x : Distrust) (why : TakeError) → RefusesDistrust old x why → HasDomain old.config x.domain
+    → length old.records < record_limit old.config → ⊥
 record-refused old x UnknownDomain h known few = h known
 record-refused old x WrongEndpoint h known few = h
 record-refused old x BelowFloor h known few = h
@@ -289,12 +290,14 @@ grown-nothing m valid =
     let within : is_within_limits (limits_of m.config) (state_of m) ≡ true =
     and_from (nat_le (length m.held) most) (nat_le (length m.records) most_too)
     (le-leb (length m.held) most valid.few) (le-leb (length m.records) most_too valid.few_records) in
-    ap (λ s. meaning_of_state m.config (cond (is_within_limits (limits_of m.config) s) s no_state)) same ∙ ap (λ b. meaning_of_state m.config (cond b (state_of m) no_state)) within
+    ap (λ s. meaning_of_state m.config (cond (is_within_limits (limits_of m.config) s) s no_state)) same ∙ ap
+    (λ b. meaning_of_state m.config (cond b (state_of m) no_state)) within
 
 -- So a copy means what was copied.
 pub copy-same : (m copy new : Meaning) → IsMeaning m → copy ≡ empty_of m.config
     → new ≡ meaning_of_state copy.config (grown (limits_of copy.config) (state_of copy) (state_of m)) → new ≡ m
-copy-same m copy new valid e h = h ∙ ap (λ (c : Meaning). meaning_of_state c.config (grown (limits_of c.config) (state_of c) (state_of m))) e ∙ grown-nothing m valid
+copy-same m copy new valid e h =
+    h ∙ ap (λ (c : Meaning). meaning_of_state c.config (grown (limits_of c.config) (state_of c) (state_of m))) e ∙ grown-nothing m valid
 
 -- ---- one after another
 

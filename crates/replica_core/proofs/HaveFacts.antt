@@ -1,5 +1,5 @@
 -- Ids of receipts.
-use Rattle.std.proofs.Common.{◌≡◌, ◌∙◌, ℕ, ◌-◌, Bool, true, false, ◌+◌, ◌<◌, ◌≤◌, ⊎_elim, List, [], ◌∷◌, map, length}
+use Rattle.std.proofs.Common.{◌≡◌, ◌∙◌, ℕ, zero, suc, take, ◌-◌, Bool, true, false, ◌+◌, ◌<◌, ◌≤◌, ⊎_elim, List, [], ◌∷◌, map, length}
 use Rattle.std.proofs.Common.{refl, sym, ap, Less, Equal, Greater, get_or, subst, arith}
 use Rattle.std.specs.Prelude.{◌↔◌, Contains, Result, Ok, Err, IsTrue}
 use Rattle.std.specs.Result.{is_ok}
@@ -17,13 +17,14 @@ use Rattle.std.proofs.lemmas.Cmp.{tied_itself}
 use Rattle.std.proofs.lemmas.Bool.{cases_lt}
 use Rattle.receipt_core.proofs.RisingFacts.{turned, with_items-rising}
 use Rattle.replica_core.proofs.ContainsFacts.{map-from, map-to}
+use Rattle.replica_core.proofs.RisingListFacts.{rising_take}
 use Rattle.std.specs.declared.cmp.Ordering.{Ordering}
 use Rattle.std.specs.Ordering.{nat_cmp}
 use Rattle.std.specs.Cmp.Lexicographic.{slice_cmp}
 use Rattle.receipt_core.specs.declared.receipt_id.ReceiptId.{ReceiptId}
 use Rattle.receipt_core.specs.Receipt.{receipt_id_of}
 use Rattle.std.specs.List.{filter}
-use Rattle.replica_core.specs.State.{State, id_cmp, ids_held, is_of_bucket}
+use Rattle.replica_core.specs.State.{State, id_cmp, ids_held, ids_named, is_of_bucket, most_named}
 
 -- an id as its bytes
 abbrev pub bytes_of : ReceiptId → List ℕ
@@ -90,9 +91,24 @@ id_found ids x (Err place) rising range found =
     (λ t. absurd (cc), λ has. let m = map-from bytes_of ids x.0 has in absurd (apart ids x place split m.0 m.1 m.2))
 
 -- ids that are held rise
-pub held-rising : (state : State) (bucket : ℕ) → IsStrictlySortedBy id_cmp (ids_held state bucket)
+held-rising : (state : State) (bucket : ℕ) → IsStrictlySortedBy id_cmp (ids_held state bucket)
 unfolding IsStrictlySortedBy
 held-rising state bucket = with_items-rising id_cmp id_total (map receipt_id_of (filter (is_of_bucket bucket) state.held)) [] tt
+
+-- ids that a have names rise
+pub named-ids-rise : (state : State) (bucket : ℕ) → IsStrictlySortedBy id_cmp (ids_named state bucket)
+named-ids-rise state bucket = rising_take id_cmp most_named (ids_held state bucket) (held-rising state bucket)
+
+-- The bytes of the first ids are the first of all bytes.
+bytes-take : (n : ℕ) (ids : List ReceiptId) → map bytes_of (take n ids) ≡ take n (map bytes_of ids)
+bytes-take zero ids = refl
+bytes-take (suc n) [] = refl
+bytes-take (suc n) (id ∷ ids) = ap (λ (l : List (List ℕ)). id.0 ∷ l) (bytes-take n ids)
+
+-- What is left after the cut are the first of what was held.
+pub named_bytes : (ids cut : List ReceiptId) (all : List (List ℕ)) → cut ≡ take most_named ids → map bytes_of ids ≡ all
+    → map bytes_of cut ≡ take most_named all
+named_bytes ids cut all e same = ap (map bytes_of) e ∙ bytes-take most_named ids ∙ ap (take most_named) same
 
 -- ---- whether ids rise
 

@@ -4,7 +4,7 @@ use Rattle.std.specs.Prelude.{Contains, slice_get, Option, Some, None, not, ⊤}
 use Rattle.std.proofs.lemmas.Bool.{and_parts}
 use Rattle.receipt_core.specs.declared.distrust.Distrust.{Distrust}
 use Rattle.receipt_core.specs.Receipt.{Receipt}
-use Rattle.replica_core.specs.State.{State, joined, is_within_limits, is_of_bucket, is_named, receipts_lacking, first_of, ids_held}
+use Rattle.replica_core.specs.State.{State, joined, is_within_limits, is_of_bucket, is_named, receipts_lacking, first_of, ids_named}
 use Rattle.replica_core.specs.World.{Message, have_sent, give_sent, World, Rules, Effect, gains, sends, saves, restarts, where_so, sends_give, takes_whole}
 use Rattle.replica_core.specs.World.{takes_part, with_state, gained, apply, happens, run_from, is_replica}
 use Rattle.replica_core.specs.declared.event.Event.{Event}
@@ -173,8 +173,8 @@ kept-event laws P Q place A rules w (Revoke i x) h a =
     (one-record P Q x (a (and_parts (is_replica rules i) (rules.knows x.domain) e).0
     (and_parts (is_replica rules i) (rules.knows x.domain) e).1)))
 kept-event laws P Q place A rules w (Ask i b) h a =
-    kept-where P Q place A (is_replica rules i && nat_le b 255) rules.limits w (sends (have_sent i b (ids_held (w.now i) b))) h
-    (λ e. kept-sends P Q place A rules.limits w (have_sent i b (ids_held (w.now i) b)) h tt)
+    kept-where P Q place A (is_replica rules i && nat_le b 255) rules.limits w (sends (have_sent i b (ids_named (w.now i) b))) h
+    (λ e. kept-sends P Q place A rules.limits w (have_sent i b (ids_named (w.now i) b)) h tt)
 kept-event laws P Q place A rules w (Answer j k) h a =
     kept-where P Q place A (is_replica rules j) rules.limits w (sends_give (w.now j) j k (slice_get w.sent k)) h
     (λ e. kept-sends_give P Q place A rules.limits w (w.now j) j k (slice_get w.sent k) h (h.now j))
@@ -185,7 +185,8 @@ kept-event laws P Q place A rules w (Part i k m) h a =
     kept-where P Q place A (is_replica rules i) rules.limits w (takes_part i m (slice_get w.sent k)) h
     (λ e. kept-part laws P Q place A rules.limits w i m (slice_get w.sent k) h (λ o f. h.sent k o a f))
 kept-event laws P Q place A rules w (Join i j) h a =
-    kept-where P Q place A (is_replica rules i && is_replica rules j) rules.limits w (gains i (w.now j)) h (λ e. kept-gains laws P Q place A rules.limits w i (w.now j) h (h.now j))
+    kept-where P Q place A (is_replica rules i && is_replica rules j) rules.limits w (gains i (w.now j)) h
+    (λ e. kept-gains laws P Q place A rules.limits w i (w.now j) h (h.now j))
 kept-event laws P Q place A rules w (Save i) h a =
     kept-where P Q place A (is_replica rules i) rules.limits w (saves i) h (λ e. kept-saves P Q place A rules.limits w i h)
 kept-event laws P Q place A rules w (Restart i) h a =

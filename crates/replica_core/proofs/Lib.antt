@@ -12,7 +12,7 @@ mod AgreementFacts
 mod WorldLawFacts
 mod WorkedRunFacts
 mod Settling
-mod HaveFacts
+pub mod HaveFacts
 mod IdFacts
 mod LentGiveFacts
 pub mod PlaceFacts

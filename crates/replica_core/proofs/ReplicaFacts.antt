@@ -126,7 +126,8 @@ gains-where limits w i false false gain whole h k = refl
 pub receipt-gains : (config : Configuration) (n : ℕ) (w : World) (i : ℕ) (r : Receipt) (fresh more : Meaning) → fresh ≡ empty_of config
     → (is_fitting fresh.config r ≡ false → more ≡ fresh)
     → ((later : List Receipt) → CanHold fresh.config (fresh.held ++ r ∷ later) → more ≡ record fresh { held = fresh.held ++ r ∷ [] })
-    → (more.config ≡ config) × (apply (limits_of config) w (where_so (is_replica (rules_of config n) i) (gains i (state_of more))) ≡ happens (rules_of config n) w (Take i r))
+    → (more.config ≡ config) × (apply (limits_of config) w (where_so (is_replica (rules_of config n) i) (gains i (state_of more))) ≡ happens
+    (rules_of config n) w (Take i r))
 receipt-gains config n w i r fresh more e unfit next =
     let without : is_fitting config r ≡ false → more ≡ empty_of config = subst (λ (m : Meaning). is_fitting m.config r ≡ false → more ≡ m) e unfit in
     let follows : (later : List Receipt) → CanHold config (r ∷ later) → more ≡ record { config = config; held = r ∷ []; records = [] } =
@@ -142,7 +143,8 @@ receipt-gains config n w i r fresh more e unfit next =
 pub record-gains : (config : Configuration) (n : ℕ) (w : World) (i : ℕ) (x : Distrust) (fresh more : Meaning) → fresh ≡ empty_of config
     → (is_known fresh.config x.domain ≡ false → more ≡ fresh)
     → ((later : List Distrust) → CanHoldRecords fresh.config (fresh.records ++ x ∷ later) → more ≡ record fresh { records = fresh.records ++ x ∷ [] })
-    → (more.config ≡ config) × (apply (limits_of config) w (where_so (is_replica (rules_of config n) i) (gains i (state_of more))) ≡ happens (rules_of config n) w (Revoke i x))
+    → (more.config ≡ config) × (apply (limits_of config) w (where_so (is_replica (rules_of config n) i) (gains i (state_of more))) ≡ happens
+    (rules_of config n) w (Revoke i x))
 record-gains config n w i x fresh more e unfit next =
     let without : is_known config x.domain ≡ false → more ≡ empty_of config = subst (λ (m : Meaning). is_known m.config x.domain ≡ false → more ≡ m) e unfit in
     let follows : (later : List Distrust) → CanHoldRecords config (x ∷ later) → more ≡ record { config = config; held = []; records = x ∷ [] } =
@@ -207,7 +209,8 @@ and-right false b e = refl
 -- What another replica holds is what the event of joining it gains.
 pub join-gains : (config : Configuration) (n : ℕ) (w : World) (i j : ℕ) (found more : Meaning) → j < n
     → found ≡ meaning_of_state config (w.now j) → more ≡ found
-    → (more.config ≡ config) × (apply (limits_of config) w (where_so (is_replica (rules_of config n) i) (gains i (state_of more))) ≡ happens (rules_of config n) w (Join i j))
+    → (more.config ≡ config) × (apply (limits_of config) w (where_so (is_replica (rules_of config n) i) (gains i (state_of more))) ≡ happens
+    (rules_of config n) w (Join i j))
 join-gains config n w i j found more l f m =
     let e = m ∙ f in (
       ap (λ (m : Meaning). m.config) e,
@@ -222,7 +225,8 @@ pub absorb-gains : (config : Configuration) (n : ℕ) (w : World) (i k : ℕ) (c
     (xs : List Distrust) (more : Meaning) → AllByRecursion (IsSound config) w.sent
     → give_in_message (slice_get w.sent k) ≡ Some content → rs ≡ content.held → xs ≡ content.records
     → (CanHold config rs → CanHoldRecords config xs → more ≡ record { config = config; held = rs; records = xs })
-    → (more.config ≡ config) × (apply (limits_of config) w (where_so (is_replica (rules_of config n) i) (gains i (state_of more))) ≡ happens (rules_of config n) w (Absorb i k))
+    → (more.config ≡ config) × (apply (limits_of config) w (where_so (is_replica (rules_of config n) i) (gains i (state_of more))) ≡ happens
+    (rules_of config n) w (Absorb i k))
 absorb-gains config n w i k content rs xs more sound a re xe built =
     let can = sound-at config w.sent k content sound a in
     let e : more ≡ meaning_of_state config content =
@@ -230,7 +234,8 @@ absorb-gains config n w i k content rs xs more sound a re xe built =
     ∙ (λ ι. record { config = config; held = re ι; records = xe ι }) in (
       ap (λ (m : Meaning). m.config) e,
       ap (λ (m : Meaning). apply (limits_of config) w (where_so (is_replica (rules_of config n) i) (gains i (state_of m)))) e
-          ∙ ap (λ (effect : Effect). apply (limits_of config) w (where_so (is_replica (rules_of config n) i) effect)) (sym (some-taken i (slice_get w.sent k) content a)),
+          ∙ ap (λ (effect : Effect). apply (limits_of config) w (where_so (is_replica (rules_of config n) i) effect))
+          (sym (some-taken i (slice_get w.sent k) content a)),
     )
 
 -- What is gathered of the first entries of an answer is what the event of taking these gains.
@@ -249,7 +254,8 @@ part-gains config n w i k count content rs xs more sound a re xe built =
     ∙ (λ ι. record { config = config; held = re ι; records = xe ι }) in (
       ap (λ (m : Meaning). m.config) e,
       ap (λ (m : Meaning). apply (limits_of config) w (where_so (is_replica (rules_of config n) i) (gains i (state_of m)))) e
-          ∙ ap (λ (effect : Effect). apply (limits_of config) w (where_so (is_replica (rules_of config n) i) effect)) (sym (some-parted i count (slice_get w.sent k) content a)),
+          ∙ ap (λ (effect : Effect). apply (limits_of config) w (where_so (is_replica (rules_of config n) i) effect))
+          (sym (some-parted i count (slice_get w.sent k) content a)),
     )
 
 -- the answer of a replica to a have about the bucket that names the ids

@@ -1,10 +1,11 @@
 -- Lists that rise: their parts, and an item above all others.
-use Rattle.std.proofs.Common.{◌++◌, List, [], ap, refl, ◌∙◌, ◌∷◌, ◌≡◌}
+use Rattle.std.proofs.Common.{ℕ, zero, suc, take, ◌++◌, List, [], ap, refl, ◌∙◌, ◌∷◌, ◌≡◌}
 use Rattle.std.specs.List.{AllByRecursion}
 use Rattle.std.specs.declared.cmp.Ordering.TheVariants.{Greater, Less}
 use Rattle.std.specs.List.Sorted.{IsStrictlySortedBy}
 use Rattle.std.specs.declared.cmp.Ordering.{Ordering}
 use Rattle.receipt_core.specs.Rising.{placed, with_item}
+use Rattle.replica_core.proofs.ContainsFacts.{take-each}
 
 -- The empty list rises.
 pub rising_nil : {A : Type 0} (cmp : A → A → Ordering) → IsStrictlySortedBy cmp []
@@ -26,6 +27,14 @@ rising_head cmp x xs rising = rising.0
 pub rising_tail : {A : Type 0} (cmp : A → A → Ordering) (x : A) (xs : List A) → IsStrictlySortedBy cmp (x ∷ xs) → IsStrictlySortedBy cmp xs
 unfolding IsStrictlySortedBy
 rising_tail cmp x xs rising = rising.1
+
+-- The first items of a sorted list rise.
+pub rising_take : {A : Type 0} (cmp : A → A → Ordering) (n : ℕ) (xs : List A) → IsStrictlySortedBy cmp xs → IsStrictlySortedBy cmp (take n xs)
+rising_take cmp zero xs up = rising_nil cmp
+rising_take cmp (suc n) [] up = rising_nil cmp
+rising_take cmp (suc n) (x ∷ xs) up =
+    rising_cons cmp x (take n xs) (take-each (λ y. cmp x y ≡ Less) n xs (rising_head cmp x xs up))
+    (rising_take cmp n xs (rising_tail cmp x xs up))
 
 -- What holds of all items of two lists holds of both together.
 pub all_append : {A : Type 0} (P : A → Type 0) (xs ys : List A) → AllByRecursion P xs → AllByRecursion P ys → AllByRecursion P (xs ++ ys)

@@ -14,7 +14,7 @@ use Rattle.receipt_core.specs.declared.distrust.Distrust.{Distrust}
 use Rattle.receipt_core.specs.Receipt.{Receipt, IsReceipt, receipt_cmp}
 use Rattle.receipt_core.specs.Order.{receipt_total}
 use Rattle.receipt_core.specs.Acceptance.{IsFitting}
-use Rattle.replica_core.specs.State.{State, joined, limits_of, is_within_limits, ids_held, receipts_lacking}
+use Rattle.replica_core.specs.State.{State, joined, limits_of, is_within_limits, ids_named, receipts_lacking}
 use Rattle.replica_core.specs.World.{Message, have_sent, give_sent, World, empty_world, Rules, Effect, sends, gains, where_so, sends_give, takes_whole}
 use Rattle.replica_core.specs.World.{apply, happens, run_from, is_replica}
 use Rattle.replica_core.specs.World.{WorldRun, rules_in, world_after, held_by, followed_by}
@@ -99,7 +99,7 @@ whole-sent limits w i (Some (give_sent answerer place content)) = gains-sent lim
 -- A have is one message more.
 ask-sends : (rules : Rules) (w : World) (i b : ℕ) → i < rules.replicas → b ≤ 255 → length (happens rules w (Ask i b)).sent ≡ length w.sent + 1
 ask-sends rules w i b l m =
-    let q = have_sent i b (ids_held (w.now i) b) in
+    let q = have_sent i b (ids_named (w.now i) b) in
     ap (λ t. length (apply rules.limits w (where_so t (sends q))).sent)
     (and_from (is_replica rules i) (nat_le b 255) (replica-true rules i l) (le-leb b 255 m))
     ∙ length-append w.sent (q ∷ [])
@@ -119,11 +119,12 @@ turn-sends rules w i j b place l m n size =
     let v = happens rules w (Ask i b) in
     let u = happens rules v (Answer j place) in
     let asked = ask-sends rules w i b l n in
-    let there : slice_get v.sent place ≡ Some (have_sent i b (ids_held (w.now i) b)) =
-    subst (λ k. slice_get v.sent k ≡ Some (have_sent i b (ids_held (w.now i) b))) size (asked-here rules w i b l n) in
-    let answered : length u.sent ≡ length v.sent + 1 = answer-sends rules v i j b place (ids_held (w.now i) b) m there in
+    let there : slice_get v.sent place ≡ Some (have_sent i b (ids_named (w.now i) b)) =
+    subst (λ k. slice_get v.sent k ≡ Some (have_sent i b (ids_named (w.now i) b))) size (asked-here rules w i b l n) in
+    let answered : length u.sent ≡ length v.sent + 1 = answer-sends rules v i j b place (ids_named (w.now i) b) m there in
     let taken : length (happens rules u (Absorb i (place + 1))).sent ≡ length u.sent =
-    ap length (where-sent (is_replica rules i) rules.limits u (takes_whole i (slice_get u.sent (place + 1))) (whole-sent rules.limits u i (slice_get u.sent (place + 1)))) in
+    ap length (where-sent (is_replica rules i) rules.limits u (takes_whole i (slice_get u.sent (place + 1)))
+    (whole-sent rules.limits u i (slice_get u.sent (place + 1)))) in
     omega (arith, asked, answered, taken, size)
 
 -- A round is four.
@@ -168,7 +169,8 @@ record IsOnly (limits : Limits) (a : Receipt) (w : World) : Type 0 where
   one : 1 ≤ limits.receipts
 
 -- A quiet event brings no other receipt.
-only-event : (rules : Rules) (a : Receipt) (w : World) (event : Event) → IsQuiet 0 event → IsOnly rules.limits a w → IsOnly rules.limits a (happens rules w event)
+only-event : (rules : Rules) (a : Receipt) (w : World) (event : Event) → IsQuiet 0 event → IsOnly rules.limits a w
+    → IsOnly rules.limits a (happens rules w event)
 only-event rules a w event q h = record {
   kept = kept-event joins (λ r. r ≡ a) (λ x. ⊥) 0 ⊤ rules w event h.kept (quiet-admits_all rules (λ r. r ≡ a) (λ x. ⊥) 0 event q);
   tidy = throughout-event rules (λ i state. IsTidy rules.limits state) (tidy-kept joins rules) w event h.tidy;
@@ -218,7 +220,8 @@ turn-exchanges rules a w q events before after place is h quiet order size =
       };
       asked_at = sym size;
       answered_at = ap (λ k. k + 1) (sym size) ∙ sym (ask-sends rules v q.asker q.bucket is.asker is.bucket);
-      whole = λ content e. only-within rules.limits a u q.asker content taking (taking.kept.sent (place + 1) (give_sent q.answerer place content) (omega arith) e);
+      whole = λ content e. only-within rules.limits a u q.asker content taking (taking.kept.sent (place + 1) (give_sent q.answerer place content)
+          (omega arith) e);
       no_restart = λ c. contains-none (Restart q.asker) c;
       none_later = λ c. contains-none (Restart q.asker) c;
     }

@@ -4,7 +4,6 @@ use Rattle.std.specs.Prelude.{slice_get, filter, Some, None, not}
 use Rattle.std.specs.List.{AllByRecursion}
 use Rattle.std.specs.List.Sorted.{IsStrictlySortedBy}
 use Rattle.std.specs.declared.cmp.Ordering.{Ordering}
-use Rattle.std.specs.declared.cmp.Ordering.TheVariants.{Less}
 use Rattle.std.proofs.lemmas.List.{length-take}
 use Rattle.std.proofs.lemmas.List.Kept.{IsStrictlySortedBy-filter}
 use Rattle.fed_config.specs.Configuration.{Configuration, HasDomain}
@@ -15,8 +14,8 @@ use Rattle.replica_core.specs.State.{State, is_of_bucket, is_named, receipts_lac
 use Rattle.replica_core.specs.Session.{state_of}
 use Rattle.replica_core.specs.World.{Message, have_sent, give_sent}
 use Rattle.replica_core.specs.Inside.ReplicasInMemory.{give_in_message, CanHold, CanHoldRecords, IsSound}
-use Rattle.replica_core.proofs.ContainsFacts.{each-from, each-to, filter-from}
-use Rattle.replica_core.proofs.RisingListFacts.{rising_head, rising_tail}
+use Rattle.replica_core.proofs.ContainsFacts.{each-from, each-to, filter-from, take-each}
+use Rattle.replica_core.proofs.RisingListFacts.{rising_take}
 use Rattle.receipt_core.specs.Limits.{receipt_limit, record_limit}
 
 -- ---- lists that rise
@@ -25,17 +24,6 @@ use Rattle.receipt_core.specs.Limits.{receipt_limit, record_limit}
 pub one-rising : {X : Type 0} (cmp : X → X → Ordering) (x : X) → IsStrictlySortedBy cmp (x ∷ [])
 unfolding IsStrictlySortedBy
 one-rising cmp x = (tt, tt)
-
--- The empty list rises.
-none-rising : {X : Type 0} (cmp : X → X → Ordering) → IsStrictlySortedBy cmp []
-unfolding IsStrictlySortedBy
-none-rising cmp = tt
-
--- An item below all others, before a sorted list, makes a sorted list.
-more-rising : {X : Type 0} (cmp : X → X → Ordering) (x : X) (xs : List X) → AllByRecursion (λ y. cmp x y ≡ Less) xs
-    → IsStrictlySortedBy cmp xs → IsStrictlySortedBy cmp (x ∷ xs)
-unfolding IsStrictlySortedBy
-more-rising cmp x xs above rising = (above, rising)
 
 -- ---- what is answered at a place
 
@@ -57,20 +45,6 @@ sound-at config (message ∷ sent) (suc k) content h e = sound-at config sent k 
 
 -- ---- parts of what can be held
 
--- What holds of all items holds of the front.
-all-take : {X : Type 0} (P : X → Type 0) (k : ℕ) (xs : List X) → AllByRecursion P xs → AllByRecursion P (take k xs)
-all-take P zero xs h = tt
-all-take P (suc k) [] h = tt
-all-take P (suc k) (x ∷ xs) h = (h.0, all-take P k xs h.1)
-
--- The front of a sorted list rises.
-rising-take : {X : Type 0} (cmp : X → X → Ordering) (k : ℕ) (xs : List X) → IsStrictlySortedBy cmp xs → IsStrictlySortedBy cmp (take k xs)
-rising-take cmp zero xs h = none-rising cmp
-rising-take cmp (suc k) [] h = none-rising cmp
-rising-take cmp (suc k) (x ∷ xs) h =
-    more-rising cmp x (take k xs) (all-take (λ y. cmp x y ≡ Less) k xs (rising_head cmp x xs h))
-    (rising-take cmp k xs (rising_tail cmp x xs h))
-
 -- The front is within the limit of the whole.
 few-take : {X : Type 0} (k : ℕ) (xs : List X) (m : ℕ) → length xs ≤ m → length (take k xs) ≤ m
 few-take k xs m l = let e : length (take k xs) ≡ min k (length xs) = length-take k xs in omega (arith, e, l)
@@ -78,18 +52,18 @@ few-take k xs m l = let e : length (take k xs) ≡ min k (length xs) = length-ta
 -- The front of receipts that can be held can be held.
 pub can-take : (config : Configuration) (k : ℕ) (rs : List Receipt) → CanHold config rs → CanHold config (take k rs)
 can-take config k rs h = record {
-  fitting = all-take (IsFitting config) k rs h.fitting;
+  fitting = take-each (IsFitting config) k rs h.fitting;
   rising =
-      rising-take receipt_cmp k rs h.rising;
+      rising_take receipt_cmp k rs h.rising;
   few = few-take k rs (receipt_limit config) h.few;
 }
 
 -- The front of records that can be held can be held.
 pub knows-take : (config : Configuration) (k : ℕ) (xs : List Distrust) → CanHoldRecords config xs → CanHoldRecords config (take k xs)
 knows-take config k xs h = record {
-  domains = all-take (λ x. HasDomain config x.domain) k xs h.domains;
+  domains = take-each (λ x. HasDomain config x.domain) k xs h.domains;
   rising =
-      rising-take distrust_cmp k xs h.rising;
+      rising_take distrust_cmp k xs h.rising;
   few = few-take k xs (record_limit config) h.few;
 }
 

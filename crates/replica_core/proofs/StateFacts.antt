@@ -39,7 +39,8 @@ throughout-gained P false w k state h s = h
 -- Saves and restarts keep every property that is the same for all replicas or concerns none: a gain
 -- has to show it.
 pub record IsKeptByGains (rules : Rules) (P : ℕ → State → Type 0) : Type 0 where
-  pub gain : (k : ℕ) (state more : State) → is_replica rules k ≡ true → P k state → is_within_limits rules.limits (joined state more) ≡ true → P k (joined state more)
+  pub gain : (k : ℕ) (state more : State) → is_replica rules k ≡ true → P k state → is_within_limits rules.limits (joined state more) ≡ true
+      → P k (joined state more)
 
 -- It remains so over each event if gains keep the property.
 pub throughout-event : (rules : Rules) (P : ℕ → State → Type 0) → IsKeptByGains rules P → (w : World) (event : Event)
@@ -74,7 +75,8 @@ tidy-kept laws rules = record {
 
 -- Nothing is within all limits.
 none-within : (limits : Limits) → is_within_limits limits no_state ≡ true
-none-within limits = and_from (nat_le 0 limits.receipts) (nat_le 0 limits.records) (le-leb 0 limits.receipts (omega arith)) (le-leb 0 limits.records (omega arith))
+none-within limits =
+    and_from (nat_le 0 limits.receipts) (nat_le 0 limits.records) (le-leb 0 limits.receipts (omega arith)) (le-leb 0 limits.records (omega arith))
 
 -- At the beginning all lists are empty, so they rise.
 pub tidy-empty : (limits : Limits) → Throughout (λ i state. IsTidy limits state) empty_world

@@ -3,7 +3,7 @@ use Rattle.std.specs.Prelude.{◌≡◌, ℕ, List, length}
 use Rattle.std.specs.List.Sorted.{IsStrictlySortedBy}
 use Rattle.fed_config.specs.Configuration.{config_id_of}
 use Rattle.receipt_core.specs.Acceptance.{Meaning}
-use Rattle.replica_core.specs.State.{State, id_cmp, ids_held, receipts_lacking}
+use Rattle.replica_core.specs.State.{State, id_cmp, ids_named, receipts_lacking}
 
 -- the receipts and the records that a closure holds
 abbrev pub state_of : Meaning → State
@@ -31,7 +31,7 @@ abbrev pub have_of : Meaning → ℕ → HaveMessage
 have_of m bucket = record {
   bucket = bucket;
   config = config_id_of m.config;
-  ids = ids_held (state_of m) bucket;
+  ids = ids_named (state_of m) bucket;
 }
 
 -- what a closure answers: the receipts of the bucket that the have does not name, and all

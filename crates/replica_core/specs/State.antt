@@ -52,6 +52,14 @@ abbrev pub ids_held : State → ℕ → List (List ℕ)
 ids_held state bucket = with_items id_cmp
     (map receipt_id_of (filter (is_of_bucket bucket) state.held)) []
 
+-- the most ids that a have names, so that its line is within the limit of lines
+abbrev pub most_named : ℕ
+most_named = 65536
+
+-- the ids that a have names: those of a bucket, and only the first if there are more
+abbrev pub ids_named : State → ℕ → List (List ℕ)
+ids_named state bucket = take most_named (ids_held state bucket)
+
 abbrev pub is_named : List (List ℕ) → Receipt → Bool
 is_named ids r = list_any (λ id. bytes_eq id (receipt_id_of r)) ids
 

@@ -10,7 +10,8 @@ use Rattle.fed_config.specs.declared.limits.Limits.{Limits}
 use Rattle.fed_config.specs.declared.relationship.Relationship.{Relationship}
 use Rattle.fed_config.specs.declared.seed.Seed.{Seed}
 use Rattle.receipt_core.specs.Receipt.{Receipt}
-use Rattle.replica_core.specs.State.{State, no_state, joined, ids_held, limits_of, is_within_limits}
+use Rattle.replica_core.specs.State.{State, no_state, joined, ids_named, limits_of}
+use Rattle.replica_core.specs.State.{is_within_limits}
 use Rattle.replica_core.specs.State.{meaning_of_state, receipts_lacking, first_of}
 use Rattle.replica_core.specs.declared.event.Event.{Event}
 use Rattle.replica_core.specs.declared.event.Event.TheVariants.{Take, Revoke, Ask, Answer, Absorb}
@@ -115,7 +116,7 @@ effect_of rules w (Take i r) = where_so (is_replica rules i && rules.fits r)
 effect_of rules w (Revoke i x) = where_so (is_replica rules i && rules.knows x.domain)
     (gains i (record { held = []; records = x ∷ [] }))
 effect_of rules w (Ask i b) = where_so (is_replica rules i && nat_le b 255)
-    (sends (have_sent i b (ids_held (w.now i) b)))
+    (sends (have_sent i b (ids_named (w.now i) b)))
 effect_of rules w (Answer j k) = where_so (is_replica rules j)
     (sends_give (w.now j) j k (slice_get w.sent k))
 effect_of rules w (Absorb i k) = where_so (is_replica rules i) (takes_whole i (slice_get w.sent k))

@@ -13,7 +13,11 @@ use closure_core::Closure;
 use receipt_core::ReceiptId;
 use std::alloc::{AllocError, Global};
 
-/// What the closure holds of the bucket.
+/// The most ids that a have names: the line of more might be longer than a line may be.
+const MOST_NAMED: usize = 65_536;
+
+/// What the closure holds of the bucket: the ids of its receipts, or the first 65,536 of them if
+/// it holds more. The answer then gives those that are not named again.
 ///
 /// # Errors
 /// [`SyncError::NoMemory`]: memory ran out.
@@ -21,15 +25,24 @@ pub fn have<C: Closure>(alloc: Global, closure: &C, bucket: u8) -> Result<Have, 
     ensures ok { IfOk result (λ h. h ≡ have_of (C.state closure.now).meaning bucket) }
     ensures refused { IfErr result (λ e. e ≡ NoMemory) }
 {
+    let mut ids = bucket_ids(alloc, closure, bucket)?;
+    ids.truncate(MOST_NAMED);
     Ok(Have {
         bucket,
         config: closure.config().digest(),
-        ids: ids_of(alloc, closure, bucket)?,
+        ids,
     })
 }
 
-// The ids of the bucket's receipts, sorted, each once.
-fn ids_of<C: Closure>(alloc: Global, closure: &C, bucket: u8) -> Result<Vec<ReceiptId>, AllocError>
+/// The ids of all the bucket's receipts, sorted, each once.
+///
+/// # Errors
+/// Memory ran out.
+pub fn bucket_ids<C: Closure>(
+    alloc: Global,
+    closure: &C,
+    bucket: u8,
+) -> Result<Vec<ReceiptId>, AllocError>
     ensures { IfOk result (λ ids. map (λ id. id.0) ids.items
         ≡ ids_held (state_of (C.state closure.now).meaning) bucket) }
 {

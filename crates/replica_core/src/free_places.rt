@@ -31,8 +31,8 @@ pub(crate) fn place_for_record<C: Closure>(
     ensures items { before.new.items ≡ before.old.items }
     ensures count { before.new.count ≡ before.old.count + 1 }
     ensures place { MatchOption result
-        (HasNoPlace (record_limit (C.state closure.now).meaning.config) (with_items distrust_cmp (passed before.old)
-        (C.state closure.now).meaning.records)
+        (HasNoPlace (record_limit (C.state closure.now).meaning.config)
+        (with_items distrust_cmp (passed before.old) (C.state closure.now).meaning.records)
         distrust.now)
         (HasPlace distrust_cmp (record_limit (C.state closure.now).meaning.config)
         (with_items distrust_cmp (passed before.old)
@@ -68,8 +68,8 @@ pub(crate) fn place_for_receipt<C: Closure>(
     ensures items { before.new.items ≡ before.old.items }
     ensures count { before.new.count ≡ before.old.count + 1 }
     ensures place { MatchOption result
-        (HasNoPlace (receipt_limit (C.state closure.now).meaning.config) (with_items receipt_cmp (passed before.old)
-        (C.state closure.now).meaning.held)
+        (HasNoPlace (receipt_limit (C.state closure.now).meaning.config)
+        (with_items receipt_cmp (passed before.old) (C.state closure.now).meaning.held)
         receipt.now)
         (HasPlace receipt_cmp (receipt_limit (C.state closure.now).meaning.config)
         (with_items receipt_cmp (passed before.old)

@@ -27,7 +27,7 @@ mod world;
 
 pub use absorbing::absorb;
 pub use answering::answer;
-pub use asking::have;
+pub use asking::{bucket_ids, have};
 pub use entry::Entry;
 pub use error::{PullFault, SyncError};
 pub use event::Event;

@@ -11,7 +11,7 @@ use Rattle.receipt_core.specs.Receipt.{Receipt, IsDistrust, IsReceipt, distrust_
 use Rattle.receipt_core.specs.Acceptance.{Meaning, IsMeaning}
 use Rattle.receipt_core.proofs.RisingFacts.{Contains-from_has, Has, Has-from_contains, same_members, with_items-has, with_items-keeps, with_items-new}
 use Rattle.replica_core.specs.Convergence.{HasAll}
-use Rattle.replica_core.specs.State.{State, bucket_of_id, ids_held, is_named, is_of_bucket, joined, meaning_of_state, receipts_lacking}
+use Rattle.replica_core.specs.State.{State, bucket_of_id, ids_named, is_named, is_of_bucket, joined, meaning_of_state, receipts_lacking}
 use Rattle.replica_core.specs.Session.{GiveMessage, give_of, state_of}
 use Rattle.replica_core.proofs.BucketFacts.{bucket-small}
 use Rattle.replica_core.proofs.ExchangeFacts.{lacking, named-held}
@@ -33,7 +33,7 @@ record HasId (state : State) (r : Receipt) : Type 0 where
   pub id : receipt_id_of it ≡ receipt_id_of r
 
 -- an id that a have names is that of a receipt that the asker holds
-has-id : (state : State) (bucket : ℕ) (r : Receipt) → is_named (ids_held state bucket) r ≡ true → HasId state r
+has-id : (state : State) (bucket : ℕ) (r : Receipt) → is_named (ids_named state bucket) r ≡ true → HasId state r
 has-id state bucket r named =
     let source = named-held state bucket r named in
     record { it = source.0; held = Has-from_contains state.held source.0 source.1; id = source.2 }
@@ -42,7 +42,7 @@ has-id state bucket r named =
 given-receipts : (c : Configuration) (k : Meaning) (state : State) (bucket : ℕ) → IsMeaning k
     → AllByRecursion IsReceipt (give_of k (have_in c state bucket)).content.held
 given-receipts c k state bucket valid =
-    each-to IsReceipt (receipts_lacking (state_of k) bucket (ids_held state bucket))
+    each-to IsReceipt (receipts_lacking (state_of k) bucket (ids_named state bucket))
     (λ s h. each-from IsReceipt k.held valid.receipts s (filter-from (lacking state bucket) k.held s h).0)
 
 -- The answer brings each of the bucket's receipts that the other holds and whose id is not held.
@@ -50,14 +50,14 @@ answer-brings : (c : Configuration) (k : Meaning) (state : State) (bucket : ℕ)
     → Has k.held r → bucket_of_id r ≡ bucket → HasId (joined state (give_of k (have_in c state bucket)).content) r
 answer-brings c k state bucket r valid own has here =
     let gain = (give_of k (have_in c state bucket)).content in
-    elim (cases_Bool (is_named (ids_held state bucket) r)) [
+    elim (cases_Bool (is_named (ids_named state bucket) r)) [
       | inl named ↦
           let known = has-id state bucket r named in
           record { it = known.it; held = with_items-keeps receipt_cmp gain.held state.held known.it known.held; id = known.id }
       | inr unnamed ↦
           let sent : Contains gain.held r =
           filter-to (lacking state bucket) k.held r (Contains-from_has k.held r has)
-          (and_from (is_of_bucket bucket r) (not (is_named (ids_held state bucket) r)) (eq-eqb (bucket_of_id r) bucket here) (ap not unnamed)) in
+          (and_from (is_of_bucket bucket r) (not (is_named (ids_named state bucket) r)) (eq-eqb (bucket_of_id r) bucket here) (ap not unnamed)) in
           record {
             it = r;
             held = with_items-new IsReceipt receipt_cmp exact-receipts gain.held state.held (given-receipts c k state bucket valid) own r

@@ -1,14 +1,9 @@
 -- What a replica asks, a line can ask; and what it answers to such a have is an answer.
-use Rattle.std.proofs.Common.{◌≡◌, ℕ, ◌+◌, ◌*◌, ◌<◌, ◌≤◌, Bool, true, false, cond, List, [], ◌∷◌, ◌++◌, codes, decimal, length, length-append, map}
-use Rattle.std.proofs.Common.{refl, arith}
+use Rattle.std.proofs.Common.{◌≡◌, ℕ, ◌+◌, ◌*◌, ◌<◌, ◌≤◌, Bool, true, false, cond, List, [], ◌∷◌, ◌++◌, codes, decimal}
+use Rattle.std.proofs.Common.{length, length-append, map, refl, arith}
 use Rattle.std.specs.Prelude.{filter}
 use Rattle.std.specs.List.{AllByRecursion, join_by}
-use Rattle.std.specs.List.Sorted.{IsStrictlySortedBy}
-use Rattle.std.specs.Cmp.{IsTotalOrder}
-use Rattle.std.specs.Cmp.Lexicographic.{on_texts}
-use Rattle.std.specs.declared.cmp.Ordering.{Ordering}
-use Rattle.std.specs.declared.cmp.Ordering.TheVariants.{Less, Equal, Greater}
-use Rattle.std.proofs.lemmas.List.{length-map}
+use Rattle.std.proofs.lemmas.List.{length-take}
 use Rattle.std.proofs.lemmas.List.Kept.{IsStrictlySortedBy-filter}
 use Rattle.std.proofs.lemmas.List.Sums.{count_by-le-length, length-filter}
 use Rattle.hex.specs.Hex.{encode_lower}
@@ -17,15 +12,15 @@ use Rattle.sha2.proofs.Facts256.{length-sha256}
 use Rattle.fed_config.specs.Configuration.{Configuration, config_id_of}
 use Rattle.receipt_core.specs.Order.{receipt_total, distrust_total}
 use Rattle.receipt_core.specs.Receipt.{Receipt, IsDigest, IsReceipt, line, receipt_cmp, receipt_id_of}
-use Rattle.receipt_core.specs.Rising.{placed, with_item, with_items}
 use Rattle.receipt_core.specs.Acceptance.{IsFitting, Meaning, IsMeaning}
 use Rattle.receipt_core.proofs.HexFacts.{length-encode_lower}
 use Rattle.receipt_core.proofs.LineFacts.{distrust_order, record_first}
-use Rattle.receipt_core.proofs.RisingFacts.{with_items-all, with_items-rising}
-use Rattle.replica_core.specs.State.{State, id_cmp, ids_held, is_of_bucket, receipts_lacking}
+use Rattle.receipt_core.proofs.RisingFacts.{with_items-all}
+use Rattle.replica_core.specs.State.{State, id_cmp, ids_held, ids_named, is_of_bucket, most_named, receipts_lacking}
 use Rattle.replica_core.specs.Session.{HaveMessage, have_of, give_of, state_of}
 use Rattle.replica_core.proofs.BucketFacts.{digest-bytes}
-use Rattle.replica_core.proofs.RisingListFacts.{rising_nil}
+use Rattle.replica_core.proofs.ContainsFacts.{take-each}
+use Rattle.replica_core.proofs.HaveFacts.{named-ids-rise}
 use Rattle.replica_texts.specs.Messages.{as_any_have, any_have_text, quoted}
 use Rattle.replica_texts.specs.Haves.{IsAskable}
 use Rattle.replica_texts.specs.Gives.{IsGive}
@@ -60,42 +55,6 @@ all-ids : (rs : List Receipt) → AllByRecursion IsDigest (map receipt_id_of rs)
 all-ids [] = tt
 all-ids (r ∷ rs) = (id-digest r, all-ids rs)
 
--- ---- how long a set is
-
--- An item that is put into a list makes it longer by one at most.
-placed-few : {A : Type 0} (o : Ordering) (item head : A) (rest longer : List A) → length longer ≤ length rest + 1
-    → length (placed o item head rest longer) ≤ length (head ∷ rest) + 1
-placed-few Less item head rest longer h = omega arith
-placed-few Equal item head rest longer h = omega arith
-placed-few Greater item head rest longer h = omega (arith, h)
-
--- So does one that is put into a set.
-one-longer : {A : Type 0} (cmp : A → A → Ordering) (item : A) (set : List A) → length (with_item cmp item set) ≤ length set + 1
-one-longer cmp item [] = omega arith
-one-longer cmp item (head ∷ rest) = placed-few (cmp item head) item head rest (with_item cmp item rest) (one-longer cmp item rest)
-
--- items make a set longer by at most their number
-no-longer : {A : Type 0} (cmp : A → A → Ordering) (items set : List A) → length (with_items cmp items set) ≤ length items + length set
-no-longer cmp [] set = omega arith
-no-longer cmp (x ∷ items) set =
-    let later = no-longer cmp items (with_item cmp x set) in
-    let one = one-longer cmp x set in
-    omega (arith, later, one)
-
--- A filter keeps no more than there were.
-kept-few : {A : Type 0} (p : A → Bool) (xs : List A) → length (filter p xs) ≤ length xs
-kept-few p xs = let kept = length-filter p xs in let few = count_by-le-length p xs in omega (arith, kept, few)
-
--- A have names at most 65,536 ids.
-few-ids : (m : Meaning) (bucket : ℕ) → IsMeaning m → length (ids_held (state_of m) bucket) ≤ 65536
-few-ids m bucket valid =
-    let kept = filter (is_of_bucket bucket) m.held in
-    let set = no-longer id_cmp (map receipt_id_of kept) [] in
-    let ids = length-map kept receipt_id_of in
-    let few = kept-few (is_of_bucket bucket) m.held in
-    let held = valid.few in
-    omega (arith, set, ids, few, held, receipt_limit-most m.config)
-
 -- ---- haves
 
 -- each id has 64 digits, two quotes, and a comma before it
@@ -125,7 +84,7 @@ asked-length : (b c f i k : List ℕ)
 asked-length b c f i k = simp length-append (omega arith)
 
 -- The line of a have is within the bound of lines.
-short-asked : (q : HaveMessage) → q.bucket < 256 → IsDigest q.config → AllByRecursion IsDigest q.ids → length q.ids ≤ 65536
+short-asked : (q : HaveMessage) → q.bucket < 256 → IsDigest q.config → AllByRecursion IsDigest q.ids → length q.ids ≤ most_named
     → length (any_have_text (as_any_have q)) ≤ 8388608
 unfolding any_have_text
 short-asked q below config ids few =
@@ -137,20 +96,16 @@ short-asked q below config ids few =
     let buckets = short-number 256 (omega arith) in
     omega (arith, whole, bucket, digest, format, list, buckets, few)
 
--- Ids are ordered as their bytes are.
-id-total : IsTotalOrder id_cmp
-id-total = on_texts (λ (t : List ℕ). t)
-
 -- The ids that a have names have the form of digests.
-ids-digests : (state : State) (bucket : ℕ) → AllByRecursion IsDigest (ids_held state bucket)
+ids-digests : (state : State) (bucket : ℕ) → AllByRecursion IsDigest (ids_named state bucket)
 ids-digests state bucket =
-    with_items-all IsDigest id_cmp (map receipt_id_of (filter (is_of_bucket bucket) state.held)) []
-    (all-ids (filter (is_of_bucket bucket) state.held)) tt
+    take-each IsDigest most_named (ids_held state bucket)
+    (with_items-all IsDigest id_cmp (map receipt_id_of (filter (is_of_bucket bucket) state.held)) []
+    (all-ids (filter (is_of_bucket bucket) state.held)) tt)
 
--- The ids that a have names rise.
-ids-rising : (state : State) (bucket : ℕ) → IsStrictlySortedBy id_cmp (ids_held state bucket)
-ids-rising state bucket =
-    with_items-rising id_cmp id-total (map receipt_id_of (filter (is_of_bucket bucket) state.held)) [] (rising_nil id_cmp)
+-- A have names at most 65,536 ids.
+few-ids : (state : State) (bucket : ℕ) → length (ids_named state bucket) ≤ most_named
+few-ids state bucket = let few = length-take most_named (ids_held state bucket) in omega (arith, few)
 
 -- What a replica asks about a bucket, a line can ask.
 pub askable-have : (m : Meaning) (bucket : ℕ) → IsMeaning m → bucket < 256 → IsAskable (have_of m bucket)
@@ -161,12 +116,16 @@ askable-have m bucket valid below = record {
     buckets = omega arith;
     config = config-digest m.config;
     ids = ids-digests (state_of m) bucket;
-    rising = ids-rising (state_of m) bucket;
+    rising = named-ids-rise (state_of m) bucket;
   };
-  short = short-asked (have_of m bucket) below (config-digest m.config) (ids-digests (state_of m) bucket) (few-ids m bucket valid);
+  short = short-asked (have_of m bucket) below (config-digest m.config) (ids-digests (state_of m) bucket) (few-ids (state_of m) bucket);
 }
 
 -- ---- answers
+
+-- A filter keeps no more than there were.
+kept-few : {A : Type 0} (p : A → Bool) (xs : List A) → length (filter p xs) ≤ length xs
+kept-few p xs = let kept = length-filter p xs in let few = count_by-le-length p xs in omega (arith, kept, few)
 
 -- One step of `filter-all`, for either outcome of the test.
 kept-all : {A : Type 0} (P : A → Type 0) (b : Bool) (x : A) (xs : List A) → P x → AllByRecursion P xs → AllByRecursion P (cond b (x ∷ xs) xs)

@@ -14,7 +14,7 @@ use Rattle.receipt_core.specs.declared.distrust.Distrust.{Distrust}
 use Rattle.receipt_core.specs.Receipt.{Receipt, IsDistrust, IsReceipt, distrust_line, line}
 use Rattle.receipt_core.proofs.LineFacts.{one_line, one_record}
 use Rattle.receipt_core.specs.Acceptance.{Meaning, IsMeaning}
-use Rattle.replica_core.specs.State.{State, first_of, ids_held, is_within_limits, joined, limits_of, meaning_of_state, no_state}
+use Rattle.replica_core.specs.State.{State, first_of, ids_named, is_within_limits, joined, limits_of, meaning_of_state, no_state}
 use Rattle.replica_core.specs.Session.{HaveMessage, GiveMessage, give_of, state_of}
 use Rattle.replica_core.specs.World.{Message, Rules, World, give_sent, apply, gained, happens, have_sent, rules_of, run_from}
 use Rattle.replica_core.specs.World.{takes_part, where_so, with_state}
@@ -57,10 +57,10 @@ part-is rules w i j n k count content l e t =
 
 module _ (rules : Rules) (i j : ℕ) (l : i < rules.replicas) (n : j < rules.replicas) (w : World) (bucket : ℕ) (low : bucket ≤ 255) where
   abbrev the_have : Message
-  the_have = have_sent i bucket (ids_held (w.now i) bucket)
+  the_have = have_sent i bucket (ids_named (w.now i) bucket)
 
   abbrev the_content : State
-  the_content = content_of (w.now j) bucket (ids_held (w.now i) bucket)
+  the_content = content_of (w.now j) bucket (ids_named (w.now i) bucket)
 
   abbrev asked_world : World
   asked_world = with_message w the_have
@@ -71,7 +71,7 @@ module _ (rules : Rules) (i j : ℕ) (l : i < rules.replicas) (n : j < rules.rep
   to-answered : run_from rules w (Ask i bucket ∷ Answer j (length w.sent) ∷ []) ≡ answered_world
   to-answered =
       ap (λ (v : World). happens rules v (Answer j (length w.sent))) (asked-is rules w i bucket l low)
-      ∙ answered-is rules asked_world i j bucket (length w.sent) (ids_held (w.now i) bucket) n (get-new w.sent the_have)
+      ∙ answered-is rules asked_world i j bucket (length w.sent) (ids_named (w.now i) bucket) n (get-new w.sent the_have)
 
   answer-there : slice_get answered_world.sent (length w.sent + 1) ≡ Some (give_sent j (length w.sent) the_content)
   answer-there =
@@ -127,9 +127,9 @@ small-within limits small large part is =
 
 -- What is answered in the world is what the give has.
 same-content : (i j : ℕ) (c : Configuration) (k : Meaning) (w : World) (state : State) (sent bucket : ℕ) (r : GiveMessage) → IsAt i j k w state sent
-    → r ≡ give_of k (have_in c state bucket) → content_of (w.now j) bucket (ids_held (w.now i) bucket) ≡ r.content
+    → r ≡ give_of k (have_in c state bucket) → content_of (w.now j) bucket (ids_named (w.now i) bucket) ≡ r.content
 same-content i j c k w state sent bucket r at is =
-    (λ t. content_of (at.there t) bucket (ids_held (at.here t) bucket)) ∙ sym (ap (λ (a : GiveMessage). a.content) is)
+    (λ t. content_of (at.there t) bucket (ids_named (at.here t) bucket)) ∙ sym (ap (λ (a : GiveMessage). a.content) is)
 
 module _ (rules : Rules) (i j : ℕ) (l : i < rules.replicas) (n : j < rules.replicas) (apart : j ≢ i) (c : Configuration) (k : Meaning) where
   one-exchange : (w : World) (state : State) (sent bucket : ℕ) (r : GiveMessage) → IsAt i j k w state sent

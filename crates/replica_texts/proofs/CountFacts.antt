@@ -51,7 +51,7 @@ unfolding count_of
 count_length format receipts records = simp length-append (omega arith)
 
 -- The part on records is short.
-part_length : (format : Format) (records : ℕ) → records ≤ 4096 → length (records_part format records) ≤ 18
+part_length : (format : Format) (records : ℕ) → records ≤ most_records → length (records_part format records) ≤ 18
 part_length First records h = omega arith
 part_length Second records h =
     let whole = length-append (codes ",\"distrusts\":") (decimal records) in
@@ -68,7 +68,7 @@ is_count format m valid = record {
   few =
       let whole = count_length format (length m.held) (length m.records) in
       let part = part_length format (length m.records) (omega (arith, valid.few_records, record_limit-most m.config)) in
-      let number = length-decimal-le 5 (length m.held) (omega arith) (omega (arith, valid.few, receipt_limit-most m.config))
+      let number = length-decimal-le 7 (length m.held) (omega arith) (omega (arith, valid.few, receipt_limit-most m.config))
       (omega (arith, valid.few, receipt_limit-most m.config)) in
       omega (arith, whole, part, number);
 }

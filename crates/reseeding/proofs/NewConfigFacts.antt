@@ -8,7 +8,7 @@ use Rattle.std.specs.List.{AllByRecursion, Contains}
 use Rattle.std.specs.List.Sorted.{IsStrictlySortedBy}
 use Rattle.spiffe_name.specs.TrustDomain.{IsDomainText}
 use Rattle.bundle_doc.specs.Bundle.{Bundle, Fits, IsBundle}
-use Rattle.fed_config.specs.Configuration.{AreDomains, Configuration, HasDomain, IsConfiguration, IsFloor, IsFloorOf, IsRelationship, IsSeed, Reaches}
+use Rattle.fed_config.specs.Configuration.{Configuration, HasDomain, IsConfiguration, IsFloor, IsFloorOf, IsRelationship, IsSeed}
 use Rattle.fed_config.specs.Configuration.{ReachesFloor, domain_cmp, floor_cmp, relationship_cmp, seed_cmp}
 use Rattle.fed_config.specs.Limits.{relationship_limit, seed_limit}
 use Rattle.fed_config.specs.declared.floor.Floor.{Floor}
@@ -21,7 +21,7 @@ use Rattle.closure_core.specs.AcceptedList.{document_of}
 use Rattle.closure_core.proofs.ContainsFacts.{contains_cases, contains_first, contains_map, contains_none, mapped}
 use Rattle.bundle_view.specs.Current.{IsCurrent, IsGreatest}
 use Rattle.bundle_view.proofs.RisingListFacts.{rising_append, rising_first, rising_none, rising_one, rising_rest}
-use Rattle.reseeding.specs.Reseeding.{AreCurrentSeeds, AreRaisedFloors, FlooredDomain, IsNewConfig, IsRaised, IsRaisedBy, SeededDomain, floor_in, floor_of}
+use Rattle.reseeding.specs.Reseeding.{AreCurrentSeeds, AreRaisedFloors, FlooredDomain, IsNewConfig, IsRaisedBy, SeededDomain, floor_in, floor_of}
 use Rattle.reseeding.specs.Reseeding.{seed_in, seed_of}
 use Rattle.reseeding.specs.declared.new_floors.FloorChoice.{FloorChoice}
 use Rattle.reseeding.specs.declared.new_floors.FloorChoice.TheVariants.{Kept, Raised}

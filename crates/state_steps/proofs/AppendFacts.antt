@@ -3,10 +3,9 @@ use Rattle.std.proofs.Common.{◌≡◌, ℕ, ◌⊎◌, inl, inr, List, [], ◌
 use Rattle.std.proofs.Common.{le_refl, take_all}
 use Rattle.state_steps.specs.Appends.{FailsAppend, IsAppendedOn, IsWrittenTo, after_append, following_append, with_lines, written_after}
 use Rattle.state_steps.specs.Files.{AreKeeping, FileText, HasOneFile, HasWholeLine, IsFirstFile, IsFoundAt, KeepsLine, StateDisk}
-use Rattle.state_steps.specs.Files.{appending, kept_file, longer_file, synced_file, text_now, with_first}
+use Rattle.state_steps.specs.Files.{kept_file, longer_file, synced_file, text_now, with_first}
 use Rattle.state_steps.specs.declared.appending.AppendStage.{AppendStage}
 use Rattle.state_steps.specs.declared.appending.AppendStage.TheVariants.{OnDisk, Due, Failed}
-use Rattle.state_steps.specs.declared.appending.AppendStep.{AppendStep}
 use Rattle.state_steps.specs.declared.appending.AppendStep.TheVariants.{WriteLines, SyncLines, SeeNames}
 use Rattle.state_steps.proofs.LineFacts.{keeping_appending, keeping_longer, kept_has}
 

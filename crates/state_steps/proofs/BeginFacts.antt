@@ -1,9 +1,8 @@
 -- Lemmas on how far the beginning of a replica has come.
-use Rattle.std.proofs.Common.{◌≡◌, ℕ, ◌⊎◌, inl, inr, true, false, List, [], ◌∷◌, take, Option, None, Some, sym, ap, subst, refl}
-use Rattle.state_steps.specs.Begins.{IsBeginDueOn, IsBeginKeptOn, IsFoundOn, begin_change, first_stage, following_begin}
-use Rattle.state_steps.specs.Files.{AreKeeping, FileText, HasWholeLine, KeepsLine, SnapshotsKeep, StateDisk, kept_file}
-use Rattle.state_steps.specs.Files.{settled_name, synced_file, unkept_file, with_first}
-use Rattle.state_steps.specs.Saves.{IsSaveDueOn, IsSaveKeptOn}
+use Rattle.std.proofs.Common.{◌≡◌, ℕ, inl, inr, false, List, [], ◌∷◌, take, Some, sym, subst, refl}
+use Rattle.state_steps.specs.Begins.{IsBeginDueOn, IsBeginKeptOn, IsFoundOn, begin_change, following_begin}
+use Rattle.state_steps.specs.Files.{KeepsLine, SnapshotsKeep, StateDisk}
+use Rattle.state_steps.specs.Files.{synced_file, unkept_file, with_first}
 use Rattle.state_steps.specs.Steps.{FailsDue, IsDoneOrNot, StateTexts, WritesLine, after_due, after_step}
 use Rattle.state_steps.specs.declared.beginning.BeginStage.{BeginStage}
 use Rattle.state_steps.specs.declared.beginning.BeginStage.TheVariants.{LoadAndSave, Load, Change, Done, Failed}

@@ -1,6 +1,6 @@
 -- Lemmas on how far a fold has come.
-use Rattle.std.proofs.Common.{◌≡◌, ◌≢◌, ℕ, ◌⊎◌, inl, inr, Bool, true, false, List, [], ◌∷◌, take, Option, None, Some, sym, ap, subst, refl}
-use Rattle.state_steps.specs.Files.{FileText, HasOneFile, HasWholeLine, IsFirstFile, KeepsLine, StateDisk}
+use Rattle.std.proofs.Common.{◌≡◌, ◌≢◌, ℕ, inl, inr, Bool, true, false, List, [], ◌∷◌, take, Option, None, Some, sym, ap, subst, refl}
+use Rattle.state_steps.specs.Files.{FileText, HasOneFile, HasWholeLine, KeepsLine, StateDisk}
 use Rattle.state_steps.specs.Files.{appended, appending, kept_file, longer_file, settled_name, synced_file, unkept_file, with_first}
 use Rattle.state_steps.specs.Folds.{IsDueOn, IsKeptOn, IsTakenOver, following_step, steps_left}
 use Rattle.state_steps.specs.Steps.{FailsDue, IsDoneOrNot, StateTexts, WritesLine, after_due}

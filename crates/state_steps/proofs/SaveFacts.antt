@@ -1,14 +1,14 @@
 -- Lemmas on how far a save has come.
-use Rattle.std.proofs.Common.{◌≡◌, ℕ, ◌⊎◌, inl, inr, List, [], ◌∷◌, Option, None, Some, sym, ap, subst, refl}
-use Rattle.state_steps.specs.Files.{AreKeeping, FileText, HasWholeLine, KeepsLine, StateDisk, kept_file, settled_name, synced_file}
+use Rattle.std.proofs.Common.{ℕ, inl, inr, List, [], ◌∷◌, Some, sym, ap, subst, refl}
+use Rattle.state_steps.specs.Files.{KeepsLine, StateDisk, kept_file, synced_file}
 use Rattle.state_steps.specs.Saves.{IsSaveDueOn, IsSaveKeptOn, following_save, save_step}
-use Rattle.state_steps.specs.Steps.{FailsDue, FailsTo, IsDoneOrNot, StateTexts, WritesLine, after_due, after_step}
+use Rattle.state_steps.specs.Steps.{FailsDue, IsDoneOrNot, StateTexts, WritesLine, after_due, after_step}
 use Rattle.state_steps.specs.declared.saving.SaveStage.{SaveStage}
 use Rattle.state_steps.specs.declared.saving.SaveStage.TheVariants.{Due, Done, Failed}
 use Rattle.state_steps.specs.declared.file_step.FileStep.{FileStep}
 use Rattle.state_steps.specs.declared.file_step.FileStep.TheVariants.{WriteSnapshot, SyncSnapshot, ReplaceSnapshot}
 use Rattle.state_steps.specs.declared.file_step.FileStep.TheVariants.{SyncFolder, RemoveJournal, BeginJournal, SyncJournal}
-use Rattle.state_steps.proofs.StepFacts.{keeping_both, keeping_settled, settled_first, snapshot_keeps}
+use Rattle.state_steps.proofs.StepFacts.{keeping_both, settled_first, snapshot_keeps}
 
 pub saved_now : (texts : StateTexts) (stage : SaveStage) (disk : StateDisk) (line : List ℕ)
     → IsSaveDueOn texts stage disk → IsSaveKeptOn texts stage disk line → KeepsLine disk line

@@ -1,6 +1,6 @@
 -- Lemmas on single steps: what they keep, and what is left of those that failed.
-use Rattle.std.proofs.Common.{◌≡◌, ℕ, ◌⊎◌, inl, inr, List, [], ◌∷◌, ◌++◌, sym, ap, subst, arith, refl}
-use Rattle.state_steps.specs.Files.{AreKeeping, FileText, HasOneFile, HasWholeLine, IsFirstFile, IsJournalled, KeepsLine}
+use Rattle.std.proofs.Common.{◌≡◌, ℕ, ◌⊎◌, inl, inr, List, [], ◌∷◌, ◌++◌, sym, ap, arith}
+use Rattle.state_steps.specs.Files.{AreKeeping, FileText, HasOneFile, HasWholeLine, IsFirstFile, IsJournalled}
 use Rattle.state_steps.specs.Files.{SnapshotsKeep, StateDisk, kept_file, settled_name, synced_file, unkept_file, with_first}
 use Rattle.state_steps.specs.Steps.{StateTexts}
 use Rattle.state_steps.proofs.LineFacts.{found_settled, journal_has, kept_has}

@@ -60,6 +60,7 @@ use Rattle.trust_closure.proofs.ReachedFacts.{IsAccepted, IsReachedAt, accepted-
 use Rattle.closure_parts.proofs.PairFacts.{pairing-once}
 use Rattle.closure_parts.proofs.HeldChangeFacts.{pairs-push, distrust-sets, always-all, with_arrival, same-more, with_mistrust, hoard-before}
 use Rattle.closure_parts.proofs.PairFacts.{pairing-counts}
+use Rattle.receipt_core.specs.Limits.{most_receipts}
 use Rattle.closure_parts.proofs.NodeCountFacts.{count-push}
 
 module _ (h : HeldReceipts) (p : DocumentTableView) (w : LabelIndexView) (b : IsBuilt h p w) where
@@ -716,7 +717,7 @@ kept-seeded h p q w nodes seeds b g none few numbers heads capacity is adds =
 
 -- The number of nodes fits 32 bits.
 pub pairs-few : (h : HeldReceipts) (p : DocumentTableView) → IsDocumentTable (pairs_of h.config.seeds h.arrived) p
-    → length h.config.seeds ≤ 4096 → length h.arrived ≤ 65536 → length p.heads < 2 ^ 32
+    → length h.config.seeds ≤ 4096 → length h.arrived ≤ most_receipts → length p.heads < 2 ^ 32
 pairs-few h p pairing seeds arrived =
     omega (
       arith,

@@ -183,7 +183,7 @@ fn take(config: &Config, store: &mut Store, line: &[u8]) -> Result<(), Box<dyn E
     }
     let node = Node::new(domain, document);
     if store.held.insert((node.id, voucher, key)) {
-        if store.held.len() > 65_536 {
+        if store.held.len() > 4_194_304 {
             return Err("full".into());
         }
         let need = (domain_of(endpoint)?.to_owned(), voucher, key);

@@ -6,12 +6,13 @@ use Rattle.receipt_core.specs.Receipt.{Receipt}
 use Rattle.closure_parts.specs.Held.{meaning_of}
 use Rattle.closure_parts.proofs.MergeFacts.{IsCopied, IsCopied-start, IsCopied-held, IsCopied-new, IsCopied-end, IsCopied-has, lacks_of}
 use Rattle.receipt_core.proofs.LimitFacts.{receipt_limit-most}
+use Rattle.receipt_core.specs.Limits.{most_receipts}
 use Rattle.closure_parts.proofs.copies.copies_of_new.Goals as goal
 
 pub loop-receipt-init : goal.loop-receipt-init
 loop-receipt-init c =
     let all = c.into_iter-receipt-iterator.result in
-    let few : length all ≤ 65536 = omega (
+    let few : length all ≤ most_receipts = omega (
       arith,
       ap length (c.into_iter-receipt-iterator.ensures.into_iter_gives ∙ c.receipts-receipt-items.ensures),
       c.config-other_valid.ensures.valid.few,

@@ -1,4 +1,4 @@
-use Rattle.std.proofs.Common.{◌≡◌, ◌<◌, ◌^◌, inr, refl, sym, ap, ◌∙◌}
+use Rattle.std.proofs.Common.{◌<◌, ◌^◌, inr, refl, sym, ap, ◌∙◌}
 use Rattle.serde_json.specs.View.{members_view}
 use Rattle.fed_config.specs.declared.floor.Floor.{Floor}
 use Rattle.fed_config.proofs.FloorFacts.{each_push, floor_end, floor_next, not_floors, rising_floors}

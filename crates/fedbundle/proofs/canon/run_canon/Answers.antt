@@ -1,5 +1,6 @@
 use Rattle.std.proofs.Common.{◌∙◌, ap, refl, Err, Vec, Global, ℕ}
 use Rattle.std.proofs.lemmas.Result.{err_from_is_err_and}
+use Rattle.command_exits.proofs.ConfigFacts.{source_failed}
 use Rattle.fedbundle.specs.CommandRun.{run_of}
 use Rattle.command_exits.specs.DeviceRuns.{device_run}
 use Rattle.fedbundle.proofs.CommandFacts.{canon_read, canon_unread}
@@ -14,7 +15,8 @@ returns-in_err-bytes-clause-sound g c =
 pub returns-in_err-bytes-clause-runs : goal.returns-in_err-bytes-clause-runs
 returns-in_err-bytes-clause-runs g c =
     let exit = err_from_is_err_and c.from_residual.result c.from_residual.ensures.1 in
-    rw (exit.1, exit.2) (canon_unread _ _ _ c.in_err-bytes.field-0.0 (λ io. c.in_err-bytes.ensures.io (ap Err io)) refl)
+    rw (exit.1, exit.2) (canon_unread _ _ _ c.in_err-bytes.field-0.0
+    (source_failed (Vec ℕ Global) c.in_err-bytes.field-0.0 _ _ c.in_err-bytes.ensures.fault) refl)
 
 pub returns-clause-runs : goal.returns-clause-runs
 returns-clause-runs g c =

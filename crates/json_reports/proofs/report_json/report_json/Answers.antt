@@ -1,7 +1,6 @@
 use Rattle.std.proofs.Common.{◌++◌, ◌∙◌, ap, map, subst}
 use Rattle.fed_config.specs.Configuration.{AreDomains}
 use Rattle.bundle_view.specs.Conflicts.{reported_by}
-use Rattle.bundle_view.specs.declared.conflict.Conflict.{Conflict}
 use Rattle.json_reports.specs.ReportJson.{conflict_json, report_counts, report_lists}
 use Rattle.json_reports.proofs.report_json.report_json.Goals as goal
 

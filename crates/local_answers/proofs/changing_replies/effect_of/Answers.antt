@@ -1,4 +1,4 @@
-use Rattle.std.proofs.Common.{inl, inr, refl, rules, Some}
+use Rattle.std.proofs.Common.{inl, rules, Some}
 use Rattle.local_answers.proofs.changing_replies.effect_of.Goals as goal
 
 pub returns-in-Ok : goal.returns-in-Ok

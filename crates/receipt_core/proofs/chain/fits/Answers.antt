@@ -1,5 +1,4 @@
-use Rattle.std.proofs.Common.{◌≡◌, ◌↔◌, ◌∙◌, sym, refl, subst, false, IsTrue}
-use Rattle.spiffe_name.specs.SpiffeId.{Id}
+use Rattle.std.proofs.Common.{◌∙◌, sym, refl, false}
 use Rattle.receipt_core.proofs.ChainFacts.{stated_no, not_stated}
 use Rattle.receipt_core.proofs.FloorFacts.{floor_at}
 use Rattle.receipt_core.proofs.SearchFacts.{fits_stated, misfit_stated}

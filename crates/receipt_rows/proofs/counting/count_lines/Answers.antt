@@ -1,4 +1,4 @@
-use Rattle.std.proofs.Common.{◌≡◌, ◌+◌, ◌<◌, arith}
+use Rattle.std.proofs.Common.{arith}
 use Rattle.byte_lines.proofs.CountFacts.{CountsTo-line, CountsTo-rest}
 use Rattle.receipt_rows.proofs.counting.count_lines.Goals as goal
 

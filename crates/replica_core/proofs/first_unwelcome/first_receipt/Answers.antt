@@ -36,7 +36,8 @@ returns-in-None g c = λ records.
     let same = c.loop-receipt.invariant.place in
     let none : HasNoPlace (receipt_limit m.config) (with_items receipt_cmp (take c.loop-receipt.place rs) m.held) r =
     subst (λ i. HasNoPlace (receipt_limit m.config) (with_items receipt_cmp (take i rs) m.held) r) (sym same)
-    (subst (λ (f : Front Receipt). HasNoPlace (receipt_limit m.config) (with_items receipt_cmp (passed f) m.held) r) c.loop-receipt.invariant.front c.in-None.ensures.place) in
+    (subst (λ (f : Front Receipt). HasNoPlace (receipt_limit m.config) (with_items receipt_cmp (passed f) m.held) r) c.loop-receipt.invariant.front
+    c.in-None.ensures.place) in
     receipt-refused m rs c.loop-receipt.place r Full (omega (arith, same, c.loop-receipt-test.true))
     (subst (λ i. get_or rs i r ≡ r) (sym same) (sym c.receipt-item.is))
     (subst (λ i. AreWelcome m (of_receipts (take i rs))) (sym same) (c.loop-receipt.invariant.welcome records))
@@ -58,8 +59,10 @@ loop-receipt-preserved g c =
     let at : get_or rs i r ≡ r = sym c.receipt-item.is in
     let has : HasPlace receipt_cmp (receipt_limit m.config) (with_items receipt_cmp (take c.loop-receipt.receipt-index rs) m.held) r
     (length rs - c.loop-receipt.receipt-index) c.in-Some.more =
-    subst (λ j. HasPlace receipt_cmp (receipt_limit m.config) (with_items receipt_cmp (take c.loop-receipt.receipt-index rs) m.held) r (length rs - j) c.in-Some.more) same
-    (subst (λ (f : Front Receipt). HasPlace receipt_cmp (receipt_limit m.config) (with_items receipt_cmp (passed f) m.held) r (length rs - c.loop-receipt.place) c.in-Some.more)
+    subst (λ j. HasPlace receipt_cmp (receipt_limit m.config) (with_items receipt_cmp (take c.loop-receipt.receipt-index rs) m.held) r (length rs - j)
+    c.in-Some.more) same
+    (subst (λ (f : Front Receipt). HasPlace receipt_cmp (receipt_limit m.config) (with_items receipt_cmp (passed f) m.held) r
+    (length rs - c.loop-receipt.place) c.in-Some.more)
     c.loop-receipt.invariant.front c.in-Some.ensures.place) in
     record {
       place = omega (arith, same);

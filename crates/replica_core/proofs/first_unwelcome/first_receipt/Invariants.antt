@@ -15,7 +15,8 @@ invariant-loop-receipt g l =
     record {
       place : l.place ≡ l.receipt-index;
       front : l.before ≡ record { items = l.receipts; count = l.receipt-index };
-      places : HasPlaces (receipt_limit m.config) (length (with_items receipt_cmp (take l.receipt-index l.receipts) m.held)) l.free (length l.receipts - l.receipt-index);
+      places : HasPlaces (receipt_limit m.config) (length (with_items receipt_cmp (take l.receipt-index l.receipts) m.held)) l.free
+          (length l.receipts - l.receipt-index);
       welcome : (records : List Distrust) → AreWelcome (record m { records = records }) (of_receipts (take l.receipt-index l.receipts));
       forms : AllByRecursion IsReceipt (take l.receipt-index l.receipts);
     }

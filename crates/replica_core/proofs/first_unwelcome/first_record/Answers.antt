@@ -36,7 +36,8 @@ returns-in-None g c =
     let own : c.config-config.result.now ≡ m.config = c.config-config.ensures.config in
     let none : HasNoPlace (record_limit m.config) (with_items distrust_cmp (take c.loop-record.place xs) m.records) x =
     subst (λ i. HasNoPlace (record_limit m.config) (with_items distrust_cmp (take i xs) m.records) x) (sym same)
-    (subst (λ (f : Front Distrust). HasNoPlace (record_limit m.config) (with_items distrust_cmp (passed f) m.records) x) c.loop-record.invariant.front c.in-None.ensures.place) in
+    (subst (λ (f : Front Distrust). HasNoPlace (record_limit m.config) (with_items distrust_cmp (passed f) m.records) x) c.loop-record.invariant.front
+    c.in-None.ensures.place) in
     record-refused m xs c.loop-record.place x Full (omega (arith, same, c.loop-record-test.true))
     (subst (λ i. get_or xs i x ≡ x) (sym same) (sym c.record-item.is))
     (subst (λ i. AreWelcome m (of_records (take i xs))) (sym same) c.loop-record.invariant.welcome)
@@ -58,7 +59,8 @@ loop-record-preserved g c =
     let own : c.config-config.result.now ≡ m.config = c.config-config.ensures.config in
     let has : HasPlace distrust_cmp (record_limit m.config) (with_items distrust_cmp (take c.loop-record.record-index xs) m.records) x
     (length xs - c.loop-record.record-index) c.in-Some.more =
-    subst (λ j. HasPlace distrust_cmp (record_limit m.config) (with_items distrust_cmp (take c.loop-record.record-index xs) m.records) x (length xs - j) c.in-Some.more) same
+    subst (λ j. HasPlace distrust_cmp (record_limit m.config) (with_items distrust_cmp (take c.loop-record.record-index xs) m.records) x (length xs - j)
+    c.in-Some.more) same
     (subst (λ (f : Front Distrust). HasPlace distrust_cmp (record_limit m.config) (with_items distrust_cmp (passed f) m.records) x
     (length xs - c.loop-record.place) c.in-Some.more)
     c.loop-record.invariant.front c.in-Some.ensures.place) in
@@ -66,7 +68,8 @@ loop-record-preserved g c =
       place = omega (arith, same);
       front = front-next c.loop-record.before c.place_for_record.new.before xs c.loop-record.record-index
           c.loop-record.invariant.front c.place_for_record.ensures.items c.place_for_record.ensures.count;
-      places = places-next distrust_cmp (record_limit m.config) xs m.records c.loop-record.record-index c.in-Some.more x c.loop-record-test.true (sym c.record-item.is) has.after;
+      places = places-next distrust_cmp (record_limit m.config) xs m.records c.loop-record.record-index c.in-Some.more x c.loop-record-test.true
+          (sym c.record-item.is) has.after;
       welcome = record-judged m xs c.loop-record.record-index x c.loop-record-test.true (sym c.record-item.is) c.loop-record.invariant.welcome
           (subst (λ (k : Configuration). HasDomain k x.domain) own
           (known c.config-config.result.now x.domain c.domains-form.result.now c.domain_no.result

@@ -13,6 +13,7 @@ invariant-loop-record g l =
     record {
       place : l.place ≡ l.record-index;
       front : l.before ≡ record { items = l.records; count = l.record-index };
-      places : HasPlaces (record_limit m.config) (length (with_items distrust_cmp (take l.record-index l.records) m.records)) l.free (length l.records - l.record-index);
+      places : HasPlaces (record_limit m.config) (length (with_items distrust_cmp (take l.record-index l.records) m.records)) l.free
+          (length l.records - l.record-index);
       welcome : AreWelcome m (of_records (take l.record-index l.records));
     }

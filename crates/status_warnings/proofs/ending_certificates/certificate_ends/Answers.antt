@@ -1,6 +1,6 @@
-use Rattle.std.proofs.Common.{[], ◌++◌, ap, refl, subst}
+use Rattle.std.proofs.Common.{[], ◌++◌, ap, subst}
 use Rattle.fed_config.specs.Configuration.{AreDomains}
-use Rattle.status_warnings.specs.CertificateEnds.{AreEndsOf, AreParts}
+use Rattle.status_warnings.specs.CertificateEnds.{AreEndsOf}
 use Rattle.status_warnings.proofs.PartFacts.{all_begun, begun_more}
 use Rattle.status_warnings.proofs.ending_certificates.certificate_ends.Goals as goal
 

@@ -1,4 +1,4 @@
-use Rattle.std.proofs.Common.{◌++◌, codes}
+use Rattle.std.proofs.Common.{codes}
 use Rattle.hex.specs.Hex.{encode_lower}
 use Rattle.status_warnings.specs.WarningJson.{domain_member}
 use Rattle.status_view.proofs.PieceFacts.{two}

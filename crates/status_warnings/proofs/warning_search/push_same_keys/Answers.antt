@@ -1,6 +1,6 @@
-use Rattle.std.proofs.Common.{◌++◌, ◌∙◌, ◌∷◌, [], ap}
+use Rattle.std.proofs.Common.{[]}
 use Rattle.status_warnings.specs.Warnings.{same_key_warning}
-use Rattle.status_warnings.proofs.WarningFacts.{flat_end, flat_next}
+use Rattle.status_warnings.proofs.WarningFacts.{flat_end}
 use Rattle.status_warnings.proofs.warning_search.push_same_keys.Goals as goal
 
 pub returns : goal.returns

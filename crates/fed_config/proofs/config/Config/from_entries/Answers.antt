@@ -1,6 +1,6 @@
 use Rattle.std.proofs.Common.{◌≡◌, ◌≤◌, ◌∙◌, sym, subst, refl}
 use Rattle.std.specs.Result.{MatchResult}
-use Rattle.std.specs.List.{AllByRecursion, Contains}
+use Rattle.std.specs.List.{AllByRecursion}
 use Rattle.std.specs.List.Sorted.{IsStrictlySortedBy}
 use Rattle.std.proofs.lemmas.Result.{err_from_is_err_and}
 use Rattle.url.specs.Parts.{Parts}
@@ -9,7 +9,7 @@ use Rattle.spiffe_name.specs.TrustDomain.{IsDomainText}
 use Rattle.fed_config.specs.EndpointUrl.{IsParsed}
 use Rattle.fed_config.specs.Configuration.{AreDomains, IsConfiguration, domain_cmp, floor_cmp, relationship_cmp}
 use Rattle.fed_config.specs.Inside.Entries.{seed_text}
-use Rattle.fed_config.specs.Reading.{Fails, HasFewDomains, HasName, HasRisingLists, IsProfile, SaysNames, SaysDomain, SaysUrl}
+use Rattle.fed_config.specs.Reading.{Fails, HasFewDomains, HasName, HasRisingLists, IsProfile, SaysUrl}
 use Rattle.fed_config.specs.Reading.{SaysSeedDocument}
 use Rattle.fed_config.specs.declared.error.ConfigError.TheVariants.{BadName, BadUrl, BadSeed, TooMany}
 use Rattle.fed_config.proofs.TextFacts.{config_of}

@@ -1,4 +1,4 @@
-use Rattle.std.proofs.Common.{◌≡◌, length, subst, ap, ap₂, ◌∙◌, refl, ◌≤◌}
+use Rattle.std.proofs.Common.{length, subst, ap, ap₂, ◌∙◌, refl, ◌≤◌}
 use Rattle.fed_config.specs.Configuration.{IsConfiguration, config_id_of}
 use Rattle.fed_config.proofs.DomainFacts.{one_list}
 use Rattle.fed_config.proofs.TextFacts.{config_of}

@@ -1,4 +1,4 @@
-use Rattle.std.proofs.Common.{◌≡◌, ◌∙◌, sym}
+use Rattle.std.proofs.Common.{◌∙◌, sym}
 use Rattle.fed_config.proofs.LimitFacts.{AreDomains-limits, IsConfiguration-limits, no_limits}
 use Rattle.fed_config.proofs.config.Config.set_limits.Goals as goal
 

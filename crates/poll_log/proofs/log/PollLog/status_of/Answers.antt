@@ -1,7 +1,7 @@
-use Rattle.std.proofs.Common.{◌≡◌, ◌∙◌, ◌<◌, None, Some, length, subst, sym, ap, arith}
+use Rattle.std.proofs.Common.{◌≡◌, ◌∙◌, ◌<◌, Some, length, subst, sym, ap, arith}
 use Rattle.std.specs.List.{slice_get, Contains}
 use Rattle.std.proofs.lemmas.List.{length-map}
-use Rattle.poll_log.specs.Polling.{IsLog, polled_domains, standing_in}
+use Rattle.poll_log.specs.Polling.{IsLog, polled_domains}
 use Rattle.poll_log.specs.Inside.Statuses.{kept_status}
 use Rattle.poll_log.proofs.PollFacts.{standing_in-held, standing_in-none, within_log}
 use Rattle.poll_log.proofs.log.PollLog.status_of.Goals as goal

@@ -1,4 +1,4 @@
-use Rattle.std.proofs.Common.{◌≡◌, ◌∙◌, inr, true, false, sym, ap, subst, refl}
+use Rattle.std.proofs.Common.{◌∙◌, inr, true, false, ap, subst, refl}
 use Rattle.replica_core.specs.declared.error.SyncError.TheVariants.{NoMemory}
 use Rattle.replica_sync.specs.Pieces.{EndsLine, ended_line, kept_part, piece_run}
 use Rattle.replica_sync.proofs.NewEntryFacts.{refused_with}

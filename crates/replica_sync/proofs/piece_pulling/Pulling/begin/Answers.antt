@@ -1,6 +1,5 @@
-use Rattle.std.proofs.Common.{◌≡◌, ◌∙◌, refl}
+use Rattle.std.proofs.Common.{◌∙◌, refl}
 use Rattle.replica_sync.specs.Plans.{answered_of, plan_of}
-use Rattle.replica_sync.specs.PullSessions.{kept_answer}
 use Rattle.replica_sync.proofs.PullStepFacts.{begun_pieces, next_at}
 use Rattle.replica_sync.proofs.piece_pulling.Pulling.begin.Goals as goal
 

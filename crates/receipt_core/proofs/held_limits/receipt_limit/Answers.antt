@@ -1,5 +1,5 @@
 use Rattle.receipt_core.proofs.LimitFacts.{receipt_limit-most, receipt_limit-of}
-use Rattle.receipt_core.proofs.limits.receipt_limit.Goals as goal
+use Rattle.receipt_core.proofs.held_limits.receipt_limit.Goals as goal
 
 pub returns-clause-limit : goal.returns-clause-limit
 returns-clause-limit c =

@@ -1,5 +1,5 @@
 use Rattle.receipt_core.proofs.LimitFacts.{record_limit-most, record_limit-of}
-use Rattle.receipt_core.proofs.limits.record_limit.Goals as goal
+use Rattle.receipt_core.proofs.held_limits.record_limit.Goals as goal
 
 pub returns-clause-limit : goal.returns-clause-limit
 returns-clause-limit c =

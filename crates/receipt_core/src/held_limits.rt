@@ -6,13 +6,13 @@ ghost use Rattle.receipt_core.specs.Limits.{most_receipts, most_records};
 use fed_config::Config;
 
 /// The highest limit of receipts.
-pub const MOST_RECEIPTS: usize = 65_536;
+pub const MOST_RECEIPTS: usize = 4_194_304;
 
 /// The highest limit of records of distrust.
-pub const MOST_RECORDS: usize = 4_096;
+pub const MOST_RECORDS: usize = 65_536;
 
 /// The most receipts that are held under the configuration: what its limits say, but at least 1 and
-/// at most 65,536.
+/// at most 4,194,304.
 pub fn receipt_limit(config: &Config) -> usize
     ensures limit { result ≡ receipt_limit config.now }
     ensures most { receipt_limit config.now ≤ most_receipts }
@@ -21,7 +21,7 @@ pub fn receipt_limit(config: &Config) -> usize
 }
 
 /// The most records of distrust that are held under the configuration: what its limits say, but at
-/// least 1 and at most 4,096.
+/// least 1 and at most 65,536.
 pub fn record_limit(config: &Config) -> usize
     ensures limit { result ≡ record_limit config.now }
     ensures most { record_limit config.now ≤ most_records }

@@ -4,7 +4,7 @@ use Rattle.std.proofs.lemmas.List.Filters.{dedup_is}
 use Rattle.closure_core.specs.AcceptedList.{receipts_in}
 use Rattle.replica_core.proofs.HaveFacts.{bytes_of}
 use Rattle.replica_core.proofs.IdFacts.{are-held}
-use Rattle.replica_core.proofs.asking.ids_of.Goals as goal
+use Rattle.replica_core.proofs.asking.bucket_ids.Goals as goal
 
 pub returns : goal.returns
 returns g c =
