@@ -1,6 +1,6 @@
 -- Lemmas on how far a fold has come.
-use Rattle.std.proofs.Common.{◌≡◌, ◌≢◌, ℕ, inl, inr, Bool, true, false, List, [], ◌∷◌, take, Option, None, Some, sym, ap, subst, refl}
-use Rattle.state_steps.specs.Files.{FileText, HasOneFile, HasWholeLine, KeepsLine, StateDisk}
+use Rattle.std.proofs.Common.{◌≡◌, ◌≢◌, ℕ, ◌⊎◌, inl, inr, Bool, true, false, List, [], ◌∷◌, take, Option, None, Some, sym, ap, subst, refl, arith}
+use Rattle.state_steps.specs.Files.{FileText, HasOneFile, HasWholeLine, IsJournalled, KeepsLine, SnapshotsKeep, StateDisk}
 use Rattle.state_steps.specs.Files.{appended, appending, kept_file, longer_file, settled_name, synced_file, unkept_file, with_first}
 use Rattle.state_steps.specs.Folds.{IsDueOn, IsKeptOn, IsTakenOver, following_step, steps_left}
 use Rattle.state_steps.specs.Steps.{FailsDue, IsDoneOrNot, StateTexts, WritesLine, after_due}
@@ -8,7 +8,7 @@ use Rattle.state_steps.specs.declared.file_step.FileStep.{FileStep}
 use Rattle.state_steps.specs.declared.file_step.FileStep.TheVariants.{WriteSnapshot, SyncSnapshot, ReplaceSnapshot}
 use Rattle.state_steps.specs.declared.file_step.FileStep.TheVariants.{SyncFolder, RemoveJournal, BeginJournal, SyncJournal}
 use Rattle.state_steps.proofs.LineFacts.{journalled_appended, keeping_appended, keeping_appending}
-use Rattle.state_steps.proofs.StepFacts.{keeping_both, keeping_settled, one_settled, replaced_keeps, settled_first, snapshot_keeps}
+use Rattle.state_steps.proofs.StepFacts.{keeping_both, keeping_settled, one_settled, replaced_keeps, settled_first, snapshot_keeps, snapshots_keep}
 
 -- ---- at each step no line is lost
 
@@ -67,6 +67,41 @@ done_kept texts (Some SyncJournal) whole disk line due kept writes =
     snapshot_keeps disk.snapshot (settled_name (with_first synced_file disk.journal)) texts.snapshot line due.0 kept
 done_kept texts (Some RemoveJournal) whole disk line due kept writes = absurd due
 done_kept texts None whole disk line due kept writes = kept
+
+-- ---- the folder is put on the disk
+
+-- the new snapshot has the line; or this text has it, with each line of the journal that the snapshot lacks
+written_or_text : (whole : Bool) (texts : StateTexts) (disk : StateDisk) (text line : List ℕ) → IsTakenOver whole texts disk line
+    → (IsJournalled disk.journal line → HasWholeLine texts.snapshot line ⊎ HasWholeLine text line)
+    → HasWholeLine texts.snapshot line ⊎ HasWholeLine text line
+written_or_text true texts disk text line taken others = inl taken
+written_or_text false texts disk text line (inl has) others = inl has
+written_or_text false texts disk text line (inr has) others = others has
+
+settled_or_text : (snapshots : List FileText) (snapshot text line : List ℕ) → snapshots ≡ kept_file snapshot ∷ []
+    → HasWholeLine snapshot line ⊎ HasWholeLine text line → SnapshotsKeep snapshots line ⊎ HasWholeLine text line
+settled_or_text snapshots snapshot text line is (inl has) = inl (snapshots_keep snapshots snapshot line is has)
+settled_or_text snapshots snapshot text line is (inr has) = inr has
+
+-- The journal may be shortened then: the new snapshot or the text of a new journal has each line.
+pub folder_synced : (texts : StateTexts) (next : Option FileStep) (whole : Bool) (disk : StateDisk) (text line : List ℕ)
+    → steps_left next ≡ 3 → IsDueOn texts next disk → IsKeptOn texts next whole disk line
+    → (IsJournalled disk.journal line → HasWholeLine texts.snapshot line ⊎ HasWholeLine text line)
+    → HasOneFile (after_due texts next disk).journal × KeepsLine (after_due texts next disk) line
+    × (SnapshotsKeep (after_due texts next disk).snapshot line ⊎ HasWholeLine text line)
+folder_synced texts (Some WriteSnapshot) whole disk text line is due kept others = absurd (omega (arith, is))
+folder_synced texts (Some SyncSnapshot) whole disk text line is due kept others = absurd (omega (arith, is))
+folder_synced texts (Some ReplaceSnapshot) whole disk text line is due kept others = absurd (omega (arith, is))
+folder_synced texts (Some SyncFolder) whole disk text line is due kept others = (
+  due.0,
+  keeping_settled disk.snapshot disk.journal line kept.0,
+  settled_or_text (settled_name disk.snapshot) texts.snapshot text line
+      (settled_first disk.snapshot (kept_file texts.snapshot) due.1) (written_or_text whole texts disk text line kept.1 others),
+)
+folder_synced texts (Some BeginJournal) whole disk text line is due kept others = absurd (omega (arith, is))
+folder_synced texts (Some SyncJournal) whole disk text line is due kept others = absurd (omega (arith, is))
+folder_synced texts (Some RemoveJournal) whole disk text line is due kept others = absurd (omega (arith, is))
+folder_synced texts None whole disk text line is due kept others = absurd (omega (arith, is))
 
 -- ---- lines are appended
 

@@ -1,6 +1,7 @@
 mod LineFacts
 mod StepFacts
 mod FoldFacts
+mod ShortenFacts
 mod SaveFacts
 mod BeginFacts
 mod AppendFacts

@@ -55,7 +55,7 @@ HasOneFile _ = ⊥
 
 -- ---- the files of a state
 
--- the new snapshot, whose name nobody reads; the snapshot; and its journal
+-- the new snapshot or the new journal, whose name nobody reads; the snapshot; and its journal
 pub record StateDisk : Type 0 where
   pub new : FileText
   pub snapshot : List FileText

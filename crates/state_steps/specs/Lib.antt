@@ -1,6 +1,7 @@
 pub mod Files
 pub mod Steps
 pub mod Folds
+pub mod Shortenings
 pub mod Saves
 pub mod Begins
 pub mod Appends

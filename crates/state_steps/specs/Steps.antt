@@ -78,6 +78,6 @@ leaves_new SyncSnapshot = true
 leaves_new ReplaceSnapshot = true
 leaves_new _ = false
 
--- The new snapshot is removed.
+-- The new snapshot, or the new journal, is removed.
 abbrev pub without_new : StateDisk → StateDisk
 without_new disk = record disk { new = kept_file [] }

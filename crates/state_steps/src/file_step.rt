@@ -5,7 +5,9 @@ ghost use Rattle.state_steps.specs.Steps.{leaves_new};
 /// A step that changes the files of a state: its snapshot, and the journal of what came since.
 #[derive(Clone, Copy, Debug, PartialEq, Eq)]
 pub enum FileStep {
-    /// All that is held now is written as a snapshot to a new file, under a name that nobody reads.
+    /// All that is held when it begins is written as a snapshot to a new file, under a name that
+    /// nobody reads. Lines that are appended to the journal before it is done count as appended
+    /// after it.
     WriteSnapshot,
     /// The system puts the new file on the disk.
     SyncSnapshot,

@@ -1,8 +1,8 @@
 //! The steps of a fold, in their order.
 ghost use Rattle.std.specs.Prelude.{◌≡◌, ◌≢◌, ◌-◌, ◌≤◌, ◌↔◌, IsTrue, true, false, List, ℕ};
-ghost use Rattle.std.specs.Prelude.{None, Some};
+ghost use Rattle.std.specs.Prelude.{None, Some, [], ◌∷◌};
 ghost use Rattle.state_steps.specs.Files.{HasOneFile, HasWholeLine, IsJournalled, KeepsLine};
-ghost use Rattle.state_steps.specs.Files.{StateDisk, appended, appending};
+ghost use Rattle.state_steps.specs.Files.{StateDisk, appended, appending, kept_file};
 ghost use Rattle.state_steps.specs.Folds.{FoldKeeps, IsDueOn, IsFolded, fold_end};
 ghost use Rattle.state_steps.specs.Folds.{following_step, steps_left};
 ghost use Rattle.state_steps.specs.Steps.{FailsDue, StateTexts, WritesLine, after_due};
@@ -10,13 +10,13 @@ ghost use Rattle.state_steps.specs.declared.folding.FoldEnd.TheVariants.{Journal
 
 use crate::file_step::FileStep;
 
-/// What is to be done if a step of a fold, or of a beginning, failed.
+/// What is to be done if a step of a fold, of a shortening, or of a beginning failed.
 #[derive(Clone, Copy, Debug, PartialEq, Eq)]
 pub enum FoldEnd {
     /// The journal is as it was, and lines are appended to it as before.
     JournalContinues,
-    /// The journal was being removed or emptied: what the disk has of it is not known. Nothing may
-    /// be appended to it before a new journal is begun.
+    /// The journal was being removed, emptied or replaced: what the disk has of it is not known.
+    /// Nothing may be appended to it before a new journal is begun.
     ReplicaEnds,
 }
 
@@ -72,6 +72,9 @@ impl Folding {
     /// - `keeps`: no line is lost, if the snapshot is written with each line that is kept then.
     /// - `folded`: after the last step the journal is empty, and the snapshot is the new one.
     /// - `holds`: that has each line.
+    /// - `settled`: when the folder is on the disk, the snapshot is exactly the new one, also if
+    ///   lines came meanwhile.
+    /// - `ended`: so it is if the fold ends with this step.
     /// - `steps`: after six steps in which nothing is appended the journal is emptied.
     pub fn done(&mut self)
         ensures due { (texts : StateTexts) (disk : StateDisk) → IsDueOn texts self.old.next disk
@@ -85,6 +88,12 @@ impl Folding {
         ensures holds { (texts : StateTexts) (disk : StateDisk) (line : List ℕ)
             → steps_left self.old.next ≡ 1 → FoldKeeps texts self.old disk line
             → HasWholeLine texts.snapshot line }
+        ensures settled { (texts : StateTexts) (disk : StateDisk)
+            → steps_left self.old.next ≡ 3 → IsDueOn texts self.old.next disk
+            → (after_due texts self.old.next disk).snapshot ≡ kept_file texts.snapshot ∷ [] }
+        ensures ended { (texts : StateTexts) (disk : StateDisk)
+            → self.new.next ≡ None → self.old.next ≢ None → IsDueOn texts self.old.next disk
+            → (after_due texts self.old.next disk).snapshot ≡ kept_file texts.snapshot ∷ [] }
         ensures steps { IsTrue self.old.is_whole
             → steps_left self.new.next ≡ steps_left self.old.next - 1 }
         ensures fewer { steps_left self.new.next ≤ steps_left self.old.next - 1 }

@@ -1,6 +1,6 @@
 //! What follows from the definitions. A call that needs a law calls its function, which does
 //! nothing, and cites what it ensures.
-ghost use Rattle.std.specs.Prelude.{◌≡◌, ◌++◌, ◌⊎◌, [], Bool, Contains, false, true, List, ℕ};
+ghost use Rattle.std.specs.Prelude.{◌≡◌, ◌++◌, ◌⊎◌, [], ◌∷◌, Bool, Contains, false, true, List, ℕ};
 ghost use Rattle.byte_lines.specs.Lines.{lines_of};
 ghost use Rattle.state_steps.specs.Appends.{AppendKeeps};
 ghost use Rattle.state_steps.specs.Audits.{AuditedFiles, AuditKeeps, AuditTexts, Change};
@@ -11,10 +11,12 @@ ghost use Rattle.state_steps.specs.Carries.{CarryTexts, IsCarrySafe, IsInSave, S
 ghost use Rattle.state_steps.specs.Carries.{StopsInDue, after_save, after_start, saved_state};
 ghost use Rattle.state_steps.specs.Cuts.{AreHeld, IsCutBehind, HeldComeFirst, IsSame, lines_found};
 ghost use Rattle.state_steps.specs.Files.{FileText, HasWholeLine, IsFirstFile, KeepsLine};
-ghost use Rattle.state_steps.specs.Files.{IsFoundAt, IsLeftOf, StateDisk, text_now};
-ghost use Rattle.state_steps.specs.Folds.{FoldKeeps};
+ghost use Rattle.state_steps.specs.Files.{IsFoundAt, IsJournalled, IsLeftOf, SnapshotsKeep};
+ghost use Rattle.state_steps.specs.Files.{StateDisk, kept_file, text_now};
+ghost use Rattle.state_steps.specs.Folds.{FoldKeeps, steps_left};
 ghost use Rattle.state_steps.specs.Saves.{IsSaveDueOn, SaveKeeps, save_step};
 ghost use Rattle.state_steps.specs.Resumes.{ResumeKeeps, ResumeTexts};
+ghost use Rattle.state_steps.specs.Shortenings.{ShortensKeeps, shorten_steps_left};
 ghost use Rattle.state_steps.specs.Steps.{FailsDue, StateTexts, after_due, without_new};
 ghost use Rattle.state_steps.specs.declared.appending.Appending.{Appending};
 ghost use Rattle.state_steps.specs.declared.beginning.Beginning.{Beginning};
@@ -23,6 +25,7 @@ ghost use Rattle.state_steps.specs.declared.folding.Folding.{Folding};
 ghost use Rattle.state_steps.specs.declared.keeping.Keeping.{Keeping};
 ghost use Rattle.state_steps.specs.declared.resuming.Resuming.{Resuming};
 ghost use Rattle.state_steps.specs.declared.saving.Saving.{Saving};
+ghost use Rattle.state_steps.specs.declared.shortening.Shortening.{Shortening};
 
 /// At each step of a machine: whatever a stop leaves then, each line that was kept is a whole line
 /// of the snapshot or of the journal. While a state is carried over, it may be a line of `previous`
@@ -32,6 +35,8 @@ ghost use Rattle.state_steps.specs.declared.saving.Saving.{Saving};
 pub fn stops()
     ensures fold { (texts : StateTexts) (fold : Folding) (disk : StateDisk) (line : List ℕ)
         → FoldKeeps texts fold disk line → KeepsLine disk line }
+    ensures shorten { (text : List ℕ) (shortening : Shortening) (disk : StateDisk)
+        (line : List ℕ) → ShortensKeeps text shortening disk line → KeepsLine disk line }
     ensures save { (texts : StateTexts) (save : Saving) (disk : StateDisk) (line : List ℕ)
         → SaveKeeps texts save disk line → KeepsLine disk line }
     ensures begin { (texts : StateTexts) (begin : Beginning) (disk : StateDisk) (line : List ℕ)
@@ -50,7 +55,7 @@ pub fn stops()
         → IsCarrySafe texts found line }
 {}
 
-/// The removal of a new snapshot that never gets its name loses no line, at any time.
+/// The removal of a new snapshot or journal that never gets its name loses no line, at any time.
 pub fn removals()
     ensures { (disk : StateDisk) (line : List ℕ) → KeepsLine disk line
         → KeepsLine (without_new disk) line }
@@ -63,6 +68,25 @@ pub fn readings()
         → IsFirstFile snapshot disk.snapshot → IsFirstFile journal disk.journal
         → KeepsLine disk line
         → HasWholeLine (text_now snapshot) line ⊎ HasWholeLine (text_now journal) line }
+{}
+
+/// A journal may be shortened after a fold during which lines came.
+///
+/// - `fits`: when the snapshot that the fold wrote is on the disk under its name, each line that
+///   it or the new journal has is as [`Shortening::begin`](crate::Shortening::begin) asks.
+/// - `begins`: so after the fold has put the folder on the disk, the shortening begins with no line
+///   lost, if the new journal has each line of the journal that the snapshot lacks.
+pub fn shortenings()
+    ensures fits { (texts : StateTexts) (disk : StateDisk) (text line : List ℕ)
+        → disk.snapshot ≡ kept_file texts.snapshot ∷ []
+        → HasWholeLine texts.snapshot line ⊎ HasWholeLine text line
+        → SnapshotsKeep disk.snapshot line ⊎ HasWholeLine text line }
+    ensures begins { (texts : StateTexts) (fold : Folding) (shortening : Shortening)
+        (disk : StateDisk) (text line : List ℕ) → steps_left fold.next ≡ 3
+        → FoldKeeps texts fold disk line → shorten_steps_left shortening.next ≡ 4
+        → (IsJournalled disk.journal line
+        → HasWholeLine texts.snapshot line ⊎ HasWholeLine text line)
+        → ShortensKeeps text shortening (after_due texts fold.next disk) line }
 {}
 
 /// A start after a stop, while a state was carried over: what its rule makes of what it found.

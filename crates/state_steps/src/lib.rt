@@ -2,9 +2,9 @@
 //! that says which step comes next, and what it means that the step is done, or that it failed.
 //!
 //! `saving` is what a command does at its end, `beginning` what a running replica does first,
-//! `appending` what it does with what comes, and `folding` when its journal is long. `resuming` is
-//! what it does if it could not write the state at its beginning. A stop at any time loses no
-//! line that was on the disk.
+//! `appending` what it does with what comes, and `folding` when its journal is long. If lines came
+//! during a fold, `shortening` is what it does after it. `resuming` is what it does if it could not
+//! write the state at its beginning. A stop at any time loses no line that was on the disk.
 //!
 //! `carrying_over` is how a state gets another configuration: what was held under the old one is
 //! kept in a file next to the state.
@@ -24,6 +24,7 @@ mod keeping;
 pub mod laws;
 mod resuming;
 mod saving;
+mod shortening;
 
 pub use appending::{AppendStep, Appending};
 pub use beginning::{BeginStep, Beginning, FoundFiles};
@@ -34,3 +35,4 @@ pub use folding::{FoldEnd, Folding};
 pub use keeping::{KeepStep, Keeping};
 pub use resuming::{ResumeStep, Resuming};
 pub use saving::Saving;
+pub use shortening::{ShortenStep, Shortening};
