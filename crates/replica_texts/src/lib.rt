@@ -22,6 +22,7 @@ pub mod laws;
 mod line_bytes;
 mod number_text;
 mod scanner;
+mod snapshot_lines;
 mod snapshot_reader;
 mod snapshot_writer;
 mod sole_line;
@@ -32,6 +33,7 @@ pub use give_reader::read_give;
 pub use give_writer::write_answer;
 pub use have_reader::{next_own, read_have};
 pub use have_writer::write_have;
+pub use snapshot_lines::{first_snapshot_line, last_snapshot_line};
 pub use snapshot_reader::read_snapshot;
 pub use snapshot_writer::write_snapshot;
 pub use sole_line::{

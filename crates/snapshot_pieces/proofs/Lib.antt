@@ -1,0 +1,4 @@
+mod PlaceFacts
+mod LineFacts
+mod RisingFacts
+mod PieceFacts

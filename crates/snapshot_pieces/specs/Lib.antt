@@ -1,0 +1,3 @@
+-- What a caller cites is in `Pieces`; `Inside` has the steps of the code.
+pub mod Pieces
+pub mod Inside
