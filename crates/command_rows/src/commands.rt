@@ -13,10 +13,10 @@ use closure_core::Closure;
 use config_view::write_config_difference;
 use fed_config::Config;
 use fedbundle::{
-    Call, CommandError, CommandName, OutputForm, RunError, WordsError, is_flag_given,
-    read_output_form, read_sessions, read_status_format, read_words, run_bundle, run_bundle_pem,
-    run_distrust, run_merge, run_migrate, run_observe, run_pull, run_report, run_report_into,
-    run_report_with, run_serve, show_distrust, status, write_fault, write_served,
+    Call, CommandError, CommandName, OptionName, OutputForm, RunError, WordsError, given,
+    is_flag_given, read_output_form, read_sessions, read_status_format, read_words, run_bundle,
+    run_bundle_pem, run_distrust, run_merge, run_migrate, run_observe, run_pull, run_report,
+    run_report_into, run_report_with, run_serve, show_distrust, status, write_fault, write_served,
 };
 use jwk_set::KeyId;
 use migration::Choice;
@@ -56,6 +56,7 @@ impl Case<'_> {
 struct Asked<'a> {
     name: CommandName,
     given: &'a [Option<&'a str>],
+    is_verbose: bool,
 }
 
 /// Carries out what the arguments ask for, over the devices.
@@ -107,12 +108,18 @@ fn do_call<C: Closure>(
 ) -> Result<(), CommandError> {
     match (call.name, call.texts.as_slice()) {
         (CommandName::Canon, [Some(domain), form, ..]) => canon(case, domain, *form, devices),
-        (CommandName::Serve, [_, _, _, Some(sessions), _]) if read_sessions(sessions).is_none() => {
-            print_out(b"fedbundle: usage\n", 2, devices);
-            Ok(())
-        }
-        (name, [Some(config), given @ ..]) => {
-            do_under::<C>(case, Asked { name, given }, config, devices)
+        (CommandName::Serve, [_, _, _, Some(sessions), ..]) if read_sessions(sessions).is_none() =>
+            {
+                print_out(b"fedbundle: usage\n", 2, devices);
+                Ok(())
+            }
+        (name, [Some(config), rest @ ..]) => {
+            let asked = Asked {
+                name,
+                given: rest,
+                is_verbose: is_flag_given(given(call, OptionName::Verbose)),
+            };
+            do_under::<C>(case, asked, config, devices)
         }
         _ => Err(CommandError::Full),
     }
@@ -143,9 +150,9 @@ fn do_under_config<C: Closure>(
             compare_configs(case, config, with, *form, devices)
         }
         (CommandName::Report, [None, form, ..]) => report::<C>(case, config, *form, devices),
-        (name, [Some(state), given @ ..]) => {
+        (_, [Some(state), given @ ..]) => {
             let file = case.script.text(state);
-            do_over_file::<C>(case, Asked { name, given }, config, file, devices)
+            do_over_file::<C>(case, Asked { given, ..asked }, config, file, devices)
         }
         _ => Err(CommandError::Full),
     }
@@ -316,9 +323,15 @@ fn do_asked<C: Closure>(
             reseed_held(case, closure, *allowed, floors_of(*floors), devices)
         }
         (CommandName::Polls, [Some(now), form, ..]) => polls(case, closure, now, *form, devices),
-        (CommandName::Distrust, [Some(domain), Some(key), _public_key, flags @ ..]) => {
+        (CommandName::Distrust, [Some(domain), Some(key), _public_key, dry_run, ..]) => {
             let record = record_of(case.alloc, domain, key)?;
-            distrust(case, closure, &record, flags, devices)
+            distrust(
+                case,
+                closure,
+                &record,
+                shown_of(*dry_run, asked.is_verbose),
+                devices,
+            )
         }
         (CommandName::Serve, _) => serve(case, closure, devices),
         (CommandName::Pull, _) => {
@@ -512,20 +525,37 @@ fn distrust<C: Closure>(
     case: &Case<'_>,
     closure: &mut C,
     record: &Distrust,
-    flags: &[Option<&str>],
+    shown: ShownDistrust,
     devices: &mut Devices,
 ) -> Result<(), CommandError> {
-    if is_dry(flags) {
-        return show_distrust(case.alloc, closure, record, &mut devices.output);
-    }
-    if flags.get(3) == Some(&Some("true")) {
-        let _ = show_distrust(case.alloc, closure, record, &mut devices.errors);
+    match shown {
+        ShownDistrust::Only => {
+            return show_distrust(case.alloc, closure, record, &mut devices.output);
+        }
+        ShownDistrust::Before => {
+            let _ = show_distrust(case.alloc, closure, record, &mut devices.errors);
+        }
+        ShownDistrust::Not => {}
     }
     run_distrust(closure, &record.domain, record.key)
 }
 
-fn is_dry(flags: &[Option<&str>]) -> bool {
-    flags.first() == Some(&Some("true"))
+// Whether it is shown what a record changes.
+#[derive(Clone, Copy)]
+enum ShownDistrust {
+    Only,
+    Before,
+    Not,
+}
+
+fn shown_of(dry_run: Option<&str>, is_verbose: bool) -> ShownDistrust {
+    if is_flag_given(dry_run) {
+        ShownDistrust::Only
+    } else if is_verbose {
+        ShownDistrust::Before
+    } else {
+        ShownDistrust::Not
+    }
 }
 
 fn record_of(alloc: Global, domain: &str, key: &str) -> Result<Distrust, CommandError> {
