@@ -8,8 +8,8 @@ use replica_connections::ConnectionTable;
 use replica_core::SyncError;
 use replica_events::{ErrorStream, LogEvent, log_event};
 use state_files::{
-    AppendFault, AppendStep, AuditFile, FoldFault, Journal, KeepStep, Keeping, LostFile, StateLock,
-    begin_again, fold_state, save_snapshot,
+    AppendFault, AppendStep, AuditFile, FoldFault, FoldPiece, FoldResult, Journal, KeepStep,
+    Keeping, LostFile, StateFold, StateLock, begin_again, save_snapshot,
 };
 use std::alloc::Global;
 use std::fs::{File, Files};
@@ -43,9 +43,11 @@ pub(crate) struct KeptFiles {
     audit: Option<AuditFile>,
     // Which of the audit file and the state's files is due.
     keeping: Keeping,
-    // Whether an error came while the journal was emptied: the state file has all that is held, and
-    // no line may be appended before a journal is begun again.
+    // Whether an error came while the journal got another file: the state's files have all that is
+    // held, and no line may be appended before a journal is begun again.
     is_unsettled: bool,
+    // The new snapshot, if one is being written.
+    fold: Option<StateFold>,
     // How often the snapshot was written again.
     folds: u64,
     progress: ProgressMode,
@@ -64,6 +66,7 @@ impl KeptFiles {
             audit,
             keeping: Keeping::begin(),
             is_unsettled: false,
+            fold: None,
             folds: 0,
             progress,
         }
@@ -201,6 +204,8 @@ impl KeptFiles {
         path: &str,
         lost: LostFile,
     ) -> Result<(), FileFault> {
+        // Its file has no name any more, or is that of who has the state now.
+        self.fold = None;
         log_event(rt, alloc, errors, LogEvent::Lost(lost));
         match lost {
             LostFile::Lock => Err(lost.fault()),
@@ -228,8 +233,13 @@ impl KeptFiles {
         Ok(())
     }
 
-    /// Writes the state file again if the journal is long. If that fails, the journal is still
-    /// used, or is begun again before the next change is acknowledged.
+    /// Whether a new snapshot is being written.
+    pub(crate) fn is_folding(&self) -> bool {
+        self.fold.is_some()
+    }
+
+    /// Writes the state file again if the journal is long, one piece a call. If that fails, the
+    /// journal is still used, or is begun again before the next change is acknowledged.
     pub(crate) fn fold<C: Closure, R: Files<File = File> + Clock + Eprint>(
         &mut self,
         rt: &R,
@@ -238,33 +248,93 @@ impl KeptFiles {
         closure: &C,
         path: &str,
     ) -> Result<(), FileFault> {
+        if let Some(fold) = self.fold.take() {
+            return self.continue_fold(rt, alloc, errors, closure, path, fold);
+        }
         if self.is_unsettled || !self.journal.is_long() {
             return Ok(());
         }
-        match self.journal.lost_file(rt, &self.lock, path) {
-            Ok(None) => self.fold_journal(rt, alloc, errors, closure, path),
-            Ok(Some(lost)) => return self.mend(rt, alloc, errors, closure, path, lost),
-            Err(fault) => self.put_off(rt, alloc, errors, fault),
+        if self.has_names(rt, alloc, errors, closure, path)? {
+            match StateFold::begin(rt, alloc, closure, path, &mut self.journal) {
+                Ok(fold) => self.fold = Some(fold),
+                Err(fault) => self.put_off(rt, alloc, errors, fault),
+            }
         }
         Ok(())
     }
 
-    fn fold_journal<C: Closure, R: Files<File = File> + Clock + Eprint>(
+    // Whether the names lead to the files that this replica has. If one does not, all that is held
+    // is written again, or the replica ends; if the system does not say it, the fold is put off.
+    fn has_names<C: Closure, R: Files<File = File> + Clock + Eprint>(
         &mut self,
         rt: &R,
         alloc: Global,
         errors: &mut ErrorStream,
         closure: &C,
         path: &str,
+    ) -> Result<bool, FileFault> {
+        match self.journal.lost_file(rt, &self.lock, path) {
+            Ok(None) => return Ok(true),
+            Ok(Some(lost)) => self.mend(rt, alloc, errors, closure, path, lost)?,
+            Err(fault) => self.put_off(rt, alloc, errors, fault),
+        }
+        Ok(false)
+    }
+
+    fn continue_fold<C: Closure, R: Files<File = File> + Clock + Eprint>(
+        &mut self,
+        rt: &R,
+        alloc: Global,
+        errors: &mut ErrorStream,
+        closure: &C,
+        path: &str,
+        mut fold: StateFold,
+    ) -> Result<(), FileFault> {
+        match fold.write_piece(alloc, closure, &self.journal) {
+            Ok(FoldPiece::More) => self.fold = Some(fold),
+            Ok(FoldPiece::Last) => {
+                if self.has_names(rt, alloc, errors, closure, path)? {
+                    self.end_fold(rt, alloc, errors, closure, path, fold);
+                }
+            }
+            Err(fault) => {
+                fold.give_up(rt);
+                self.put_off(rt, alloc, errors, fault);
+            }
+        }
+        Ok(())
+    }
+
+    fn end_fold<C: Closure, R: Files<File = File> + Clock + Eprint>(
+        &mut self,
+        rt: &R,
+        alloc: Global,
+        errors: &mut ErrorStream,
+        closure: &C,
+        path: &str,
+        fold: StateFold,
     ) {
-        match fold_state(rt, alloc, closure, path, &mut self.journal, self.progress) {
-            Ok(true) => self.note_fold(rt, alloc, errors),
-            Ok(false) => self.journal.put_off(),
+        match fold.end(rt, alloc, closure, path, &mut self.journal) {
+            Ok(FoldResult::Short) => self.note_fold(rt, alloc, errors),
+            Ok(FoldResult::Long) => {
+                self.journal.put_off();
+                self.note_fold(rt, alloc, errors);
+            }
             Err(FoldFault::Kept(fault)) => self.put_off(rt, alloc, errors, fault),
             Err(FoldFault::Emptying(fault)) => {
                 self.is_unsettled = true;
                 log_event(rt, alloc, errors, LogEvent::FoldFault(fault.why));
             }
+        }
+    }
+
+    /// The replica ends: a snapshot that is being written is given up, unless another command has
+    /// the state.
+    pub(crate) fn end<R: Files>(&mut self, files: &R, path: &str) {
+        if let Some(fold) = self.fold.take()
+            && let Ok(None) = self.journal.lost_file(files, &self.lock, path)
+        {
+            fold.give_up(files);
         }
     }
 

@@ -150,7 +150,7 @@ fn run_held<C: Closure, R: Files<File = File> + Net + Clock + Print + Eprint>(
     print_ready(rt, alloc, &held.sides.next)?;
     let ended = run_turns(rt, alloc, held, &mut running, &mut events, settings);
     running.print_all(rt, alloc);
-    running.remove_sockets(rt, settings);
+    running.remove_files(rt, settings);
     ended
 }
 

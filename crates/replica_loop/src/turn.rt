@@ -149,6 +149,9 @@ impl RunningReplica {
     }
 
     fn time_left(&self) -> Duration {
+        if self.files.is_folding() {
+            return Duration::ZERO;
+        }
         let most = Duration::from_secs(MAX_WAIT_SECONDS);
         let table = self.table.time_left(self.now).unwrap_or(most);
         let listeners = self.listeners.time_left(self.now).unwrap_or(most);
@@ -429,7 +432,7 @@ impl RunningReplica {
         self.events.print_out(rt, alloc, &mut self.errors, self.now);
     }
 
-    /// Writes the state file again if its journal is long.
+    /// Writes the state file again if its journal is long, one piece a turn.
     pub(crate) fn fold<C: Closure, R: Files<File = File> + Clock + Eprint>(
         &mut self,
         rt: &R,
@@ -464,8 +467,10 @@ impl RunningReplica {
         self.errors.say_lost(rt, alloc);
     }
 
-    /// Removes the sockets' files, if they are still those of this replica.
-    pub(crate) fn remove_sockets<R: Files>(&self, rt: &R, settings: &Settings<'_, '_>) {
+    /// Removes a snapshot that is not written whole, and the sockets' files if they are still those
+    /// of this replica.
+    pub(crate) fn remove_files<R: Files>(&mut self, rt: &R, settings: &Settings<'_, '_>) {
+        self.files.end(rt, settings.state);
         self.listeners.remove_sockets(rt, &settings.places());
     }
 

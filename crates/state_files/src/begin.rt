@@ -166,7 +166,7 @@ impl StateBeginning {
         }
         let is_done = self.beginning.is_done();
         let state = self.state(files, path)?;
-        match self.made.into_journal() {
+        match self.made.take_journal() {
             Some(file) if is_done => Journal::of_file(alloc, file, state, path),
             _ => Err(FileFault::from(SyncError::Io)),
         }

@@ -14,6 +14,10 @@ use std::io::Write;
 /// the snapshot's.
 const LONG_JOURNAL: u64 = 8_388_608;
 
+/// A journal is shortened to what came while the snapshot was written, if that has at most this
+/// many bytes, or a quarter of those of both files if that is more. Else it is folded again later.
+const LEAST_SINCE: u64 = 16_777_216;
+
 /// The system's number for a file that was replaced (`ESTALE`).
 const STALE_FILE: i32 = 116;
 
@@ -65,6 +69,12 @@ pub struct Journal {
     snapshot_bytes: u64,
     // How long it is when it is folded next, if folding it was refused before.
     fold_at: u64,
+    // How long it was when the fold under way began.
+    bytes_at_fold: u64,
+    // What was appended since then, if that is not too long.
+    since: Option<Vec<u8>>,
+    // How many bytes that may have.
+    most_since: u64,
 }
 
 impl Journal {
@@ -84,19 +94,43 @@ impl Journal {
             state,
             snapshot_bytes,
             fold_at: LONG_JOURNAL.max(snapshot_bytes / 2),
+            bytes_at_fold: 0,
+            since: None,
+            most_since: 0,
         })
     }
 
     /// The state file was replaced by this one, which was written here.
     pub(crate) fn see(&mut self, state: File) {
         self.state = SeenState::of_file(state);
+        if let Ok(bytes) = self.state.bytes() {
+            self.snapshot_bytes = bytes;
+        }
     }
 
-    /// It was emptied: it continues in this file.
+    /// A fold begins: what is appended from now on is kept in memory too.
+    pub(crate) fn begin_fold(&mut self, alloc: Global) {
+        self.bytes_at_fold = self.bytes;
+        self.most_since = LEAST_SINCE.max(self.snapshot_bytes / 4 + self.bytes / 4);
+        self.since = Some(Vec::new(alloc));
+    }
+
+    /// Whether lines were appended since the fold began.
+    pub(crate) fn has_since(&self) -> bool {
+        self.bytes > self.bytes_at_fold
+    }
+
+    /// What was appended since the fold began, once; none if it was too long.
+    pub(crate) fn take_since(&mut self) -> Option<Vec<u8>> {
+        self.since.take()
+    }
+
+    /// It has another file now, which has what came since the fold began: it continues in this one.
     pub(crate) fn begin_with(&mut self, file: File) -> Result<(), FileFault> {
         self.snapshot_bytes = self.state.bytes()?;
         self.bytes = file.metadata()?.len();
         self.file = file;
+        self.since = None;
         self.appending = Appending::begin();
         self.fold_at = LONG_JOURNAL.max(self.snapshot_bytes / 2);
         Ok(())
@@ -123,12 +157,26 @@ impl Journal {
             Ok(()) => {
                 self.appending.done();
                 self.bytes = self.bytes.saturating_add(lines.len() as u64);
+                self.note_since(lines);
                 Ok(())
             }
             Err(error) => {
                 self.appending.failed();
                 Err(FileFault::from(error))
             }
+        }
+    }
+
+    fn note_since(&mut self, lines: &[u8]) {
+        let is_noted = match &mut self.since {
+            Some(since) => {
+                self.bytes.saturating_sub(self.bytes_at_fold) <= self.most_since
+                    && since.extend_from_slice(lines).is_ok()
+            }
+            None => false,
+        };
+        if !is_noted {
+            self.since = None;
         }
     }
 
@@ -218,9 +266,10 @@ impl Journal {
         self.bytes > self.fold_at
     }
 
-    /// It could not be folded: it is tried again when the journal is longer by the bytes of a long
-    /// one.
+    /// It could not be folded, or got too much meanwhile: it is tried again when the journal is
+    /// longer by the bytes of a long one.
     pub fn put_off(&mut self) {
+        self.since = None;
         self.fold_at = self.bytes.saturating_add(LONG_JOURNAL);
     }
 

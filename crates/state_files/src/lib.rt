@@ -8,7 +8,8 @@
 //!
 //! `lock` is the lock, `state` the state file, and `journal` the journal to which lines are
 //! appended. `load` reads both, `save` writes what is held and removes the journal, `begin` is what
-//! a replica that keeps running does first, and `fold` what it does when its journal is long.
+//! a replica that keeps running does first, and `fold` what it does, in pieces, when its journal is
+//! long.
 //! Between two configurations it begins with `begun_sides`, `carry_over` makes the state one of the
 //! next configuration, and `previous_state` is the file that keeps what the previous one held.
 //! `made_files` does the steps of a save, a beginning and a fold; a file that it makes is a
@@ -40,7 +41,7 @@ pub use audit::AuditFile;
 pub use begin::{StateBeginning, begin_again};
 pub use begun_sides::{BegunSides, GivenConfigs};
 pub use file_names::{has_journal, journal_path};
-pub use fold::{FoldFault, fold_state};
+pub use fold::{FoldFault, FoldPiece, FoldResult, StateFold};
 pub use journal::{AppendFault, Journal, LostFile};
 pub use load::load_state;
 pub use lock::{StateLock, is_marked, try_lock_state};

@@ -6,8 +6,9 @@ use closure_core::Closure;
 use command_exits::FileFault;
 use fed_config::Config;
 use progress_line::ProgressMode;
+use replica_core::SyncError;
 use replica_journal::begin_journal;
-use state_steps::FileStep;
+use state_steps::{FileStep, ShortenStep};
 use std::alloc::{AllocError, Global};
 use std::fs;
 use std::fs::{File, Files};
@@ -45,14 +46,40 @@ impl MadeFiles {
         })
     }
 
+    /// The same for a fold, which says nothing of how far its writing is.
+    pub(crate) fn of_fold(alloc: Global, path: &str) -> Result<MadeFiles, AllocError> {
+        MadeFiles::new(alloc, path, ProgressMode::Silent)
+    }
+
     /// The snapshot that has its name now, once.
     pub(crate) fn take_snapshot(&mut self) -> Option<File> {
         self.snapshot.take()
     }
 
-    /// The journal that was begun.
-    pub(crate) fn into_journal(self) -> Option<File> {
-        self.journal
+    /// The journal that was begun, once.
+    pub(crate) fn take_journal(&mut self) -> Option<File> {
+        self.journal.take()
+    }
+
+    /// Makes the file that gets the new snapshot piece by piece.
+    pub(crate) fn begin_snapshot<R: Files<File = File>>(
+        &mut self,
+        files: &R,
+        path: &str,
+    ) -> Result<(), FileFault> {
+        self.new = Some(create_new(files, self.new_name.as_str(), path)?);
+        Ok(())
+    }
+
+    /// Appends a piece to it, and has the system put that on the disk.
+    pub(crate) fn write_piece(&mut self, piece: &[u8]) -> Result<(), FileFault> {
+        match &mut self.new {
+            Some(file) => {
+                file.write_all(piece)?;
+                Ok(file.sync_data()?)
+            }
+            None => Err(FileFault::from(SyncError::Io)),
+        }
     }
 
     /// Does the step to the files of the state file at the path. If it fails, no new snapshot is
@@ -111,9 +138,55 @@ impl MadeFiles {
         write_closure(files, alloc, closure, file, self.mode)
     }
 
-    // Removes the new snapshot that was made here. If it is still there afterwards, no harm is
-    // done: nobody reads it, and the next one takes its place.
-    fn remove_new<R: Files>(&mut self, files: &R) {
+    /// Does the step to the journal of the state file at the path. It is replaced by one that has
+    /// its first line and these lines. If it fails before that, no new file is left.
+    pub(crate) fn shorten<R: Files<File = File>>(
+        &mut self,
+        files: &R,
+        alloc: Global,
+        config: &Config,
+        lines: &[u8],
+        path: &str,
+        step: ShortenStep,
+    ) -> Result<(), FileFault> {
+        let done = match step {
+            ShortenStep::WriteJournal => self.write_journal(files, alloc, config, lines, path),
+            ShortenStep::SyncNew => sync_file(&self.new),
+            ShortenStep::ReplaceJournal => self.replace_journal(files),
+            ShortenStep::SyncFolder => sync_folder(files, path),
+        };
+        if done.is_err() {
+            self.remove_new(files);
+        }
+        done
+    }
+
+    fn write_journal<R: Files<File = File>>(
+        &mut self,
+        files: &R,
+        alloc: Global,
+        config: &Config,
+        lines: &[u8],
+        path: &str,
+    ) -> Result<(), FileFault> {
+        let mut first = Vec::new(alloc);
+        begin_journal(alloc, config, &mut first)?;
+        let file = self
+            .new
+            .insert(create_new(files, self.new_name.as_str(), path)?);
+        file.write_all(first.as_slice())?;
+        Ok(file.write_all(lines)?)
+    }
+
+    fn replace_journal<R: Files>(&mut self, files: &R) -> Result<(), FileFault> {
+        fs::rename(files, self.new_name.as_str(), self.journal_name.as_str())?;
+        self.journal = self.new.take();
+        Ok(())
+    }
+
+    /// Removes the new file that was made here. If it is still there afterwards, no harm is done:
+    /// nobody reads it, and the next one takes its place.
+    pub(crate) fn remove_new<R: Files>(&mut self, files: &R) {
         if self.new.take().is_some() {
             let _ = fs::remove_file(files, self.new_name.as_str());
         }
