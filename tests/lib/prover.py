@@ -56,15 +56,22 @@ class Prover:
 
     def check(self, name, texts, kept):
         """The status and the output of a check of the crate with these texts, over a folder of kept work."""
-        crate = self.crates[name]
+        return self.run(name, texts, "--incremental", str(kept))
+
+    def look(self, name, texts):
+        """What is said of the crate with these texts before any proof."""
+        return self.run(name, texts, "--only", "")[1]
+
+    def run(self, name, texts, *more):
+        folder = self.crates[name].folder
         with tempfile.TemporaryDirectory() as room:
             for part in self.rtlib.PARTS:
-                if os.path.isdir(f"{crate.folder}/{part}"):
-                    shutil.copytree(f"{crate.folder}/{part}", f"{room}/{part}")
+                if os.path.isdir(f"{folder}/{part}"):
+                    shutil.copytree(f"{folder}/{part}", f"{room}/{part}")
             for file, text in texts.items():
                 Path(room, file).write_text(text)
             ran = subprocess.run(
-                [*self.words(name), "--incremental", str(kept)], cwd=room, stdin=subprocess.DEVNULL,
-                stdout=subprocess.PIPE, stderr=subprocess.STDOUT, text=True, errors="replace",
+                [*self.words(name), *more], cwd=room, stdin=subprocess.DEVNULL, stdout=subprocess.PIPE,
+                stderr=subprocess.STDOUT, text=True, errors="replace",
             )
         return ran.returncode, ran.stdout
