@@ -7,13 +7,13 @@ such edits, at most one of each function. An edit that changes more than bodies 
 What is proved of the crate as it is, is kept in a folder, and each wave begins from a copy of that folder. So it proves again
 only the functions that it changes.
 """
-import os
 import re
 import shutil
 from dataclasses import dataclass
 from pathlib import Path
 
 import ledger
+from prover import link_or_copy
 
 # What the prover says of a goal that it did not prove, and where it stands in the sources; of a line that is wrong in a file of
 # proofs; of a file of proofs that names what an edit took away; and of a search that was not finished.
@@ -126,12 +126,12 @@ def in_waves(edits):
     waves = []
     for edit in edits:
         names = {(it.file, it.name) for it in edit.functions or []}
-        wave = next((it for it, taken in waves if names and taken and not names & taken), None)
-        if wave is None:
+        found = next(((wave, taken) for wave, taken in waves if names and taken and not names & taken), None)
+        if not found:
             waves.append(([edit], names))
             continue
-        wave.append(edit)
-        next(taken for it, taken in waves if it is wave).update(names)
+        found[0].append(edit)
+        found[1].update(names)
     return [wave for wave, _ in waves]
 
 
@@ -155,7 +155,9 @@ class Waves:
         """Proves the crate as it is, over what an earlier check kept. Returns what the prover says if it does not."""
         kept = self.folder / "out/incremental"
         if kept.is_dir():
-            shutil.copytree(kept, self.base, copy_function=os.link)
+            shutil.copytree(kept, self.base, copy_function=link_or_copy)
+        else:
+            self.base.mkdir()
         status, said = self.prover.check(self.crate, {}, self.base)
         return said if status else None
 
@@ -175,7 +177,7 @@ class Waves:
         kept, texts = self.room / "kept", self.texts(wave)
         if texts is None:
             return {edit.name(): None for edit in wave}, "their old texts stand there more than once"
-        shutil.copytree(self.base, kept, copy_function=os.link)
+        shutil.copytree(self.base, kept, copy_function=link_or_copy)
         status, said = self.prover.check(self.crate, texts, kept)
         shutil.rmtree(kept)
         if not VERDICT.search(said) or len(wave) > 1 and NO_CODE.search(said):
