@@ -1,4 +1,4 @@
-# Completions of fedbundle for bash. Made by tools/manual.
+# Completions of fedbundle for bash. Made by tools/manual.py.
 _fedbundle() {
     local word=${COMP_WORDS[COMP_CWORD]} before=${COMP_WORDS[COMP_CWORD - 1]} words
     COMPREPLY=()

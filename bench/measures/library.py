@@ -5,7 +5,7 @@ the same in its own process. The command is run whole: its start, reading the in
 three have to write the same report.
 
 arguments: [RUNS [SIZE..]]      RUNS is the number of runs of each program on each stream, 5 if left out; the sizes are 4096 and
-                            16384 receipts, if none is given. $FEDBUNDLE_PREFIX has what tools/library made, which else is
+                            16384 receipts, if none is given. $FEDBUNDLE_PREFIX has what tools/library.sh made, which else is
                             made below bench/out.
 """
 import os
@@ -26,8 +26,8 @@ def built_library():
     prefix = os.environ.get("FEDBUNDLE_PREFIX")
     if not prefix:
         prefix = OUT / "library"
-        if subprocess.run([TOP / "tools/library", prefix]).returncode:
-            stop("tools/library fails")
+        if subprocess.run([TOP / "tools/library.sh", prefix]).returncode:
+            stop("tools/library.sh fails")
     return Path(prefix)
 
 

@@ -1,4 +1,4 @@
-"""The module over the examples. tests/library runs it."""
+"""The module over the examples. tests/library.py runs it."""
 import threading
 import unittest
 from pathlib import Path

@@ -1,4 +1,4 @@
-"""The client against servers of its own, which reply what they are given. tests/clients runs it."""
+"""The client against servers of its own, which reply what they are given. tests/clients.py runs it."""
 import hashlib
 import json
 import socket

@@ -317,7 +317,7 @@ NAMED_ROWS = {
 
 def worked_runs():
     """The rows of crates/command_rows that are for the program, by their lines, and some of them by name."""
-    loader = SourceFileLoader("rows", str(TOP / "tests/rows/check"))
+    loader = SourceFileLoader("rows", str(TOP / "tests/rows/check.py"))
     rows = module_from_spec(spec_from_loader("rows", loader))
     loader.exec_module(rows)
     script = rows.Script(rows.lines_of(rows.CRATE / "stdin"))

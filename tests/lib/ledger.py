@@ -20,7 +20,7 @@ VERDICTS = [REFUSED, BY_NAME, BY_LIMIT, PROVED]
 PARTS = ["src", "specs", "proofs"]
 HEAD = """\
 # Wrong bodies that were tried, a line each: crate, edit, digest of what its verdict rests on, logic of the kit, day, verdict,
-# sum of the line. `tests/edits --due` writes it, and nobody else.
+# sum of the line. `tests/edits.py --due` writes it, and nobody else.
 """
 FUNCTION = re.compile(r"( *)(pub )?(?:pub\(\w+\) )?(?:const |unsafe |extern \S+ )*fn \w")
 CLAUSE = re.compile(r" *(ensures|requires|ghost|where)\b")
@@ -54,7 +54,7 @@ def read(path):
             continue
         line = Line(*words[:5], words[5].replace("_", " ")) if len(words) == 7 else None
         if not line or line.text() != text or line.verdict not in VERDICTS:
-            faults.append(f"{path.name}:{number}: the line was not written by tests/edits --due: {text[:80]}")
+            faults.append(f"{path.name}:{number}: the line was not written by tests/edits.py --due: {text[:80]}")
         elif (line.crate, line.edit) in lines:
             faults.append(f"{path.name}:{number}: {line.crate}/{line.edit} has two lines")
         else:

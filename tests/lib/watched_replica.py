@@ -1,4 +1,4 @@
-"""A running replica with an address of health, for tests/health and tools/page-picture."""
+"""A running replica with an address of health, for tests/health.py and tools/page-picture.py."""
 import json
 import re
 import subprocess

@@ -2,7 +2,7 @@
 //
 // A line is a JSON object: the call, the socket, the most seconds, and the arguments. What is printed is an object with
 // the answer, or with the code, the text and the status of a refusal. Bytes are in base64. Python has such a program, too,
-// and tests/clients compares them.
+// and tests/clients.py compares them.
 package main
 
 import (

@@ -1,7 +1,7 @@
 //! Makes the calls that it reads, one a line, and prints what came of each.
 //!
 //! A line has the call, the replica (a number from 0), and the texts in hexadecimal: `-` is an empty one, and `$` the text
-//! that was printed last. So two replicas can talk. Each language has such a program, and tests/library compares them.
+//! that was printed last. So two replicas can talk. Each language has such a program, and tests/library.py compares them.
 use fedbundle::{canon, report, Refused, Replica, Taken};
 use std::collections::HashMap;
 use std::io::stdin;

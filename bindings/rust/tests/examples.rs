@@ -1,4 +1,4 @@
-//! The crate over the examples. tests/library runs it.
+//! The crate over the examples. tests/library.py runs it.
 use fedbundle::{canon, report, Refused, Replica, Taken};
 use std::fs;
 use std::path::Path;

@@ -9,7 +9,7 @@ it prints what it has to. An `ini` block is a drop-in of fedbundle-replica.servi
 followed, and each runbook of the page has to be played.
 
 A machine is a copy of this one whose changes are thrown away, with the programs and units of deploy/. tests/lib/systemctl
-stands in for systemd, a script for a SPIRE server, and the TLS server of tests/fetch for the foreign domain. All have a
+stands in for systemd, a script for a SPIRE server, and the TLS server of tests/fetch.py for the foreign domain. All have a
 network of their own.
 
 It needs root, mounts, overlayfs, python3 and what TOOLS names; if one is missing, it is left out, with a line. The

@@ -1,7 +1,7 @@
 #!/usr/bin/env python3
 """Runs replicas with an address of health, and looks at what is served there, as clients, Prometheus and a browser see it.
 
-- texts: tools/page wrote the page's files into the program, and they use nothing that puts texts in as HTML; each kind of
+- texts: tools/page.py wrote the page's files into the program, and they use nothing that puts texts in as HTML; each kind of
   warning has an alert and words on the page, and each metric that a rule or the dashboard names is one that is served.
 - rules: promtool reads the rules, raises each alert in the cases of prometheus-rules.test.yml, and in others does not.
 - paths: each path by curl, against what the command prints at the same time: GET and HEAD, status, fields, length. /ready of a
@@ -536,7 +536,7 @@ def look_at_panels():
 
 
 def look_at_texts(scene, room):
-    ran = subprocess.run([TOP / "tools/page", "--check"], capture_output=True, text=True)
+    ran = subprocess.run([TOP / "tools/page.py", "--check"], capture_output=True, text=True)
     check(ran.returncode == 0, "the program's texts of the page are those of web/", ran.stderr)
     script = (TOP / "web/page.js").read_text()
     found = re.findall(r"innerHTML|outerHTML|insertAdjacent|document\.write|\beval\b|new Function|setTimeout\(['\"`]", script)

@@ -2,7 +2,7 @@
 """Follows "The first day" of docs/OPERATING.md: from two empty machines to two replicas that agree.
 
 A machine is a copy of this one, in which all changes are thrown away: an overlay over its root, and a change of root. Both
-have one network, so the second reaches the first over loopback. The foreign domain is a TLS server of tests/fetch. The
+have one network, so the second reaches the first over loopback. The foreign domain is a TLS server of tests/fetch.py. The
 commands are those of the page, block by block, and are counted. The first ones make and install the package.
 
 It needs root, Linux with overlayfs, Debian 12 with dpkg-deb, apt-get and systemd, python3 and openssl. The program is the
@@ -26,8 +26,8 @@ PAGE = TOP / "docs/OPERATING.md"
 
 
 def fetch_tests():
-    """The servers and certificates of tests/fetch."""
-    loader = importlib.machinery.SourceFileLoader("fetch_tests", str(TOP / "tests/fetch"))
+    """The servers and certificates of tests/fetch.py."""
+    loader = importlib.machinery.SourceFileLoader("fetch_tests", str(TOP / "tests/fetch.py"))
     made = importlib.util.module_from_spec(importlib.util.spec_from_loader("fetch_tests", loader))
     sys.modules["fetch_tests"] = made
     loader.exec_module(made)

@@ -3,7 +3,7 @@
 
 For each function with a contract that no edit changes (crates/*/edits, crates/*/must-fail), one line of its body is changed:
 another number or text, another comparison, `and` for `or`, a statement left out. Which line and which change, a seed
-decides. A change that is no code is left out. The others are tried as tests/edits tries its own (tests/lib/waves.py), over the
+decides. A change that is no code is left out. The others are tried as tests/edits.py tries its own (tests/lib/waves.py), over the
 crates below as `rt check` left them here. Change no source meanwhile.
 
 What is accepted is no fault by itself: a change may keep the meaning, or be in code on whose result no promise depends, such

@@ -16,9 +16,9 @@ MANIFEST has a line for each of these:
 The digest of sources (D-393) is the SHA-256 of lines as sha256sum writes them, one for HANDLES, for crates.txt, and for each file
 in src/, specs/ and proofs/ of the crates, in the order of the paths' bytes.
 
-usage: release                        the programs that `./fedbundle --prove` builds, and the library that tools/library builds
+usage: release                        the programs that `./fedbundle --prove` builds, and the library that tools/library.sh builds
        release PROGRAM V3 LIBRARY     programs for x86-64-v2 and x86-64-v3 that were proved and built of these sources, and a
-                                      folder that tools/library made; tests/release compares the first program with the one
+                                      folder that tools/library.sh made; tests/release.py compares the first program with the one
                                       that the gate built
 """
 import hashlib
@@ -188,7 +188,7 @@ def built(room):
         if ended.returncode not in (0, 3):
             stop(f"nothing is released, as no program was proved and built for {level}")
         shutil.copy2(TOP / "crates" / PROGRAM / "out/fedbundle", program)
-    if subprocess.run([TOP / "tools/library", room / "library"]).returncode:
+    if subprocess.run([TOP / "tools/library.sh", room / "library"]).returncode:
         stop("nothing is released, as the library was not built")
     return programs, room / "library"
 

@@ -1,10 +1,10 @@
 #!/usr/bin/env python3
 """Draws a graph that `fedbundle graph` printed, without Graphviz:
-`fedbundle graph --config CONFIG --state STATE | tools/picture > docs/trust-flow.svg`.
+`fedbundle graph --config CONFIG --state STATE | tools/picture.py > docs/trust-flow.svg`.
 
 Each box is a bundle, each arrow a receipt: the bundle at its tail vouches, by the key on it, for the bundle at its head.
 The picture of docs/TOUR.md is drawn of docs/trust-flow.dot, which is the graph of a state with the receipts of examples/:
-`tools/picture <docs/trust-flow.dot >docs/trust-flow.svg`. tests/views compares that graph with what the program prints.
+`tools/picture.py <docs/trust-flow.dot >docs/trust-flow.svg`. tests/views.py compares that graph with what the program prints.
 """
 import re
 import sys

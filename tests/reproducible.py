@@ -3,7 +3,7 @@
 
 Each build has a folder of its own: one with a short name, with one lane, and one with a long name that has spaces, with four
 lanes and, if user namespaces are allowed, by another user. What was proved is taken over from out/ of the crates, in which
-`./fedbundle --prove` and tools/library left it, so each build compiles and links, and proves nothing again. If dist/ is the
+`./fedbundle --prove` and tools/library.sh left it, so each build compiles and links, and proves nothing again. If dist/ is the
 release of these sources, all are compared with what it has too.
 
 usage: reproducible      the status is 1 if bytes differ or a build fails
@@ -66,7 +66,7 @@ def built(room, lanes, user):
     crate = room / "crates" / PROGRAM
     if call([*user, "rt", "run", "--jobs", lanes, "--cpu", "x86-64-v2", "--", "--version"], crate):
         made["fedbundle"] = crate / "out" / PROGRAM
-    if call([*user, room / "tools/library", room / "prefix"], room):
+    if call([*user, room / "tools/library.sh", room / "prefix"], room):
         made.update({name: room / "prefix/lib" / name for name in ("libfedbundle.a", "libfedbundle.so.0")})
     return {name: hashlib.sha256(path.read_bytes()).hexdigest() for name, path in made.items()}
 
@@ -85,7 +85,7 @@ def main():
     crates = sorted({*release.crates_of(PROGRAM), *release.crates_of(LIBRARY)})
     lacking = [crate for crate in crates if not (TOP / "crates" / crate / "out/rlib").is_dir() and crate not in (PROGRAM, LIBRARY)]
     if lacking:
-        sys.exit(f"reproducible: not proved yet: {' '.join(lacking)}: run ./fedbundle --prove and tools/library first")
+        sys.exit(f"reproducible: not proved yet: {' '.join(lacking)}: run ./fedbundle --prove and tools/library.sh first")
     user = OTHER_USER if call([*OTHER_USER, "true"], TOP) else []
     with tempfile.TemporaryDirectory(dir=TOP / ".git") as folder:
         rooms = [(Path(folder) / "a", 1, []), (Path(folder) / ("a folder with a long name " * 4).strip(), 4, user)]

@@ -163,7 +163,7 @@ class Case:
 
 def without_reasons(complaints):
     """The lines without those after an error's line that say why: the rows are those of the library, which has
-    none. tests/system/mistakes compares these."""
+    none. tests/system/mistakes.py compares these."""
     return b"".join(line for line in complaints.splitlines(keepends=True) if not line.startswith(b"  "))
 
 

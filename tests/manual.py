@@ -2,7 +2,7 @@
 """Checks the manual page, the completions, what `--version` says (D-196), and `./fedbundle --install`.
 
 The subcommands and options that they should have are taken from crates/command_line/specs/Words.antt, which the prover holds
-the program to; tools/manual makes them from other files. If there is no man or no zsh, what needs it is left out, and said.
+the program to; tools/manual.py makes them from other files. If there is no man or no zsh, what needs it is left out, and said.
 
 usage: manual         the exit status is 1 if something was reported
 """
@@ -83,7 +83,7 @@ def check_version():
     helps = (TOP / "crates/command_line/src/help_texts.rt").read_text()
     text = re.search(r'const VERSION: &str = "\\\n(.*?)";', helps, re.S).group(1)
     version, kit, *formats = text.split("\n")
-    check(f'VERSION = "{version}"' in (TOP / "tools/manual").read_text(), "--version: it is that of the manual page")
+    check(f'VERSION = "{version}"' in (TOP / "tools/manual.py").read_text(), "--version: it is that of the manual page")
     replica = (TOP / "crates/fedbundle_cli/src/replica_settings.rt").read_text()
     check("version: first_line(VERSION)," in replica, "--version: it is that of the metrics of a replica")
     used = f"kit {run('rt', 'version').stdout.strip()}"
@@ -125,8 +125,8 @@ def check_install():
 
 def main():
     commands = defined()
-    made = run(str(TOP / "tools/manual"), "--check")
-    check(made.returncode == 0, f"the files are those that tools/manual makes {made.stdout.strip()}".strip())
+    made = run(str(TOP / "tools/manual.py"), "--check")
+    check(made.returncode == 0, f"the files are those that tools/manual.py makes {made.stdout.strip()}".strip())
     check_bash(commands)
     check_zsh(commands)
     check_manual(commands)

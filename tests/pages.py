@@ -8,8 +8,8 @@ clause after a function's name in the contract of a function of that name. The c
 crates/library_examples (D-213) and of bindings/, and the code that the README of a binding shows is that of a file next to it;
 that in C is what cc takes with the header. The contracts that LIBRARY quotes are those of the sources, whole, and each of their
 terms has a row with its file. The table at the head of docs/OPERATING.md has a row for each part of the page. Each law that a
-page names is in a crate. docs/trust-flow.svg is what tools/picture draws of docs/trust-flow.dot, and docs/site.svg what
-tools/site-picture draws. Each decision has a number of its own, and each number that the repository cites is that of a
+page names is in a crate. docs/trust-flow.svg is what tools/picture.py draws of docs/trust-flow.dot, and docs/site.svg what
+tools/site-picture.py draws. Each decision has a number of its own, and each number that the repository cites is that of a
 decision. Two pages never have figures of the same work over the same number of receipts, records or bytes.
 
 Some words make a text hard to read for those whose first language is another. For each it prints how many uses are left on all
@@ -294,7 +294,7 @@ def faults_of_c():
 def faults_of_pictures():
     """The pictures that are not those that their scripts draw."""
     graph = (TOP / "docs/trust-flow.dot").read_text()
-    for picture, script in [("docs/trust-flow.svg", "tools/picture"), ("docs/site.svg", "tools/site-picture")]:
+    for picture, script in [("docs/trust-flow.svg", "tools/picture.py"), ("docs/site.svg", "tools/site-picture.py")]:
         drawn = subprocess.run([TOP / script], input=graph, capture_output=True, text=True, check=True).stdout
         if drawn != (TOP / picture).read_text():
             yield f"{picture}: the picture that {script} draws is not there"
@@ -367,8 +367,10 @@ def main():
     words, clauses, faults = names_of_code(), clauses_of_code(), []
     for page in pages():
         text = page.read_text()
-        missing = list(missing_links(page, text)) + list(missing_paths(text))
-        missing += list(missing_laws(text)) if page.name != "CHANGELOG.md" else []
+        missing = list(missing_links(page, text))
+        # What the history of releases names may be gone.
+        if page.name != "CHANGELOG.md":
+            missing += [*missing_paths(text), *missing_laws(text)]
         if page.name == "GUARANTEES.md":
             missing += list(missing_contracts(text, words)) + list(missing_clauses(text, clauses))
         missing += missing_code_of(page, text)

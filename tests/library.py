@@ -14,7 +14,7 @@
 
 It needs rt, cc, binutils and python3. What go, cargo or valgrind would do is left out with a note if one is not there.
 
-usage: library [PREFIX]    PREFIX has what tools/library made, which else is made first; the status is 1 if something fails
+usage: library [PREFIX]    PREFIX has what tools/library.sh made, which else is made first; the status is 1 if something fails
 """
 import os
 import re
@@ -97,7 +97,7 @@ def check_names(prefix):
 # ---- rows
 
 def rows_of_commands():
-    loader = SourceFileLoader("rows", str(TOP / "tests/rows/check"))
+    loader = SourceFileLoader("rows", str(TOP / "tests/rows/check.py"))
     rows = module_from_spec(spec_from_loader("rows", loader))
     loader.exec_module(rows)
     script = rows.Script(rows.lines_of(rows.CRATE / "stdin"))
@@ -387,8 +387,8 @@ def main():
     with tempfile.TemporaryDirectory(prefix="fedbundle-") as name:
         folder = Path(name)
         prefix = Path(sys.argv[1]).resolve() if len(sys.argv) > 1 else folder / "prefix"
-        if len(sys.argv) == 1 and run([TOP / "tools/library", prefix]).returncode:
-            sys.exit("library: tools/library fails")
+        if len(sys.argv) == 1 and run([TOP / "tools/library.sh", prefix]).returncode:
+            sys.exit("library: tools/library.sh fails")
         check_names(prefix)
         program = built_c(prefix, folder)
         rows = list(rows_of_commands())

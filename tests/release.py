@@ -39,8 +39,8 @@ def check(is_so, what):
 
 
 def tool_of(top):
-    """tools/release, with its functions over that tree."""
-    loader = SourceFileLoader("release", str(TOP / "tools/release"))
+    """tools/release.py, with its functions over that tree."""
+    loader = SourceFileLoader("release", str(TOP / "tools/release.py"))
     module = module_from_spec(spec_from_loader("release", loader))
     loader.exec_module(module)
     module.TOP, module.DIST = top, top / "dist"
@@ -92,7 +92,7 @@ def faults_of_sources(tool, said):
         wanted[f"{kind}sources"], wanted[f"{kind}crates"] = tool.digest_of(names), " ".join(names)
     for key, value in wanted.items():
         if said.get(key) != value:
-            yield f"the line {key} of MANIFEST is not that of the sources: run tools/release"
+            yield f"the line {key} of MANIFEST is not that of the sources: run tools/release.py"
 
 
 def faults_of_archive(tool, listed):

@@ -1,5 +1,5 @@
 #!/usr/bin/env python3
-"""Makes the container image by tools/image, and runs it.
+"""Makes the container image by tools/image.py, and runs it.
 
 - made: two runs over the same packages of Debian give the same bytes. The layout is what its digests say. The configuration
   has a user that is not root, tini as the entry, SIGTERM and labels. The image has no shell, and no program that gains rights.
@@ -63,7 +63,7 @@ def module_of(path):
 
 def archive_now(folder):
     """The archive of dist/ with the plain files as they are here: the deploy programs may be newer."""
-    release, package = module_of(TOP / "tools/release"), module_of(TOP / "tools/package")
+    release, package = module_of(TOP / "tools/release.py"), module_of(TOP / "tools/package.py")
     files, _ = package.read_archive(package.ARCHIVE)
     folder.mkdir()
     path = folder / package.ARCHIVE.name
@@ -78,7 +78,7 @@ def packages(room):
         return Path(named)
     folder = room / "debs"
     folder.mkdir()
-    ran = subprocess.run(["apt-get", "download", "-qq", *module_of(TOP / "tools/image").PACKAGES], cwd=folder, capture_output=True)
+    ran = subprocess.run(["apt-get", "download", "-qq", *module_of(TOP / "tools/image.py").PACKAGES], cwd=folder, capture_output=True)
     if ran.returncode:
         raise Lacking(f"apt-get downloads no packages: {ran.stderr.decode().strip()[:200]}")
     return folder
@@ -96,10 +96,10 @@ class Image:
         self.root = self.unpack()
 
     def make(self, name, words=(), **environment):
-        ran = subprocess.run([*words, TOP / "tools/image", self.room / name, "--debs", self.debs, "--archive", self.archive], capture_output=True,
+        ran = subprocess.run([*words, TOP / "tools/image.py", self.room / name, "--debs", self.debs, "--archive", self.archive], capture_output=True,
                              text=True, env={**os.environ, **environment})
         if ran.returncode:
-            sys.exit(f"image: tools/image: {ran.stderr}")
+            sys.exit(f"image: tools/image.py: {ran.stderr}")
         print(f"  {ran.stdout.strip()}")
         return self.room / name / "fedbundle"
 
@@ -222,7 +222,7 @@ def ask(container, *words, given=b""):
 
 
 def runs(image):
-    room, tests = image.room / "runs", module_of(TOP / "tests/fetch")
+    room, tests = image.room / "runs", module_of(TOP / "tests/fetch.py")
     (room / "keys").mkdir(parents=True)
     maker = tests.Maker(room / "keys")
     authority, later = maker.authority(), maker.authority()

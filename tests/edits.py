@@ -192,7 +192,7 @@ def check_ledger():
             faults.append(f"{line.crate}/{line.edit}: the crate is still proved with it, so its contract is too weak")
     none, changed, other = count_due(lines, logic_of_kit())
     if none:
-        faults.append(f"{len(none)} edits have no line: tests/edits --due tries them")
+        faults.append(f"{len(none)} edits have no line: tests/edits.py --due tries them")
     if len(changed) > MOST_DUE:
         faults.append(f"{len(changed)} edits are due, and {MOST_DUE} may be")
     counts = {verdict: sum(line.verdict == verdict for line in lines.values()) for verdict in ledger.VERDICTS}

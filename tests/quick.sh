@@ -24,36 +24,36 @@ try() {
     fi
 }
 
-try names
-try pages
-try edits --texts
-try edits --ledger
-try manual
+try names.py
+try pages.py
+try edits.py --texts
+try edits.py --ledger
+try manual.py
 if [ -z "${FEDBUNDLE-}" ]; then
-    if ! tests/release >"$room/said" 2>&1; then
+    if ! tests/release.py >"$room/said" 2>&1; then
         grep '^differs' "$room/said"
         echo 'the sources are not those of the release: give the program by $FEDBUNDLE'
         exit 1
     fi
-    echo 'passed         tests/release'
+    echo 'passed         tests/release.py'
     ./fedbundle -V >/dev/null || exit 1
     FEDBUNDLE=$PWD/crates/fedbundle_cli/out/fedbundle
 else
-    echo 'not run: tests/release, since $FEDBUNDLE names the program'
+    echo 'not run: tests/release.py, since $FEDBUNDLE names the program'
 fi
 export FEDBUNDLE
-try tour
-try views
-try rows/check
-try system/files
-try system/locks
-try system/states
-try system/mistakes
-try system/same_keys
-try oracle/check
-try incident
-try clients
-echo 'not run: the proofs and the row programs (rt ci), tests/system/refusals, replica, change, turns, calls, kills, devices,'
-echo '         peers and sums, tests/fetch, deploy, site, health, systemd, library, first_day, runbooks, package, image, kubernetes and reproducible,'
-echo '         and the wrong bodies (tests/edits)'
+try tour.py
+try views.py
+try rows/check.py
+try system/files.py
+try system/locks.py
+try system/states.py
+try system/mistakes.py
+try system/same_keys.py
+try oracle/check.sh
+try incident.py
+try clients.py
+echo 'not run: the proofs and the row programs (rt ci), tests/system/refusals.py, replica, change, turns, calls, kills, devices,'
+echo '         peers and sums, tests/fetch.py, deploy, site, health, systemd, library, first_day, runbooks, package, image, kubernetes and reproducible,'
+echo '         and the wrong bodies (tests/edits.py)'
 exit $((failed > 0))

@@ -1,9 +1,9 @@
 #!/usr/bin/env python3
-"""Makes the Debian packages by tools/package, and installs, upgrades, removes and purges them.
+"""Makes the Debian packages by tools/package.py, and installs, upgrades, removes and purges them.
 
 - made: two runs, in other folders and under another umask, time zone and number of processors, give the same bytes; an
   archive with a changed byte is refused. Each file of the archive is in one of the packages, with the bytes that it had, or
-  those that the head of tools/package names.
+  those that the head of tools/package.py names.
 - lintian: it finds no error. What it warns of is printed.
 - life: in a copy of this machine in which systemd runs, a package of an earlier number is installed, the replica, the
   fetcher and its timer are started, and a bundle is observed. An upgrade starts the replica again with the new program, and
@@ -12,7 +12,7 @@
   byte more at the end of its program.
 - library: a program in C is compiled in the copy by what pkg-config says, with the shared and with the static library.
 
-tests/first_day installs the package too, and follows the page with it.
+tests/first_day.py installs the package too, and follows the page with it.
 
 It needs python3 and dpkg-deb; lintian; root, overlayfs, cgroup2 and systemd; cc and pkg-config. What is not there
 leaves out a part, as a line says. $FEDBUNDLE_ROOT names a root of Debian 12, as debootstrap makes one, in the place of this
@@ -62,8 +62,8 @@ def tool_of(name):
 
 
 def packages_of(folder, archive=None, words=(), **environment):
-    """Runs tools/package, and returns its packages, by their names, or what it said."""
-    ran = subprocess.run([*words, TOP / "tools/package", folder, *([archive] if archive else [])], capture_output=True, text=True,
+    """Runs tools/package.py, and returns its packages, by their names, or what it said."""
+    ran = subprocess.run([*words, TOP / "tools/package.py", folder, *([archive] if archive else [])], capture_output=True, text=True,
                          env={**os.environ, **environment})
     return {path.name.split("_")[0]: path for path in folder.glob("*.deb")} if ran.returncode == 0 else ran.stderr
 
@@ -95,7 +95,7 @@ def files_of(package):
 
 
 def lost(packages):
-    """The files of the archive that no package has as they were, less those that change as tools/package says."""
+    """The files of the archive that no package has as they were, less those that change as tools/package.py says."""
     tool = tool_of("package")
     files, links = tool.read_archive(tool.ARCHIVE)
     there = {name: files_of(path) for name, path in packages.items()}

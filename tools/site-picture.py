@@ -1,7 +1,7 @@
 #!/usr/bin/env python3
-"""Draws docs/site.svg, README's picture of what runs at each of two sites: `tools/site-picture > docs/site.svg`.
+"""Draws docs/site.svg, README's picture of what runs at each of two sites: `tools/site-picture.py > docs/site.svg`.
 
-tests/pages compares the file with what this prints.
+tests/pages.py compares the file with what this prints.
 """
 
 WIDTH, HEIGHT = 760, 320

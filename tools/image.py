@@ -159,7 +159,7 @@ def config_of(layer, version, moment):
     run = {"User": f"{USER}:{USER}", "Env": ["PATH=/usr/bin", "FEDBUNDLE=/usr/bin/fedbundle"], "Entrypoint": ENTRY, "Cmd": WORDS,
            "WorkingDir": "/var/lib/fedbundle", "StopSignal": "SIGTERM", "Volumes": {"/var/lib/fedbundle": {}},
            "Labels": {f"org.opencontainers.image.{name}": text for name, text in labels.items()}}
-    return {"architecture": "amd64", "os": "linux", "created": day, "config": run, "history": [{"created": day, "created_by": "tools/image"}],
+    return {"architecture": "amd64", "os": "linux", "created": day, "config": run, "history": [{"created": day, "created_by": "tools/image.py"}],
             "rootfs": {"type": "layers", "diff_ids": [f"sha256:{hashlib.sha256(layer).hexdigest()}"]}}
 
 

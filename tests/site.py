@@ -53,8 +53,8 @@ def want(right, what, seen):
 
 
 def fetch_tests():
-    """The servers and certificates of tests/fetch."""
-    loader = importlib.machinery.SourceFileLoader("fetch_tests", str(TOP / "tests/fetch"))
+    """The servers and certificates of tests/fetch.py."""
+    loader = importlib.machinery.SourceFileLoader("fetch_tests", str(TOP / "tests/fetch.py"))
     made = importlib.util.module_from_spec(importlib.util.spec_from_loader("fetch_tests", loader))
     sys.modules["fetch_tests"] = made
     loader.exec_module(made)

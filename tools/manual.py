@@ -79,7 +79,7 @@ def paragraphs(text):
 
 
 def manual(texts):
-    lines = ['.\\" Made by tools/manual. Change the texts of help in crates/command_line/src/help_texts.rt instead.',
+    lines = ['.\\" Made by tools/manual.py. Change the texts of help in crates/command_line/src/help_texts.rt instead.',
              f'.TH FEDBUNDLE 1 "" "fedbundle {VERSION}" "User Commands"',
              ".SH NAME", "fedbundle \\- holds the federated trust bundles of one replica",
              ".SH SYNOPSIS"]
@@ -115,7 +115,7 @@ def value_options(texts):
 def bash(texts):
     arms = "\n".join(f"        {texts.words[n]}) words='{' '.join(words_of(texts, n))}' ;;" for n in texts.commands)
     names = " ".join([texts.words[n] for n in texts.commands] + ["help"])
-    return f"""# Completions of fedbundle for bash. Made by tools/manual.
+    return f"""# Completions of fedbundle for bash. Made by tools/manual.py.
 _fedbundle() {{
     local word=${{COMP_WORDS[COMP_CWORD]}} before=${{COMP_WORDS[COMP_CWORD - 1]}} words
     COMPREPLY=()
@@ -157,7 +157,7 @@ def zsh(texts):
             arms.append(f"                '--{texts.options[option]}[{quoted(texts.option_abouts[option])}]{what}' \\")
         arms.append("                '--help[Prints help]'\n            ;;")
     return f"""#compdef fedbundle
-# Completions of fedbundle for zsh. Made by tools/manual.
+# Completions of fedbundle for zsh. Made by tools/manual.py.
 _fedbundle() {{
     local -a commands
     commands=(
@@ -188,7 +188,7 @@ def main():
             path.parent.mkdir(exist_ok=True)
             path.write_text(text)
         elif not path.exists() or path.read_text() != text:
-            print(f"{name} is not what tools/manual makes")
+            print(f"{name} is not what tools/manual.py makes")
             ended = 1
     sys.exit(ended)
 

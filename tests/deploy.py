@@ -4,7 +4,7 @@
 The units are verified by systemd's own tools, and their commands run if the program is built. The
 two sides of mutual TLS run as stunnel over loopback, with certificates that openssl makes here, a
 good one and others. fedbundle-spire runs with stand-ins for fedbundle and spire-server, which
-record how they were called. For fedbundle-fetch there is tests/fetch.
+record how they were called. For fedbundle-fetch there is tests/fetch.py.
 
 What the machine lacks is skipped, with a line that says so. The program is the one that $FEDBUNDLE
 names, or else the one that ./fedbundle runs.
