@@ -71,7 +71,7 @@ def until(right, what):
 
 def script(name):
     """A script of tests/ as a module."""
-    loader = importlib.machinery.SourceFileLoader(f"{name}_tests", str(TOP / "tests" / name))
+    loader = importlib.machinery.SourceFileLoader(f"{name}_tests", str(TOP / "tests" / f"{name}.py"))
     made = importlib.util.module_from_spec(importlib.util.spec_from_loader(loader.name, loader))
     sys.modules[loader.name] = made
     loader.exec_module(made)

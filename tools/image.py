@@ -59,7 +59,7 @@ WORDS = ["fedbundle", "replica", "--config", "/etc/fedbundle/config/config.json"
 
 def tool_of(name):
     """A script of tools/ as a module."""
-    loader = SourceFileLoader(name, str(TOP / "tools" / name))
+    loader = SourceFileLoader(name, str(TOP / "tools" / f"{name}.py"))
     module = module_from_spec(spec_from_loader(name, loader))
     loader.exec_module(module)
     return module

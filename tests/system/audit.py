@@ -24,18 +24,14 @@ import subprocess
 import sys
 import threading
 import time
-from importlib.machinery import SourceFileLoader
-from importlib.util import module_from_spec, spec_from_loader
 from pathlib import Path
 
 sys.dont_write_bytecode = True
 HERE = Path(__file__).resolve().parent
 sys.path.insert(0, str(HERE.parent / "lib"))
 from harness import KINDS, TOLD, build_library, find_program, temporary  # noqa: E402
+import replica as replicas  # noqa: E402
 
-loader = SourceFileLoader("replica", str(HERE / "replica"))
-replicas = module_from_spec(spec_from_loader("replica", loader))
-loader.exec_module(replicas)
 DOMAIN, ENDPOINT, KEY, OBSERVE = replicas.DOMAIN, replicas.ENDPOINT, replicas.KEY, replicas.OBSERVE
 OTHER_DER, Replica, bundle, free_address = replicas.OTHER_DER, replicas.Replica, replicas.bundle, replicas.free_address
 want, within = replicas.want, replicas.within

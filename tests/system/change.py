@@ -44,18 +44,14 @@ import sys
 import threading
 import time
 from dataclasses import dataclass
-from importlib.machinery import SourceFileLoader
-from importlib.util import module_from_spec, spec_from_loader
 from pathlib import Path
 
 sys.dont_write_bytecode = True
 HERE = Path(__file__).resolve().parent
 sys.path.insert(0, str(HERE.parent / "lib"))
 from harness import KINDS, TOLD, TOP, build_library, find_program, shown, temporary  # noqa: E402
+import replica as replicas  # noqa: E402
 
-loader = SourceFileLoader("replica", str(HERE / "replica"))
-replicas = module_from_spec(spec_from_loader("replica", loader))
-loader.exec_module(replicas)
 ask, free_address = replicas.ask, replicas.free_address
 
 SECONDS = 120

@@ -29,18 +29,14 @@ import subprocess
 import sys
 import threading
 import time
-from importlib.machinery import SourceFileLoader
-from importlib.util import module_from_spec, spec_from_loader
 from pathlib import Path
 
 sys.dont_write_bytecode = True
 HERE = Path(__file__).resolve().parent
 sys.path.insert(0, str(HERE.parent / "lib"))
 from harness import find_program, listener_of_own, temporary  # noqa: E402
+import replica as running  # noqa: E402
 
-loader = SourceFileLoader("replica", str(HERE / "replica"))
-running = module_from_spec(spec_from_loader("replica", loader))
-loader.exec_module(running)
 DOMAIN, KEY, OTHER_DER, Replica = running.DOMAIN, running.KEY, running.OTHER_DER, running.Replica
 faults, free_address, want, within = running.faults, running.free_address, running.want, running.within
 

@@ -27,8 +27,6 @@ import socket
 import sys
 import tempfile
 import time
-from importlib.machinery import SourceFileLoader
-from importlib.util import module_from_spec, spec_from_loader
 from multiprocessing import get_context
 from pathlib import Path
 
@@ -37,10 +35,8 @@ HERE = Path(__file__).resolve().parent
 sys.path[:0] = [str(HERE.parent / "lib"), str(HERE.parents[1] / "bench")]
 import receipts  # noqa: E402
 from harness import find_program  # noqa: E402
+import replica as running  # noqa: E402
 
-loader = SourceFileLoader("replica", str(HERE / "replica"))
-running = module_from_spec(spec_from_loader("replica", loader))
-loader.exec_module(running)
 DOMAIN, Replica, faults, free_address, want, within = (
     running.DOMAIN, running.Replica, running.faults, running.free_address, running.want, running.within)
 
