@@ -40,6 +40,7 @@ from pathlib import Path
 sys.dont_write_bytecode = True
 sys.path.insert(0, str(Path(__file__).resolve().parent / "lib"))
 from harness import TOP, find_program, listener_of_own, shown, temporary  # noqa: E402
+from needs import can, left_out  # noqa: E402
 
 BINDINGS, EXAMPLES = TOP / "bindings", TOP / "examples"
 NOBODY = 65534
@@ -411,10 +412,10 @@ def check_requests(program, programs, above):
 def check_rows(askers, places, reads, config):
     has_lists = b"--at" in askers[0].run(["list", "--help"]).stdout
     if not has_lists:
-        print("the program is older than 0.6.0: list and graph of a replica are left out")
+        left_out("list and graph of a replica", "the program is older than 0.6.0")
     has_moves = b"--at" in askers[0].run(["reseed", "--help"]).stdout
     if not has_moves:
-        print("the program is older than 0.7.0: config, diff, migrate and reseed of a replica are left out")
+        left_out("config, diff, migrate and reseed of a replica", "the program is older than 0.7.0")
     for code, row in refusals(config):
         came = compare("refusal", row, askers, places)
         want(f"{row['Call']}, {code}", came.get("code") == code, came)
@@ -501,8 +502,7 @@ def full(config):
 
 def check_permission(program, programs, above):
     """The socket has mode 0600, so that another user may not ask."""
-    if os.geteuid() != 0:
-        print("not root: a socket without permission is left out")
+    if not can("root", "a socket without permission"):
         return
     askers = {"the command": lambda: Command(program, NOBODY)}
     askers.update({name: partial(Language, name, words("requests"), NOBODY) for name, words in programs.items()})
@@ -512,7 +512,7 @@ def check_permission(program, programs, above):
                 asker = make()
                 came = asker.ask({**asked("report"), "Socket": replica.socket})
             except PermissionError:
-                print(f"another user cannot run {name}: a socket without permission is left out")
+                left_out("a socket without permission", f"another user cannot run {name}")
                 continue
             want(f"{name}, no permission", came == refused("S9", 3, "S9 Io"), came)
             asker.end()
@@ -696,12 +696,9 @@ def run_step(name, words, where, environment=None):
 
 def built_go(folder):
     """How each program in Go is called, by the name of the language; none if Go is not there."""
-    if not shutil.which("go"):
-        print("go is not there: its client is left out")
+    if not can("go", "the client in Go"):
         return {}
-    race = ["-race"] if shutil.which("cc") else []
-    if not race:
-        print("cc is not there: Go without the race detector")
+    race = ["-race"] if can("cc", "the race detector of Go") else []
     go, packages, pure = BINDINGS / "go", ["./client", "./requests", "./watch"], {"CGO_ENABLED": "0"}
     others = "{{if not .Standard}}{{if ne .ImportPath \"fedbundle.example/fedbundle/client\"}}{{.}}{{end}}{{end}}"
     built = run_step("go build", ["go", "build", *race, "-o", f"{folder}/", "./requests", "./watch"], go)

@@ -6,7 +6,7 @@ two sides of mutual TLS run as stunnel over loopback, with certificates that ope
 good one and others. fedbundle-spire runs with stand-ins for fedbundle and spire-server, which
 record how they were called. For fedbundle-fetch there is tests/fetch.py.
 
-What the machine lacks is skipped, with a line that says so. The program is the one that $FEDBUNDLE
+What the machine lacks is left out. The program is the one that $FEDBUNDLE
 names, or else the one that ./fedbundle runs.
 
 usage: deploy [WORD..]   runs the cases whose name has one of the words, or all; a line for each,
@@ -38,6 +38,7 @@ from pathlib import Path
 
 sys.path.insert(0, str(Path(__file__).resolve().parent / "lib"))
 from harness import find_program  # noqa: E402
+from needs import left_out, why_not  # noqa: E402
 
 TOP = Path(__file__).resolve().parent.parent
 DEPLOY = TOP / "deploy"
@@ -63,7 +64,7 @@ def tool(*names: str) -> str:
     """The path of a program of the machine, which may have one of these names."""
     found = [path for name in names if (path := shutil.which(name, path=search_path()))]
     if not found:
-        raise Skipped(f"{names[0]} is not there")
+        raise Skipped(why_not(names[0]))
     return found[0]
 
 
@@ -1217,7 +1218,8 @@ def run_case(name: str, case: Callable[[Path], None], folder: Path) -> str:
     try:
         case(folder)
     except Skipped as lack:
-        word, told = "skipped", f": {lack}"
+        word = "skipped"
+        left_out(name, lack)
     except Wrong as error:
         word, told = "failed", f": {error}"
     except Exception:

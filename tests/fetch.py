@@ -22,7 +22,6 @@ import importlib.util
 import json
 import os
 import re
-import shutil
 import signal
 import socket
 import ssl
@@ -40,6 +39,7 @@ from pathlib import Path
 sys.dont_write_bytecode = True
 sys.path.insert(0, str(Path(__file__).resolve().parent / "lib"))
 from harness import find_program  # noqa: E402
+from needs import require  # noqa: E402
 
 TOP = Path(__file__).resolve().parent.parent
 FETCH = TOP / "deploy/fedbundle-fetch"
@@ -1359,8 +1359,7 @@ def run_case(name: str, run: Callable[[Room], None], room: Room) -> bool:
 
 
 def main() -> int:
-    if not shutil.which("openssl"):
-        sys.exit("fetch: openssl is not there")
+    require(__file__)
     program, words = find_program(), sys.argv[1:]
     passed = failed = 0
     with tempfile.TemporaryDirectory(prefix="fedbundle-fetch-") as folder:

@@ -29,7 +29,6 @@ import hashlib
 import json
 import os
 import re
-import shutil
 import socket
 import struct
 import subprocess
@@ -46,6 +45,7 @@ sys.dont_write_bytecode = True
 sys.path.insert(0, str(Path(__file__).resolve().parent / "lib"))
 from browser import Browser, find_browser  # noqa: E402
 from harness import TOP, find_program, listener_of_own, temporary  # noqa: E402
+from needs import has, left_out, why_not  # noqa: E402
 from watched_replica import EXAMPLES, WatchedReplica, has_health, receipts_of_examples  # noqa: E402
 
 RULES = TOP / "deploy/prometheus-rules.yml"
@@ -73,8 +73,8 @@ def check(is_so, what, *seen):
 
 def need(*names):
     for name in names:
-        if not shutil.which(name):
-            raise Lacking(f"{name} is not there")
+        if not has(name):
+            raise Lacking(why_not(name))
 
 
 # ---- two replicas
@@ -870,7 +870,7 @@ def look_at_without_script(scene):
 
 def look_at_page(scene, room, pictures=None):
     if not find_browser():
-        raise Lacking("chromium is not there")
+        raise Lacking(why_not("chromium"))
     replica = scene.one
     ran = subprocess.run([find_browser(), *Browser.FLAGS[:-1], "--dump-dom", "--virtual-time-budget=5000", f"--user-data-dir={room}/dump",
                           f"http://{replica.address}/"], capture_output=True, timeout=120)
@@ -930,7 +930,7 @@ def main():
                 try:
                     part(scene, room, **({"pictures": given.pictures} if name == "page" else {}))
                 except Lacking as lack:
-                    print(f"left out: {name}, since {lack}")
+                    left_out(name, lack)
                 except (AssertionError, OSError, ValueError) as why:
                     check(False, f"{name} goes to its end", why)
                 print(f"-- {name}: {time.monotonic() - began:.0f} s", flush=True)

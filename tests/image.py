@@ -35,6 +35,8 @@ import time
 from pathlib import Path
 
 sys.dont_write_bytecode = True
+sys.path.insert(0, str(Path(__file__).resolve().parent / "lib"))
+from needs import left_out, require  # noqa: E402
 TOP = Path(__file__).resolve().parent.parent
 USER = 65532
 ROUNDS = 20
@@ -314,7 +316,7 @@ def ends(image):
 
 def crun(image):
     if not shutil.which("crun") or not shutil.which("umoci"):
-        raise Lacking("crun or umoci is not there")
+        raise Lacking("there is no crun or no umoci")
     bundle = image.room / "bundle"
     config = json.loads((bundle / "config.json").read_text())
     config["process"]["terminal"] = False
@@ -332,23 +334,22 @@ PARTS = {"made": made, "runs": runs, "ends": ends, "crun": crun}
 
 def main():
     tried = ["bwrap", "--ro-bind", "/", "/", "--unshare-user", "--unshare-pid", "true"]
-    if os.geteuid() or not shutil.which("bwrap") or subprocess.run(tried, capture_output=True).returncode:
-        print("left out: all, since it needs root and a bwrap that makes name spaces")
-        return 0
+    require(__file__)
+    if subprocess.run(tried, capture_output=True).returncode:
+        sys.exit("image: bwrap makes no name spaces here")
     with tempfile.TemporaryDirectory() as folder:
         os.chmod(folder, 0o755)
         try:
             image = Image(Path(folder))
         except Lacking as lack:
-            print(f"left out: all, since {lack}")
-            return 0
+            sys.exit(f"image: {lack}")
         for name, part in PARTS.items():
             if not sys.argv[1:] or name in sys.argv[1:]:
                 began = time.monotonic()
                 try:
                     part(image)
                 except Lacking as lack:
-                    print(f"left out: {name}, since {lack}")
+                    left_out(name, lack)
                 print(f"-- {name}: {time.monotonic() - began:.0f} s", flush=True)
     print(f"{reported} things are not so")
     return 1 if reported else 0

@@ -32,6 +32,7 @@ sys.dont_write_bytecode = True
 sys.path.insert(0, str(Path(__file__).resolve().parent / "lib"))
 from harness import find_program  # noqa: E402
 from machine import Lacking, Machine, TOP, in_own_mounts, mount, raise_loopback  # noqa: E402
+from needs import has, left_out, require, why_not  # noqa: E402
 from watched_replica import has_health  # noqa: E402
 
 try:
@@ -54,8 +55,6 @@ def check(is_so, what):
 
 def render(folder=DEPLOY / "kubernetes"):
     kubectl = os.environ.get("KUBECTL", "kubectl")
-    if not yaml or not shutil.which(kubectl):
-        raise Lacking("kubectl or Python's yaml is not there")
     ran = subprocess.run([kubectl, "kustomize", folder], capture_output=True, text=True)
     if ran.returncode or ran.stderr:
         sys.exit(f"kubernetes: kubectl kustomize: {ran.stderr}")
@@ -413,7 +412,7 @@ def health_component(plain):
     listed = rendered_with("health")
     lacking = set() if has_health(find_program()) else {"replica: fedbundle replica has no --health"}
     for lack in lacking:
-        print(f"left out: a part of the component for health, since {lack}")
+        left_out("a part of the component for health", lack)
     faults = set(faults_of(listed)) - lacking
     words = Objects(listed).containers["replica"]["args"]
     check(words == [*Objects(plain).containers["replica"]["args"], "--health", "0.0.0.0:9463", "--listen-anywhere"] and not faults,
@@ -471,8 +470,8 @@ def ending(pod):
 
 def pods(room):
     for tool in ("ip", "stunnel4", "tini", "openssl"):
-        if not shutil.which(tool):
-            raise Lacking(f"{tool} is not there")
+        if not has(tool):
+            raise Lacking(why_not(tool))
     first_start_component()
     found, made = Objects(render()), []
     found.containers["replica"]["args"] += ["--every", "1"]
@@ -499,6 +498,7 @@ PARTS = {"objects": objects, "falsified": falsified, "pods": pods}
 def main():
     words = sys.argv[1:]
     if words[:1] != ["inside"]:
+        require(__file__)
         # So that nothing is unpacked inside.
         os.environ["FEDBUNDLE"] = find_program()
         sys.exit(in_own_mounts(__file__, words))
@@ -512,7 +512,7 @@ def main():
             try:
                 part(room)
             except Lacking as lack:
-                print(f"left out: {name}, since {lack}")
+                left_out(name, lack)
             print(f"-- {name}: {time.monotonic() - began:.0f} s", flush=True)
     print(f"{reported} things are not so")
     sys.exit(1 if reported else 0)

@@ -14,6 +14,10 @@ import sys
 import tempfile
 from pathlib import Path
 
+sys.dont_write_bytecode = True
+sys.path.insert(0, str(Path(__file__).resolve().parent / "lib"))
+from needs import can  # noqa: E402
+
 TOP = Path(__file__).resolve().parent.parent
 reported = 0
 
@@ -58,10 +62,8 @@ def check_zsh(commands):
     arms = dict(re.findall(r"^        (\w+)\)\n            _arguments \\\n(.*?)            ;;", text, re.S | re.M))
     found = {name: re.findall(r"'(--[a-z-]+)\[", body) for name, body in arms.items()}
     check(found == {name: [*options, "--help"] for name, options in commands.items()}, "zsh: the options of each subcommand")
-    if shutil.which("zsh"):
+    if can("zsh", "zsh reading its completions"):
         check(run("zsh", "-n", str(TOP / "completions/_fedbundle")).returncode == 0, "zsh: it is read")
-    else:
-        print("left out: zsh reading its completions, since there is no zsh")
 
 
 def check_manual(commands):
@@ -71,11 +73,9 @@ def check_manual(commands):
     found = {name: re.findall(r"^\\fB(\\-\\-[a-z\\-]+)\\fR", part, re.M) for name, part in parts.items()}
     found = {name: [word.replace("\\", "") for word in words] for name, words in found.items()}
     check(found == commands, "the manual page: the options of each subcommand")
-    if shutil.which("man"):
+    if can("man", "man -l"):
         shown = run("man", "-l", "--warnings", str(page), env={"PATH": "/usr/bin:/bin", "LC_ALL": "C.UTF-8", "MANPAGER": "cat"})
         check(shown.returncode == 0 and not shown.stderr, "man -l: no warning")
-    else:
-        print("left out: man -l, since there is no man")
 
 
 def check_version():

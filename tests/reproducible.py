@@ -19,6 +19,8 @@ from importlib.util import module_from_spec, spec_from_loader
 from pathlib import Path
 
 sys.dont_write_bytecode = True
+sys.path.insert(0, str(Path(__file__).resolve().parent / "lib"))
+from needs import left_out  # noqa: E402
 TOP = Path(__file__).resolve().parent.parent
 PROGRAM, LIBRARY = "fedbundle_cli", "fedbundle_c"
 PARTS = ["src", "specs", "proofs", "out/rlib", "out/incremental"]
@@ -87,6 +89,8 @@ def main():
     if lacking:
         sys.exit(f"reproducible: not proved yet: {' '.join(lacking)}: run ./fedbundle --prove and tools/library.sh first")
     user = OTHER_USER if call([*OTHER_USER, "true"], TOP) else []
+    if not user:
+        left_out("the build by another user", "no name spaces of users are allowed here")
     with tempfile.TemporaryDirectory(dir=TOP / ".git") as folder:
         rooms = [(Path(folder) / "a", 1, []), (Path(folder) / ("a folder with a long name " * 4).strip(), 4, user)]
         made = []

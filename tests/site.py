@@ -25,7 +25,6 @@ import importlib.util
 import json
 import os
 import py_compile
-import shutil
 import socket
 import subprocess
 import sys
@@ -36,6 +35,7 @@ from pathlib import Path
 sys.dont_write_bytecode = True
 sys.path.insert(0, str(Path(__file__).resolve().parent / "lib"))
 from harness import find_program, temporary  # noqa: E402
+from needs import require  # noqa: E402
 
 TOP = Path(__file__).resolve().parent.parent
 DEPLOY = TOP / "deploy"
@@ -587,9 +587,7 @@ PARTS = {"import": importer, "server": server, "days": days, "falsified": falsif
 
 def main():
     global PROGRAM
-    if not shutil.which("openssl"):
-        print("skipped: openssl is not there")
-        return 0
+    require(__file__)
     PROGRAM, failed = find_program(), 0
     RUNNERS.extend([Runner(), Runner()])
     os.environ.pop("FEDBUNDLE_VERBOSE", None)

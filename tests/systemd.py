@@ -324,8 +324,7 @@ def main():
     except OSError as error:
         lack = str(error)
     if lack or not SYSTEMD.exists():
-        print(f"systemd: left out: {lack or f'{SYSTEMD} is not there'}")
-        return
+        sys.exit(f"systemd: {lack or f'{SYSTEMD} is not there'}")
     find_program()
     with tempfile.TemporaryDirectory(prefix="fedbundle-systemd-") as folder:
         # The mounts that the cases need here are gone with this process.

@@ -50,6 +50,7 @@ sys.dont_write_bytecode = True
 HERE = Path(__file__).resolve().parent
 sys.path.insert(0, str(HERE.parent / "lib"))
 from harness import KINDS, TOLD, TOP, build_library, find_program, shown, temporary  # noqa: E402
+from needs import left_out  # noqa: E402
 import replica as replicas  # noqa: E402
 
 ask, free_address = replicas.ask, replicas.free_address
@@ -677,7 +678,8 @@ def some_of(count, most):
 
 def calls(program, above):
     if b"AddressSanitizer" in Path(program).read_bytes():
-        return "left out, since the program was built with a sanitizer"
+        left_out("refused calls", "the program was built with a sanitizer")
+        return "nothing"
     refusing, count = Refusing(program, above), 0
     for case in cases_of(4):
         ready, _, calls_of, _ = refusing.run(case, "none", 0, "once")
