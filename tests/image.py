@@ -185,7 +185,7 @@ class Container:
 
     def first(self):
         """The container's first process, as this machine numbers it."""
-        end = time.monotonic() + 10
+        end = time.monotonic() + 300
         while time.monotonic() < end:
             found = Path(f"/proc/{self.began.pid}/task/{self.began.pid}/children").read_text().split()
             if found and Path(f"/proc/{found[0]}/comm").read_text() != "bwrap\n":
@@ -195,7 +195,7 @@ class Container:
 
     def run(self, *words):
         """Runs a command of the image next to it, with the same volumes."""
-        return subprocess.run(self.enter(list(words)), capture_output=True, text=True, timeout=60, stdin=subprocess.DEVNULL)
+        return subprocess.run(self.enter(list(words)), capture_output=True, text=True, timeout=600, stdin=subprocess.DEVNULL)
 
     def ready(self):
         line = self.began.stdout.readline().decode()
@@ -220,7 +220,7 @@ class Container:
 def ask(container, *words, given=b""):
     """Asks the replica of a container from outside, by the program of the image."""
     return subprocess.run([container.image.root / "usr/bin/fedbundle", *words, "--at", container.room / "run/socket"], input=given,
-                          capture_output=True, timeout=30)
+                          capture_output=True, timeout=600)
 
 
 def runs(image):
@@ -323,7 +323,7 @@ def crun(image):
     config["process"]["args"] = [*image.config["config"]["Entrypoint"], "fedbundle", "--version"]
     (bundle / "config.json").write_text(json.dumps(config))
     ran = subprocess.run(["crun", "--root", image.room / "crun", "--cgroup-manager=disabled", "run", "--bundle", bundle, f"fedbundle-{os.getpid()}"],
-                         capture_output=True, text=True, timeout=60, stdin=subprocess.DEVNULL)
+                         capture_output=True, text=True, timeout=600, stdin=subprocess.DEVNULL)
     if ran.returncode and "cgroup" in ran.stderr:
         raise Lacking(f"crun runs nothing here: {ran.stderr.strip()}")
     check(ran.returncode == 0 and ran.stdout.startswith("fedbundle "), f"crun runs it: {(ran.stdout or ran.stderr).splitlines()[:1]}")

@@ -51,7 +51,7 @@ def config(*seeds):
 
 def run(*words, given=b"", status=0):
     """The output of the program, which has to end with this status, and what is on standard error."""
-    ran = subprocess.run([PROGRAM, *words], input=given, capture_output=True, timeout=60)
+    ran = subprocess.run([PROGRAM, *words], input=given, capture_output=True, timeout=600)
     check(f"{words[0]} ends with {status}", ran.returncode == status, f"{ran.returncode} {ran.stderr.decode()}")
     return ran.stdout, ran.stderr
 
@@ -100,7 +100,7 @@ class Replica:
         server = subprocess.Popen([PROGRAM, *words], stdout=subprocess.DEVNULL)
         wait_for(address)
         self.run("pull", "--peer", address)
-        check("serve ends with 0", server.wait(timeout=60) == 0)
+        check("serve ends with 0", server.wait(timeout=600) == 0)
 
 
 def named(document):

@@ -31,7 +31,6 @@ import shutil
 import subprocess
 import sys
 import tarfile
-import tempfile
 import time
 from importlib.machinery import SourceFileLoader
 from importlib.util import module_from_spec, spec_from_loader
@@ -207,7 +206,7 @@ def begin(machine, package):
 
 
 def until(right, what):
-    end = time.monotonic() + 15
+    end = time.monotonic() + 300
     while not (seen := right()) and time.monotonic() < end:
         time.sleep(0.1)
     check(bool(seen), what)

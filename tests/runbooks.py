@@ -48,7 +48,7 @@ HOME = "/var/lib/fedbundle"
 UNIT = "fedbundle-replica.service"
 # What is repeated until it prints what the page shows.
 LOOKS = re.compile(r"(fedbundle (status|report|bundle|list|diff)|journalctl|systemctl (show|is-active)|cmp|df|wc) ")
-SECONDS = 20
+SECONDS = 300
 # What the words that differ look like.
 WILD = {"..": ".*", "<id>": "[0-9a-f]{64}", "<n>": "[0-9]+", "<seconds>": r"[0-9.]+", "<cause>": ".+"}
 
@@ -189,7 +189,7 @@ class Replica(Machine):
         """The status of a line of a shell, and what it printed on both streams."""
         if not by_root:
             command = f"runuser -u fedbundle -- bash -c {shlex.quote(f'umask 077; {command}')}"
-        ran = subprocess.run(self.words(f"exec 2>&1; {command}", home), stdout=subprocess.PIPE, text=True, timeout=120,
+        ran = subprocess.run(self.words(f"exec 2>&1; {command}", home), stdout=subprocess.PIPE, text=True, timeout=1200,
                              stdin=subprocess.DEVNULL)
         return ran.returncode, ran.stdout
 

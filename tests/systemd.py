@@ -45,7 +45,7 @@ def want(right, what, seen):
         raise Wrong(f"{what} wanted: {seen}")
 
 
-def until(right, what, seconds=30):
+def until(right, what, seconds=300):
     """Waits for something, and returns after how many seconds it came."""
     began = time.monotonic()
     while not right():
@@ -125,7 +125,7 @@ class Running:
         """The status of a line of a shell, as root there, and what it printed."""
         enter = ["nsenter", "--target", self.first, "--mount", "--pid", "--net", "--ipc", "--uts", "--cgroup"]
         ran = subprocess.run([*enter, "sh", "-c", f"exec 2>&1; cd {HOME}; {command}"], stdin=subprocess.DEVNULL,
-                             stdout=subprocess.PIPE, text=True, timeout=90)
+                             stdout=subprocess.PIPE, text=True, timeout=1200)
         return ran.returncode, ran.stdout
 
     def said(self, unit, name):

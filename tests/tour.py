@@ -13,7 +13,7 @@ import tempfile
 from pathlib import Path
 
 sys.path.insert(0, str(Path(__file__).resolve().parent / "lib"))
-from harness import find_program  # noqa: E402
+from harness import HANG, find_program  # noqa: E402
 from needs import can  # noqa: E402
 
 TOP = Path(__file__).resolve().parent.parent
@@ -37,7 +37,7 @@ def run(page, room):
     """The commands of the page, each with what it has to print and what it printed."""
     asked = commands(page)
     script = "exec 2>&1\n" + "".join(f"{command}\necho '{MARK}'\n" for command, _ in asked)
-    shell = subprocess.run(["bash", "-c", script], cwd=room, capture_output=True, text=True, timeout=300)
+    shell = subprocess.run(["bash", "-c", script], cwd=room, capture_output=True, text=True, timeout=HANG)
     printed = shell.stdout.split(MARK + "\n")
     return [(command, wanted, came.splitlines()) for (command, wanted), came in zip(asked, printed + [""] * len(asked))]
 

@@ -42,7 +42,7 @@ def check(what, holds, seen=""):
 
 
 def run(*words, given=b""):
-    ran = subprocess.run([PROGRAM, *words], input=given, capture_output=True, timeout=60)
+    ran = subprocess.run([PROGRAM, *words], input=given, capture_output=True, timeout=600)
     return ran.returncode, ran.stdout.decode(), ran.stderr.decode()
 
 

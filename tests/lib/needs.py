@@ -80,7 +80,7 @@ class Script:
     @property
     def key(self):
         """The name of its file in tests/passed/."""
-        return self.name.replace("/", "-").replace(" ", "_")
+        return f"{self.name.replace('/', '-').replace('.py', '').replace(' ', '_')}.txt"
 
 
 # What a replica is made of.

@@ -20,7 +20,8 @@ from pathlib import Path
 TOP = Path(__file__).resolve().parent.parent.parent
 CRATE = TOP / "crates" / "command_rows"
 PROGRAM = os.environ.get("FEDBUNDLE", str(TOP / "fedbundle"))
-SECONDS = 60
+# What takes longer hangs.
+SECONDS = 600
 FOR_THE_PROGRAM = ("run", "shows", "built")
 MAX_SHOWN_BYTES = 200
 MAX_LINES_BYTES = 4_000
