@@ -281,7 +281,7 @@ def parties(program, programs, user=None):
 
 
 def asked(call, *texts, **more):
-    return {"Call": call, "Texts": list(texts), "Seconds": 60, **more}
+    return {"Call": call, "Texts": list(texts), "Seconds": HANG, **more}
 
 
 def compare(what, row, askers, places):
@@ -714,7 +714,9 @@ def laid_python(folder):
     names = {"requests": "client_requests.py", "watch": "watch.py"}
     for file in ("fedbundle_client.py", *names.values()):
         shutil.copy(BINDINGS / "python" / file, folder)
-    return {"Python": lambda name: [sys.executable, "-BS", folder / names[name]]}
+    # Another user may not reach the Python that runs this.
+    python = shutil.which("python3", path="/usr/bin:/bin") or sys.executable
+    return {"Python": lambda name: [python, "-BS", folder / names[name]]}
 
 
 def main():
