@@ -86,8 +86,8 @@ def check_version():
     check(f'VERSION = "{version}"' in (TOP / "tools/manual.py").read_text(), "--version: it is that of the manual page")
     replica = (TOP / "crates/fedbundle_cli/src/replica_settings.rt").read_text()
     check("version: first_line(VERSION)," in replica, "--version: it is that of the metrics of a replica")
-    used = f"kit {run('rt', 'version').stdout.strip()}"
     check(kit.startswith("kit rattle-kit-"), "--version: the kit has a name")
+    used = f"kit {run('rt', 'version').stdout.strip()}" if can("rt", "the kit of --version next to that of rt") else kit
     if kit != used:
         print(f"note:    --version names {kit[4:]}, and this machine has {used[4:]}: say so in help_texts.rt and README")
     specs = TOP / "crates/replica_texts/specs"

@@ -93,7 +93,7 @@ SCRIPTS = [
     Script("release.py", "", FIRST, "xz"),
     Script("pages.py", "", FIRST, "git", "cc"),
     Script("manual.py", "", FIRST, "bash", "man zsh rt"),
-    Script("edits.py", "--ledger", FIRST, "git"),
+    Script("edits.py", "--ledger", FIRST),
     Script("names.py", "", FIRST, "git"),
     Script("edits.py", "--texts", FIRST),
 
@@ -120,7 +120,8 @@ SCRIPTS = [
     Script("tour.py", "", USUAL, "bash", "openssl"),
     Script("system/states.py"),
 
-    Script("system/calls.py", "", PROVED, "cc nm"),
+    Script("rows/play.py", "", PROVED, "rt"),
+    Script("edits.py", "--gate", PROVED, "rt"),
 
     Script("certificates.py", "", BY_HAND, "rt openssl python:cryptography", "", "crates/cert_key crates/pem_text"),
     Script("deploy.py", "", BY_HAND, "", "systemd-analyze stunnel4 openssl", f"deploy {REPLICA}"),
@@ -137,6 +138,7 @@ SCRIPTS = [
            f"docs/OPERATING.md {UNITS}"),
     Script("site.py", "", BY_HAND, "openssl", "", "deploy/fedbundle-import deploy/fedbundle-fetch deploy/fedbundle-spire"),
     Script("systemd.py", "", BY_HAND, "root mounts /lib/systemd/systemd", "", UNITS),
+    Script("system/calls.py", "", BY_HAND, "cc nm rt", "", f"{LIBRARY} crates/replica_core crates/replica_sync"),
     Script("system/calls.py", "all", BY_HAND, "cc nm rt", "", f"{LIBRARY} crates/replica_core crates/replica_sync"),
     Script("system/peers.py", "slow", BY_HAND, "", "", "crates/replica_client crates/replica_sync crates/replica_sockets"),
     Script("system/refusals.py", "all", BY_HAND, "cc nm", "", "crates/state_* crates/command_* crates/subcommands"),
