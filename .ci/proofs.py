@@ -17,6 +17,9 @@ from pathlib import Path
 import units
 
 TOP = Path(__file__).resolve().parent.parent
+sys.path.insert(0, str(TOP / "tools"))
+import release  # noqa: E402
+
 CI = TOP / ".ci"
 # Bytes that a check of a large crate may take.
 MEMORY_OF_A_CHECK = 5_000_000_000
@@ -83,6 +86,22 @@ def prove(words):
         cost.update(unit=unit, took=took, used=spent, table=table.read(), log=log, until=used())
     tell_differences()
     return ([] if unit else ["the proof that is the unit of cost"]) + ([f"rt ci: status {status}"] if status else [])
+
+
+def release_of_other_kit(folder):
+    """The path of the released program in the folder, if it is of these sources and another kit built another one here."""
+    lines = (TOP / "dist/MANIFEST").read_text().splitlines()
+    told = dict(line.split(" ", 1) for line in lines if not line.startswith("file "))
+    if told["sources"] != release.digest_of(release.crates_of("fedbundle_cli")):
+        return None
+    content = subprocess.run(["tar", "-xJOf", TOP / "dist/fedbundle-x86_64-linux.tar.xz", "fedbundle/bin/fedbundle"],
+                             capture_output=True, check=True).stdout
+    if content == (TOP / "crates/fedbundle_cli/out/fedbundle_cli").read_bytes():
+        return None
+    program = Path(folder) / "fedbundle"
+    program.write_bytes(content)
+    program.chmod(0o755)
+    return program
 
 
 def tell_cost():

@@ -120,6 +120,7 @@ SCRIPTS = [
     Script("tour.py", "", USUAL, "bash", "openssl"),
     Script("system/states.py"),
 
+    Script("release.py", "$FEDBUNDLE", PROVED, "xz"),
     Script("rows/play.py", "", PROVED, "rt"),
     Script("edits.py", "--gate", PROVED, "rt"),
 
