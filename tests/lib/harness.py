@@ -82,14 +82,28 @@ def build_library(folder, program):
     return library
 
 
-PORTS = count()
+PORTS, MARKS = count(), {}
+
+
+def first_port():
+    """The first of 200 ports that no other process of a test takes. The name of a socket says so while this process runs."""
+    process = os.getpid()
+    for number in count(process):
+        if process in MARKS:
+            return MARKS[process][0]
+        mark = socket.socket(socket.AF_UNIX)
+        try:
+            mark.bind(f"\0fedbundle-ports-{number % 100}")
+            MARKS[process] = 10_000 + number % 100 * 200, mark
+        except OSError:
+            mark.close()
 
 
 def listener_of_own():
     """A listener at a port that no other process of a test takes: each has 200 of its own, below those that the system
     gives away."""
     while True:
-        port = 10_000 + os.getpid() % 100 * 200 + next(PORTS) % 200
+        port = first_port() + next(PORTS) % 200
         try:
             return socket.create_server(("127.0.0.1", port)), port
         except OSError:

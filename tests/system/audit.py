@@ -307,8 +307,8 @@ def calls(program, above):
             runs += 1
             *_, was_killed, was_cut = run(call, how)
             killed, cuts = killed + was_killed, cuts + was_cut
-    # How many calls come depends on what is ready at one time, so the last ones may not come.
-    want("it is killed, and lines are cut off", killed > runs // 4 and cuts > 0, runs, killed, cuts)
+    # How many calls come depends on what is ready at one time, so on a busy machine most of the last ones do not come.
+    want("it is killed, and lines are cut off", killed >= 10 and cuts > 0, runs, killed, cuts)
     return f"{runs} runs, {killed} kills, after {cuts} of them lines were cut off"
 
 
