@@ -23,8 +23,10 @@ import tempfile
 import time
 from pathlib import Path
 
-TOP = Path(__file__).resolve().parent.parent
-PROGRAM = str(Path(os.environ.get("FEDBUNDLE", str(TOP / "fedbundle"))).resolve())
+sys.path.insert(0, str(Path(__file__).resolve().parent / "lib"))
+from harness import find_program  # noqa: E402
+
+PROGRAM = find_program()
 DOMAIN = "a.example"
 ENDPOINT = "spiffe://a.example/bundle"
 CERTIFICATES = {"abc": "YWJj", "hello": "aGVsbG8=", "forged": "dGVzdA==", "test": "aGVsbG8gd29ybGQ="}

@@ -1,9 +1,8 @@
 #!/usr/bin/env bash
 # What can be tried in three minutes without a proof, and at the end what was not run.
 #
-# The program is the one that $FEDBUNDLE names, or the one that ./fedbundle runs: the released one, if the sources are those
-# of the release. Changed sources are not proved here, and the program is not built from them: then $FEDBUNDLE has to be
-# given.
+# The program is the one of these sources that `./fedbundle --which` finds: the one that $FEDBUNDLE names, or one that was
+# proved and built here, or the released one. Nothing is proved here.
 #
 # usage: quick      a line for each script; the status is 1 if one failed
 set -u
@@ -29,18 +28,8 @@ try pages.py
 try edits.py --texts
 try edits.py --ledger
 try manual.py
-if [ -z "${FEDBUNDLE-}" ]; then
-    if ! tests/release.py >"$room/said" 2>&1; then
-        grep '^differs' "$room/said"
-        echo 'the sources are not those of the release: give the program by $FEDBUNDLE'
-        exit 1
-    fi
-    echo 'passed         tests/release.py'
-    ./fedbundle -V >/dev/null || exit 1
-    FEDBUNDLE=$PWD/crates/fedbundle_cli/out/fedbundle
-else
-    echo 'not run: tests/release.py, since $FEDBUNDLE names the program'
-fi
+try release.py
+FEDBUNDLE=$(./fedbundle --which) || exit 1
 export FEDBUNDLE
 try tour.py
 try views.py

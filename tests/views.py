@@ -12,7 +12,6 @@ usage: views          the exit status is 1 if something is not as wanted
 """
 import hashlib
 import json
-import os
 import re
 import shutil
 import ssl
@@ -24,13 +23,14 @@ from pathlib import Path
 
 TOP = Path(__file__).resolve().parent.parent
 sys.dont_write_bytecode = True
-sys.path.insert(0, str(TOP / "tests/oracle"))
+sys.path[:0] = [str(TOP / "tests/oracle"), str(TOP / "tests/lib")]
 from report import Document, config_id  # noqa: E402
 import json_view  # noqa: E402
 import status_view  # noqa: E402
+from harness import find_program  # noqa: E402
 from held_view import Held  # noqa: E402
 
-PROGRAM = str(Path(os.environ.get("FEDBUNDLE", str(TOP / "fedbundle"))).resolve())
+PROGRAM = find_program()
 CONFIG = TOP / "examples/config.json"
 faults = 0
 
