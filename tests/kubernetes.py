@@ -43,7 +43,6 @@ DEPLOY = TOP / "deploy"
 SCRIPTS = ["fedbundle-every", "fedbundle-fetch", "fedbundle-spire"]
 HELPS = {}
 SECRET = {"fedbundle-tls": {"tls.crt", "tls.key", "ca.crt"}}
-PROGRAM = os.environ.get("FEDBUNDLE")
 reported = 0
 
 
@@ -205,7 +204,7 @@ def faults_of_rights(found):
 
 def faults_of_words(found):
     """Options that a program does not have."""
-    program, helps = PROGRAM or find_program(), HELPS
+    program, helps = find_program(), HELPS
     for container, words in found.commands():
         words = words[2:] if words[0] == "fedbundle-every" and float(words[1]) > 0 else words
         if words[0] == "stunnel4":

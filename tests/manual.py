@@ -106,7 +106,7 @@ def check_install():
         top = Path(folder) / "top"
         out = top / "crates/fedbundle_cli/out"
         out.mkdir(parents=True)
-        for name in ("fedbundle", "crates.txt", "docs/fedbundle.1", "completions/fedbundle.bash", "completions/_fedbundle"):
+        for name in ("fedbundle", "HANDLES", "crates.txt", "docs/fedbundle.1", "completions/fedbundle.bash", "completions/_fedbundle"):
             (top / name).parent.mkdir(parents=True, exist_ok=True)
             shutil.copy(TOP / name, top / name)
         (out / "fedbundle").write_text('#!/bin/sh\necho "$@"\n')

@@ -12,7 +12,6 @@ usage: views          the exit status is 1 if something is not as wanted
 """
 import hashlib
 import json
-import os
 import re
 import ssl
 import subprocess
@@ -27,10 +26,11 @@ sys.path[:0] = [str(TOP / "tests/oracle"), str(TOP / "tests/lib")]
 from report import Document, config_id  # noqa: E402
 import json_view  # noqa: E402
 import status_view  # noqa: E402
+from harness import HANG, find_program  # noqa: E402
 from held_view import Held  # noqa: E402
 from needs import can  # noqa: E402
 
-PROGRAM = str(Path(os.environ.get("FEDBUNDLE", str(TOP / "fedbundle"))).resolve())
+PROGRAM = find_program()
 CONFIG = TOP / "examples/config.json"
 faults = 0
 
@@ -42,7 +42,7 @@ def check(what, holds, seen=""):
 
 
 def run(*words, given=b""):
-    ran = subprocess.run([PROGRAM, *words], input=given, capture_output=True, timeout=600)
+    ran = subprocess.run([PROGRAM, *words], input=given, capture_output=True, timeout=HANG)
     return ran.returncode, ran.stdout.decode(), ran.stderr.decode()
 
 

@@ -12,6 +12,7 @@ import threading
 import time
 from contextlib import nullcontext
 from dataclasses import dataclass, field, replace
+from functools import lru_cache
 from importlib.machinery import SourceFileLoader
 from importlib.util import module_from_spec, spec_from_loader
 from itertools import count
@@ -41,18 +42,11 @@ def stop(text):
     sys.exit(f"{Path(sys.argv[0]).name}: {text}")
 
 
+@lru_cache
 def find_program():
-    """The program that $FEDBUNDLE names, or else the one that ./fedbundle builds. If nobody ran that, but `rt ci` or
-    `rt run` built the program, it is that one."""
-    named = os.environ.get("FEDBUNDLE")
-    by_rt = TOP / "crates/fedbundle_cli/out/fedbundle_cli"
-    if not named and by_rt.exists() and not by_rt.with_name("fedbundle").exists():
-        named = by_rt
-    if not named:
-        if subprocess.run([TOP / "fedbundle", "--version"], stdout=subprocess.DEVNULL).returncode != 0:
-            stop("the program is not built")
-        named = TOP / "crates/fedbundle_cli/out/fedbundle"
-    return str(Path(named).resolve())
+    """The program of these sources that `./fedbundle --which` finds. If there is none, that said so in a line."""
+    found = subprocess.run([TOP / "fedbundle", "--which"], stdout=subprocess.PIPE, text=True)
+    return found.stdout.removesuffix("\n") if found.returncode == 0 else sys.exit(1)
 
 
 def temporary():

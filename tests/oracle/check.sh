@@ -4,7 +4,7 @@
 # program is the one that ./fedbundle runs, or the one that $FEDBUNDLE names. The exit status is 1 if
 # something differs.
 oracle=$(dirname -- "$(readlink -f -- "$0")")
-program=$(readlink -f -- "${FEDBUNDLE:-$oracle/../../fedbundle}")
+program=$("$oracle/../../fedbundle" --which) || exit 1
 cd -- "$oracle/../../examples" || exit 1
 ended=0
 
