@@ -12,15 +12,17 @@
   nothing; and under inject.c with each allocation of each call refused, which must leave the replica as it was.
 - The tests of each binding run; Go's sources are as gofmt and go vet want them.
 
-It needs rt, cc, binutils and python3. What go, cargo or valgrind would do is left out if one is not there.
+It needs cc, binutils and python3. What go, cargo or valgrind would do is left out if one is not there.
 
-usage: library [PREFIX]    PREFIX has what tools/library.sh made, which else is made first; the status is 1 if something fails
+usage: library [PREFIX]    PREFIX has what tools/library.sh made; if left out, the released library is unpacked, if it is one
+                           of these sources; the status is 1 if something fails
 """
 import os
 import re
 import shutil
 import subprocess
 import sys
+import tarfile
 import tempfile
 from importlib.machinery import SourceFileLoader
 from importlib.util import module_from_spec, spec_from_loader
@@ -30,6 +32,9 @@ sys.dont_write_bytecode = True
 sys.path.insert(0, str(Path(__file__).resolve().parent / "lib"))
 from needs import can  # noqa: E402
 TOP = Path(__file__).resolve().parent.parent
+sys.path.insert(0, str(TOP / "tools"))
+import release  # noqa: E402
+
 BINDINGS = TOP / "bindings"
 EXAMPLES = TOP / "examples"
 VERBS = ("report", "bundle", "canon", "explain", "merge", "distrust", "observe")
@@ -378,13 +383,21 @@ def check_bindings(prefix, folder):
             print(f"{name}: passed")
 
 
+def released(folder):
+    """Unpacks the released library, if it is one of these sources."""
+    line = f"library-sources {release.digest_of(release.crates_of(release.LIBRARY))}"
+    if line not in (release.DIST / "MANIFEST").read_text().splitlines():
+        sys.exit("library: no library of these sources: tools/library.sh PREFIX proves and builds one, and PREFIX is then given")
+    with tarfile.open(release.DIST / release.ARCHIVE) as tar:
+        tar.extractall(folder)
+    return folder / release.ROOT
+
+
 def main():
     check_header()
     with tempfile.TemporaryDirectory(prefix="fedbundle-") as name:
         folder = Path(name)
-        prefix = Path(sys.argv[1]).resolve() if len(sys.argv) > 1 else folder / "prefix"
-        if len(sys.argv) == 1 and run([TOP / "tools/library.sh", prefix]).returncode:
-            sys.exit("library: tools/library.sh fails")
+        prefix = Path(sys.argv[1]).resolve() if len(sys.argv) > 1 else released(folder)
         check_names(prefix)
         program = built_c(prefix, folder)
         rows = list(rows_of_commands())

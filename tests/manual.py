@@ -19,6 +19,13 @@ sys.path.insert(0, str(Path(__file__).resolve().parent / "lib"))
 from needs import can  # noqa: E402
 
 TOP = Path(__file__).resolve().parent.parent
+# Where else the version of the program is written, beside rows of crates/command_rows, which the program is run on.
+VERSIONS = {
+    "tools/manual.py": 'VERSION = "{}"',
+    "crates/fedbundle_c/src/opening_c.rt": 'outcome.put(b"{}", out)',
+    "bindings/rust/Cargo.toml": '\nversion = "{}"\n',
+    "deploy/kubernetes/kustomization.yaml": "newTag: {}\n",
+}
 reported = 0
 
 
@@ -83,7 +90,8 @@ def check_version():
     helps = (TOP / "crates/command_line/src/help_texts.rt").read_text()
     text = re.search(r'const VERSION: &str = "\\\n(.*?)";', helps, re.S).group(1)
     version, kit, *formats = text.split("\n")
-    check(f'VERSION = "{version}"' in (TOP / "tools/manual.py").read_text(), "--version: it is that of the manual page")
+    for path, line in VERSIONS.items():
+        check(line.format(version) in (TOP / path).read_text(), f"--version: it is that of {path}")
     replica = (TOP / "crates/fedbundle_cli/src/replica_settings.rt").read_text()
     check("version: first_line(VERSION)," in replica, "--version: it is that of the metrics of a replica")
     check(kit.startswith("kit rattle-kit-"), "--version: the kit has a name")

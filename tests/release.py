@@ -14,7 +14,7 @@ then it is `Unreleased`.
   time, and each fault is found; a changed source is one only on a release.
 - In copies, `./fedbundle` runs a fresh build, else the released program, with a line if a source changed, also if the user may
   not write there, and `rt` is never called. Where it cannot, it says why in a line. `--which` prints a program of these sources
-  alone.
+  alone. `--prove` says what it wants of the machine; what it started ends with it, and what was proved stays.
 
 usage: release [PROGRAM]      the status is 1 if something is not so
 """
@@ -27,6 +27,7 @@ import subprocess
 import sys
 import tarfile
 import tempfile
+import time
 from importlib.machinery import SourceFileLoader
 from importlib.util import module_from_spec, spec_from_loader
 from pathlib import Path
@@ -281,6 +282,8 @@ class Clone:
             if tool.name not in ("rt", "xz") and not (self.bin / tool.name).is_symlink():
                 (self.bin / tool.name).symlink_to(tool)
         (self.bin / "xz").symlink_to(shutil.which("xz"))
+        if not (self.bin / "python3").exists():
+            (self.bin / "python3").symlink_to(sys.executable)
         (self.bin / "rt").write_text(f"#!/bin/sh\n: >'{self.trace}'\nexit 1\n")
         (self.bin / "rt").chmod(0o755)
 
@@ -341,9 +344,11 @@ def check_lacking(clone, room, version):
     shutil.rmtree(clone.out)
     clone.out.parent.chmod(0o555)
     user = [] if os.geteuid() else ["setpriv", "--reuid=65534", "--regid=65534", "--clear-groups"]
+    home, cache = room / "home", room / "home/.cache"
+    home.mkdir(0o555)
     clone.check("cannot write anywhere", clone.run("-V", user=user), said="set XDG_CACHE_HOME")
-    cache = room / "home/.cache"
-    cache.mkdir(parents=True)
+    home.chmod(0o755)
+    cache.mkdir()
     cache.chmod(0o777)
     ran = clone.run("-V", user=user)
     clone.check("unpacks below the user's cache", ran, version, "the sources have changed")
@@ -352,6 +357,34 @@ def check_lacking(clone, room, version):
     shutil.rmtree(cache)
     falsify_archive(clone.top)
     clone.check("has a damaged archive", clone.run("-V"), said="is not what SHA256SUMS says")
+
+
+def has_ended(process):
+    """Whether a process goes away. On a busy machine that takes a while."""
+    for _ in range(2_000):
+        if not Path(f"/proc/{process}").exists():
+            return True
+        time.sleep(0.05)
+    return False
+
+
+def check_prove(clone):
+    """`rt` proves where the crates are, and ends with ./fedbundle. What was proved stays, and nothing is left below .git."""
+    proved, read_end = clone.top / "crates/spiffe_name/out/rlib/stamp", clone.bin / "started"
+    proved.parent.mkdir(parents=True)
+    proved.touch()
+    os.mkfifo(read_end)
+    (clone.bin / "rt").write_text(f"#!/bin/sh\necho $$ $(pwd) >'{read_end}'\nexec sleep 1000\n")
+    before = sorted((clone.top / ".git").rglob("*"))
+    launcher = subprocess.Popen([clone.top / "fedbundle", "--prove"], env=clone.variables, stderr=subprocess.PIPE, text=True)
+    process, _, folder = read_end.read_text().rstrip("\n").partition(" ")
+    launcher.terminate()
+    launcher.wait()
+    check(has_ended(process), "rt ends with ./fedbundle --prove")
+    check(Path(folder) == clone.out.parent, "it proves where the crates are")
+    check(proved.exists() and sorted((clone.top / ".git").rglob("*")) == before, "what was proved stays, and .git is as it was")
+    said = launcher.stderr.read()
+    check("1 were proved before" in said and " GB of memory" in said and " minutes" in said, f"--prove says first: {said.strip()}")
 
 
 def main():
@@ -375,6 +408,7 @@ def main():
         check_changed(clone, version)
         check_built(clone)
         check_lacking(clone, room, version)
+        check_prove(clone)
     sys.exit(1 if reported else 0)
 
 

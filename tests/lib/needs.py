@@ -131,7 +131,7 @@ SCRIPTS = [
            "crates/health_pages web deploy/prometheus-rules.yml deploy/grafana-dashboard.json tests/prometheus-rules.test.yml"),
     Script("image.py", "", BY_HAND, "root mounts bwrap openssl dpkg-deb", "umoci crun", "tools/image.py tools/package.py dist"),
     Script("kubernetes.py", "", BY_HAND, "root mounts kubectl python:yaml", "ip stunnel4 tini openssl", "deploy/kubernetes deploy/fedbundle-*"),
-    Script("library.py", "", BY_HAND, "rt cc ar", "go cargo valgrind c++", f"{LIBRARY} bindings"),
+    Script("library.py", "", BY_HAND, "cc ar xz", "go cargo valgrind c++", f"{LIBRARY} bindings"),
     Script("package.py", "", BY_HAND, "root mounts dpkg-deb", "lintian cc pkg-config /lib/systemd/systemd",
            f"tools/package.py tools/debian dist {UNITS}"),
     Script("reproducible.py", "", BY_HAND, "rt xz", "", "tools/build.py tools/library.sh crates.txt crates dist"),
