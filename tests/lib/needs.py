@@ -28,7 +28,6 @@ PACKAGES = {
     "cargo": "cargo",
     "ip": "iproute2",
     "jq": "jq",
-    "kubectl": "kubernetes-client",
     "lintian": "lintian",
     "man": "man-db",
     "nm": "binutils",
@@ -54,6 +53,8 @@ OTHERS = {
     "root": "it needs root",
     "mounts": "no file system may be mounted here",
     "rt": "there is no rt, the toolchain of Rattle",
+    # That of Debian 12 knows no components.
+    "kubectl": "there is no kubectl",
 }
 
 # When a script is run. FIRST: before all others, without a program. USUAL: by `tests/run`, with a program. PROVED: over what
