@@ -4,8 +4,8 @@
 It shows that each unit runs in its sandbox, that a replica which was killed or whose disk was full starts again by
 itself, and that one whose state is refused does not. A script stands in for spire-server, and no foreign domain answers.
 
-It needs root with mounts, overlayfs and cgroup2, and systemd with nsenter and unshare; if that is not to be had, it is
-left out, with a line. The program is the one that $FEDBUNDLE names, or else the one that ./fedbundle runs.
+It needs root with mounts, overlayfs and cgroup2, and systemd with nsenter and unshare.
+The program is the one that $FEDBUNDLE names, or else the one that ./fedbundle runs.
 
 usage: systemd         a line for each case, and the status is 1 if one failed
 """

@@ -98,9 +98,9 @@ SCRIPTS = [
     Script("names.py", "", FIRST, "git"),
     Script("edits.py", "--texts", FIRST),
 
+    Script("fetch.py", "", USUAL, "openssl"),
     Script("system/sums.py"),
     Script("system/progress.py"),
-    Script("fetch.py", "", USUAL, "openssl"),
     Script("system/change.py", "10", USUAL, "cc nm"),
     Script("health.py", "texts paths bad", USUAL, "openssl curl"),
     Script("system/replica.py", "10 pieces kills full lost socket read anywhere mute most files beginnings fold", USUAL, "cc nm"),
