@@ -612,7 +612,9 @@ class Prometheus:
             with opener.open(url, timeout=HANG) as reply:
                 return json.load(reply)
         except urllib.error.HTTPError as error:
-            return json.load(error)
+            text = error.read()
+            # It says in plain text that it is not ready yet.
+            return json.loads(text) if text.startswith(b"{") else {"status": "none", "data": None}
         except OSError:
             return {"status": "none", "data": None}
 
@@ -648,7 +650,7 @@ def look_at_prometheus(scene, room):
     need("prometheus", "promtool")
     addresses = [scene.one.address, scene.two.address]
     with Prometheus(room, addresses) as server:
-        check(server.becomes("count(up == 1) == 2", 30), "Prometheus scrapes both replicas", server.get("targets"))
+        check(server.becomes("count(up == 1) == 2", HANG), "Prometheus scrapes both replicas", server.get("targets"))
         time.sleep(30)
         status = scene.one.status()
         one = f'{{instance="{scene.one.address}"}}'
