@@ -1,7 +1,7 @@
 #!/usr/bin/env python3
 """Says where the gate's processor time goes: by crate, and by what the prover did for it.
 
-`.ci/run` starts it beside `rt ci`. Five times a second it looks at the processes of the prover that the process above it
+.ci/proofs.py starts it beside `rt ci`. Five times a second it looks at the processes of the prover that the process above it
 started, keeps the processor time of each by the crate and the work that its command line and folder name, and prints a
 table at the signal that ends it, the dearest crate first. What a process used after the last look at it is lost: some
 tenths of a second each.

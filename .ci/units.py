@@ -5,13 +5,12 @@ The unit is the processor time of one fixed proof, that of the crate `spiffe_nam
 alone, in a copy that has no out/ (D-220). One processor takes 40 s for it and another 90. So minutes say little, and the same
 gate is about as many units on both. Where `spiffe_name` itself or the kit changes, the unit does too.
 
-usage: units.py time                       proves the unit, and prints its seconds of a processor
-       units.py cost UNIT TABLE LOG USED   UNIT: those seconds. TABLE: what .ci/processor_time.py printed. LOG: what `rt ci`
-                                           printed. USED: the seconds of processors that `rt ci` used in all
-`cost` prints the crates with their units, the dearest first, which of them were proved in this run and which an earlier
-run on this machine had proved, and the whole. Only a run that did every proof and every wrong body is called whole: each
-run that passed does under a kit whose `rt ci` keeps nothing, and under one that does it says so. The status is 1 if a
-whole run is above MOST units, or if something cannot be read; `time` has it if the unit is not proved.
+usage: units.py time      proves the unit, and prints its seconds of a processor
+
+`cost` prints, for .ci/proofs.py, the crates with their units, the dearest first, which of them were proved in this run and
+which an earlier run on this machine had proved, and the whole. Only a run that did every proof is called whole: each run that
+passed does under a kit whose `rt ci` keeps nothing, and under one that does it says so. It stops if a whole run is above MOST
+units, or if something cannot be read, and `time` if the unit is not proved.
 """
 import re
 import resource
@@ -24,8 +23,8 @@ from pathlib import Path
 TOP = Path(__file__).resolve().parent.parent
 CRATE = "spiffe_name"
 PARTS = ["src", "specs", "proofs"]
-# The units above which a whole run fails. Computed from its parts, a whole run was about 350 on 2026-11-29; none was measured.
-MOST = 600
+# The units above which a whole run fails.
+MOST = 300
 # What `rt ci` says at its end if nothing was taken over from an earlier run, under a kit that keeps what it proved; and
 # the word of `rt help` by which such a kit is known.
 ALL_DONE = "every proof and must-fail edit was done in this run"
@@ -95,30 +94,27 @@ def print_crates(table, unit, kept):
         print(f"{crate:32}" + "".join(units(number, unit) for number in numbers) + "  kept" * (crate in kept))
 
 
-def cost(unit, table, log, used):
+def cost(unit, table, log, used, scripts):
+    """UNIT: the seconds that `time` printed. TABLE: what processor_time.py printed. LOG: what `rt ci` printed. USED: the
+    seconds of processors that it used in all. SCRIPTS: those of what was run after it."""
     proved, kept, is_whole = read_log(log)
     seen = sum(numbers[-1] for numbers in table.values())
     print_crates(table, unit, kept)
     print(f"{'what is not of the prover':32}{'':24}{units(max(0, used - seen), unit)}")
+    print(f"{'the scripts and wrong bodies':32}{'':24}{units(scripts, unit)}")
     print(f"proved in this run: {len(proved)} crates{''.join(f' {name}' for name in sorted(proved))}")
     print(f"kept from an earlier run: {len(kept)} crates{''.join(f' {name}' for name in sorted(kept))}")
     whole = "the whole gate" if is_whole else "a part of the gate, since not all was proved and tried in this run"
-    print(f"{used / unit:.1f} units of {unit:.1f} s of a processor: {whole}")
-    if is_whole and used / unit > MOST:
+    all_units = (used + scripts) / unit
+    print(f"{all_units:.1f} units of {unit:.1f} s of a processor: {whole}")
+    if is_whole and all_units > MOST:
         stop(f"that is above {MOST} units")
 
 
 def main():
-    words = sys.argv[1:]
-    if words == ["time"]:
-        time_unit()
-    elif len(words) == 5 and words[0] == "cost":
-        unit, used = float(words[1]), float(words[4])
-        if unit <= 0:
-            stop("the unit is no time")
-        cost(unit, read_table(Path(words[2]).read_text()), Path(words[3]).read_text(), used)
-    else:
-        stop("usage: units.py time, or units.py cost UNIT TABLE LOG USED")
+    if sys.argv[1:] != ["time"]:
+        stop("usage: units.py time")
+    time_unit()
 
 
 if __name__ == "__main__":

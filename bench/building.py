@@ -10,6 +10,9 @@ from pathlib import Path
 
 BENCH = Path(__file__).resolve().parent
 TOP = BENCH.parent
+sys.path.insert(0, str(TOP / "tests/lib"))
+from harness import find_program  # noqa: E402, F401
+
 OUT = BENCH / "out"
 REGISTRY = Path("/usr/share/cargo/registry")
 # The packages of the crates that the peers use.
@@ -25,15 +28,6 @@ TIME = "/usr/bin/time"
 
 def stop(text):
     sys.exit(f"run: {text}")
-
-
-def built_program():
-    """The program that is measured whole: the one that $FEDBUNDLE names, or ./fedbundle made, or `rt ci` did."""
-    made = [TOP / "crates/fedbundle_cli/out" / name for name in ("fedbundle", "fedbundle_cli")]
-    program = os.environ.get("FEDBUNDLE", str(next((path for path in made if path.exists()), made[0])))
-    if not os.access(program, os.X_OK):
-        stop(f"{program} is not there: build it with ./fedbundle --version, or name it in $FEDBUNDLE")
-    return program
 
 
 def earlier_programs():

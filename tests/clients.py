@@ -39,12 +39,12 @@ from pathlib import Path
 
 sys.dont_write_bytecode = True
 sys.path.insert(0, str(Path(__file__).resolve().parent / "lib"))
-from harness import TOP, find_program, listener_of_own, shown, temporary  # noqa: E402
+from harness import HANG, TOP, find_program, listener_of_own, shown, temporary  # noqa: E402
+from needs import can, left_out  # noqa: E402
 
 BINDINGS, EXAMPLES = TOP / "bindings", TOP / "examples"
 NOBODY = 65534
 # Nothing here takes so long, unless a client waits for ever.
-MOST_SECONDS = 300
 ENDPOINT = "spiffe://a.example/spire/server"
 RECEIPTS = (EXAMPLES / "receipts.jsonl").read_bytes().splitlines()
 FIRST = json.loads(RECEIPTS[0])
@@ -110,7 +110,7 @@ class Replica:
 
     def kill(self):
         self.process.kill()
-        self.process.wait(60)
+        self.process.wait(HANG)
         self.process.stdout.close()
 
     def __enter__(self):
@@ -154,7 +154,7 @@ class Command:
         self.folder.chmod(0o755)
 
     def run(self, words, data=b""):
-        return subprocess.run([self.program, *words], input=data, capture_output=True, timeout=60, user=self.user)
+        return subprocess.run([self.program, *words], input=data, capture_output=True, timeout=HANG, user=self.user)
 
     def ask(self, row):
         data = base64.b64decode(row.get("Input", "")) + b" " * row.get("Spaces", 0)
@@ -272,7 +272,7 @@ class Language:
 
     def end(self):
         self.process.stdin.close()
-        want(f"{self.name}, the program ends", self.process.wait(60) == 0)
+        want(f"{self.name}, the program ends", self.process.wait(HANG) == 0)
         self.process.stdout.close()
 
 
@@ -281,7 +281,7 @@ def parties(program, programs, user=None):
 
 
 def asked(call, *texts, **more):
-    return {"Call": call, "Texts": list(texts), "Seconds": 60, **more}
+    return {"Call": call, "Texts": list(texts), "Seconds": HANG, **more}
 
 
 def compare(what, row, askers, places):
@@ -396,12 +396,12 @@ def check_requests(program, programs, above):
                     for i in range(len(askers))]
         places, config = [one.socket for one in replicas], replicas[0].config
         for one in places:
-            failed = within(20, lambda: b"fault S9" in askers[0].run(["status", "--at", one]).stdout)
+            failed = within(HANG, lambda: b"fault S9" in askers[0].run(["status", "--at", one]).stdout)
             want("the session with the peer has failed", failed)
         check_rows(askers, places, [one.read for one in replicas], config)
         for asker, one in zip(askers, replicas):
             want(f"{asker.name}, stop", asker.ask({**asked("stop"), "Socket": one.socket}) == {"answer": None})
-            want(f"{asker.name}, it has ended", one.process.wait(60) == 0)
+            want(f"{asker.name}, it has ended", one.process.wait(HANG) == 0)
         came = compare("after stop", asked("report"), askers, places)
         want("no replica", came == refused("no replica", 3), came)
         for asker in askers:
@@ -411,10 +411,10 @@ def check_requests(program, programs, above):
 def check_rows(askers, places, reads, config):
     has_lists = b"--at" in askers[0].run(["list", "--help"]).stdout
     if not has_lists:
-        print("the program is older than 0.6.0: list and graph of a replica are left out")
+        left_out("list and graph of a replica", "the program is older than 0.6.0")
     has_moves = b"--at" in askers[0].run(["reseed", "--help"]).stdout
     if not has_moves:
-        print("the program is older than 0.7.0: config, diff, migrate and reseed of a replica are left out")
+        left_out("config, diff, migrate and reseed of a replica", "the program is older than 0.7.0")
     for code, row in refusals(config):
         came = compare("refusal", row, askers, places)
         want(f"{row['Call']}, {code}", came.get("code") == code, came)
@@ -486,7 +486,7 @@ def check_stopped(program, askers, above):
             took = time.monotonic() - start
             codes.add(came.get("code"))
             want(f"{asker.name}, a replica that is stopped", came == refused("no reply", 3), came)
-            want(f"{asker.name}, the time limit", 0.9 < took < 5, took)
+            want(f"{asker.name}, the time limit", 0.9 < took < 60, took)
         os.kill(replica.process.pid, signal.SIGCONT)
         came = compare("a replica that goes on", asked("report"), askers, [replica.socket] * len(askers))
         want("it goes on", "answer" in came, came)
@@ -501,8 +501,7 @@ def full(config):
 
 def check_permission(program, programs, above):
     """The socket has mode 0600, so that another user may not ask."""
-    if os.geteuid() != 0:
-        print("not root: a socket without permission is left out")
+    if not can("root", "a socket without permission"):
         return
     askers = {"the command": lambda: Command(program, NOBODY)}
     askers.update({name: partial(Language, name, words("requests"), NOBODY) for name, words in programs.items()})
@@ -512,7 +511,7 @@ def check_permission(program, programs, above):
                 asker = make()
                 came = asker.ask({**asked("report"), "Socket": replica.socket})
             except PermissionError:
-                print(f"another user cannot run {name}: a socket without permission is left out")
+                left_out("a socket without permission", f"another user cannot run {name}")
                 continue
             want(f"{name}, no permission", came == refused("S9", 3, "S9 Io"), came)
             asker.end()
@@ -679,14 +678,14 @@ def check_endless(askers, above):
                 start = time.monotonic()
                 came = asker.ask({**asked("report"), "Socket": path})
                 took = time.monotonic() - start
-                want(f"{asker.name}, endless", came == refused("no replica", 3) and took < 5, head, came, took)
+                want(f"{asker.name}, endless", came == refused("no replica", 3) and took < 60, head, came, took)
 
 
 # ---- programs
 
 def run_step(name, words, where, environment=None):
     """A step of a build or a test, which prints nothing if it passes. Whether it passes."""
-    done = subprocess.run([str(word) for word in words], cwd=where, capture_output=True, text=True, timeout=300,
+    done = subprocess.run([str(word) for word in words], cwd=where, capture_output=True, text=True, timeout=6 * HANG,
                           env={**os.environ, **(environment or {})})
     right = done.returncode == 0 and not (name in ("gofmt", "packages") and done.stdout)
     want(name, right, (done.stdout + done.stderr)[-3_000:])
@@ -696,12 +695,9 @@ def run_step(name, words, where, environment=None):
 
 def built_go(folder):
     """How each program in Go is called, by the name of the language; none if Go is not there."""
-    if not shutil.which("go"):
-        print("go is not there: its client is left out")
+    if not can("go", "the client in Go"):
         return {}
-    race = ["-race"] if shutil.which("cc") else []
-    if not race:
-        print("cc is not there: Go without the race detector")
+    race = ["-race"] if can("cc", "the race detector of Go") else []
     go, packages, pure = BINDINGS / "go", ["./client", "./requests", "./watch"], {"CGO_ENABLED": "0"}
     others = "{{if not .Standard}}{{if ne .ImportPath \"fedbundle.example/fedbundle/client\"}}{{.}}{{end}}{{end}}"
     built = run_step("go build", ["go", "build", *race, "-o", f"{folder}/", "./requests", "./watch"], go)
@@ -718,16 +714,12 @@ def laid_python(folder):
     names = {"requests": "client_requests.py", "watch": "watch.py"}
     for file in ("fedbundle_client.py", *names.values()):
         shutil.copy(BINDINGS / "python" / file, folder)
-    return {"Python": lambda name: [sys.executable, "-BS", folder / names[name]]}
-
-
-def over(*_):
-    raise TimeoutError(f"more than {MOST_SECONDS} s")
+    # Another user may not reach the Python that runs this.
+    python = shutil.which("python3", path="/usr/bin:/bin") or sys.executable
+    return {"Python": lambda name: [python, "-BS", folder / names[name]]}
 
 
 def main():
-    signal.signal(signal.SIGALRM, over)
-    signal.alarm(MOST_SECONDS)
     program = find_program()
     with temporary() as name:
         above = Path(name)

@@ -6,7 +6,7 @@ two sides of mutual TLS run as stunnel over loopback, with certificates that ope
 good one and others. fedbundle-spire runs with stand-ins for fedbundle and spire-server, which
 record how they were called. For fedbundle-fetch there is tests/fetch.py.
 
-What the machine lacks is skipped, with a line that says so. The program is the one that $FEDBUNDLE
+What the machine lacks is left out. The program is the one that $FEDBUNDLE
 names, or else the one that ./fedbundle runs.
 
 usage: deploy [WORD..]   runs the cases whose name has one of the words, or all; a line for each,
@@ -37,7 +37,8 @@ from collections.abc import Callable, Iterator
 from pathlib import Path
 
 sys.path.insert(0, str(Path(__file__).resolve().parent / "lib"))
-from harness import find_program  # noqa: E402
+from harness import HANG, find_program  # noqa: E402
+from needs import left_out, why_not  # noqa: E402
 
 TOP = Path(__file__).resolve().parent.parent
 DEPLOY = TOP / "deploy"
@@ -63,7 +64,7 @@ def tool(*names: str) -> str:
     """The path of a program of the machine, which may have one of these names."""
     found = [path for name in names if (path := shutil.which(name, path=search_path()))]
     if not found:
-        raise Skipped(f"{names[0]} is not there")
+        raise Skipped(why_not(names[0]))
     return found[0]
 
 
@@ -74,7 +75,7 @@ def search_path() -> str:
 def run(*words: str | Path, folder: Path | None = None) -> tuple[int, str]:
     """The status of a program, and what it printed on both streams."""
     ran = subprocess.run([str(word) for word in words], stdin=subprocess.DEVNULL, cwd=folder,
-                         stdout=subprocess.PIPE, stderr=subprocess.STDOUT, timeout=30)
+                         stdout=subprocess.PIPE, stderr=subprocess.STDOUT, timeout=HANG)
     return ran.returncode, ran.stdout.decode(errors="replace")
 
 
@@ -85,7 +86,7 @@ def free_port() -> int:
 
 def until(right: Callable[[], bool], what: str) -> None:
     """Waits for something, and not for ever."""
-    end = time.monotonic() + 10
+    end = time.monotonic() + HANG
     while not right():
         want(time.monotonic() < end, f"{what} wanted", "nothing came")
         time.sleep(0.02)
@@ -170,7 +171,7 @@ def ends_of_replica(folder: Path) -> Iterator[tuple[str, int]]:
     shutil.copy(TOP / "examples/config.json", folder)
     yield "a state that is not there, and refused", run(*words, folder=folder)[0]
     files = ["--config", "config.json", "--state", "state"]
-    subprocess.run([words[0], "new", *files], cwd=folder, check=True, timeout=30)
+    subprocess.run([words[0], "new", *files], cwd=folder, check=True, timeout=HANG)
     (folder / "socket").touch()
     yield "a socket that failed", run(*words, folder=folder)[0]
     (folder / "state").write_text("nonsense\n")
@@ -234,7 +235,7 @@ def commands(folder: Path) -> None:
     words = ["--domain", first["domain"], "--endpoint", first["endpoint"], "--key", first["key"]]
     document = re.sub(rb'^\{"doc":(.*),"domain":"[^"]*","endpoint":.*$', rb"\1", receipt)
     subprocess.run([program, "observe", *files, *words], cwd=folder / "one", input=document,
-                   stdout=subprocess.DEVNULL, check=True, timeout=30)
+                   stdout=subprocess.DEVNULL, check=True, timeout=HANG)
     pull = command("fedbundle-pull@.service", address)
     server = subprocess.Popen([program, *serve], cwd=folder / "one", stdout=subprocess.PIPE)
     try:
@@ -242,7 +243,7 @@ def commands(folder: Path) -> None:
         for new in [1] + [0] * (sessions - 1):
             told = run(program, *pull, folder=folder / "two")
             want(told == (0, f"new {new}\n"), "a pull wanted", told)
-        ended, _ = server.communicate(timeout=20)
+        ended, _ = server.communicate(timeout=HANG)
         want(server.returncode == 0, "an end of serve wanted", (server.returncode, ended))
     finally:
         server.kill()
@@ -264,7 +265,7 @@ class Staying:
         (self.folder / name).mkdir()
         shutil.copy(TOP / "examples/config.json", self.folder / name / "config.json")
         files = ["--config", "config.json", "--state", "state"]
-        subprocess.run([self.program, "new", *files], cwd=self.folder / name, check=True, timeout=30)
+        subprocess.run([self.program, "new", *files], cwd=self.folder / name, check=True, timeout=HANG)
         changes = {"/run/fedbundle/socket": "socket", "/run/fedbundle/read": "read", "127.0.0.1:8471": f"127.0.0.1:{own}",
                    "127.0.0.1:8472,127.0.0.1:8473": ",".join(f"127.0.0.1:{one}" for one in peers)}
         words = command("fedbundle-replica.service")
@@ -283,7 +284,7 @@ class Staying:
         words = ["--domain", said["domain"], "--endpoint", said["endpoint"], "--key", said["key"]]
         document = re.sub(rb'^\{"doc":(.*),"domain":"[^"]*","endpoint":.*$', rb"\1", receipt)
         ran = subprocess.run([self.program, "observe", "--at", "socket", *words], input=document,
-                             cwd=self.folder / name, capture_output=True, timeout=30)
+                             cwd=self.folder / name, capture_output=True, timeout=HANG)
         want((ran.returncode, ran.stdout) == (0, receipt + b"\n"), "the receipt wanted", ran)
 
     def ask(self, name: str, word: str) -> tuple[int, str]:
@@ -418,7 +419,7 @@ def listens(port: int) -> bool:
 
 def answer(link: socket.socket) -> bytes:
     """What comes back of what is sent, or nothing if the connection is not let through."""
-    link.settimeout(5)
+    link.settimeout(30)
     with contextlib.suppress(OSError):
         link.sendall(b"hello")
         return link.recv(100)
@@ -799,7 +800,7 @@ def spire_stuck(folder: Path) -> None:
     lines = [spire.silent("it took longer than 1 s, and was ended"),
              f"a.test: failed: {folder}/spire-server bundle set: {again}", "b.test: unchanged",
              f"c.test: failed: {folder}/spire-server bundle set: {again}"]
-    want(seen == (1, lines, []) and took < 5, "one wait wanted", (took, seen))
+    want(seen == (1, lines, []) and took < 60, "one wait wanted", (took, seen))
     (folder / "list").unlink()
     seen = spire.run("--wait", "1")
     lines = ["a.test: given, sequence 2", "b.test: unchanged", "c.test: given, sequence 2"]
@@ -808,7 +809,7 @@ def spire_stuck(folder: Path) -> None:
     stand_in(folder / "fedbundle", "exec sleep 60\n")
     took, seen = timed(lambda: spire.run("--wait", "1"))
     told = f"fedbundle-spire: {folder}/fedbundle bundle took longer than 1 s, and was ended"
-    want(seen == (3, [told], []) and took < 5, "the end of the run wanted", (took, seen))
+    want(seen == (3, [told], []) and took < 60, "the end of the run wanted", (took, seen))
     for number in ("0.9", "3601", "x"):
         status, lines, calls = spire.run("--wait", number)
         want(status == 2 and not calls, "a word on the command line wanted", lines)
@@ -831,7 +832,7 @@ def spire_and_stuck_replica(folder: Path) -> None:
         os.kill(staying.running["one"].pid, signal.SIGSTOP)
         took, seen = timed(lambda: spire.run(*map(str, words), "--wait", "1"))
         told = f"fedbundle-spire: {staying.program} bundle took longer than 1 s, and was ended"
-        want(seen == (3, [told], []) and took < 5, "the end of the run wanted", (took, seen))
+        want(seen == (3, [told], []) and took < 60, "the end of the run wanted", (took, seen))
         os.kill(staying.running["one"].pid, signal.SIGCONT)
         status, lines, calls = spire.run(*map(str, words))
         lines = [line.partition(", ")[0] for line in lines]
@@ -1217,7 +1218,8 @@ def run_case(name: str, case: Callable[[Path], None], folder: Path) -> str:
     try:
         case(folder)
     except Skipped as lack:
-        word, told = "skipped", f": {lack}"
+        word = "skipped"
+        left_out(name, lack)
     except Wrong as error:
         word, told = "failed", f": {error}"
     except Exception:

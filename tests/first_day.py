@@ -71,7 +71,7 @@ def follow(folder):
         two.run(command)
     reports = [[machine.run(command) for command in looks] for machine in (one, two)]
     took = time.monotonic() - began
-    serving.wait(timeout=60)
+    serving.wait(timeout=600)
     if reports[0] != reports[1] or "sequence 2" not in reports[0][0]:
         sys.exit(f"the replicas differ: {reports}")
     print(reports[0][0], end="")

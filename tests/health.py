@@ -27,9 +27,7 @@ import base64
 import functools
 import hashlib
 import json
-import os
 import re
-import shutil
 import socket
 import struct
 import subprocess
@@ -45,7 +43,8 @@ from pathlib import Path
 sys.dont_write_bytecode = True
 sys.path.insert(0, str(Path(__file__).resolve().parent / "lib"))
 from browser import Browser, find_browser  # noqa: E402
-from harness import TOP, find_program, listener_of_own, temporary  # noqa: E402
+from harness import HANG, TOP, find_program, listener_of_own, temporary  # noqa: E402
+from needs import has, left_out, why_not  # noqa: E402
 from watched_replica import EXAMPLES, WatchedReplica, has_health, receipts_of_examples  # noqa: E402
 
 RULES = TOP / "deploy/prometheus-rules.yml"
@@ -73,8 +72,8 @@ def check(is_so, what, *seen):
 
 def need(*names):
     for name in names:
-        if not shutil.which(name):
-            raise Lacking(f"{name} is not there")
+        if not has(name):
+            raise Lacking(why_not(name))
 
 
 # ---- two replicas
@@ -142,7 +141,7 @@ class Scene:
             replica.__enter__()
         self.observe(6, self.soon, self.stolen)
         self.one.at("distrust", "--domain", "a.example", "--key", sha256(self.stolen))
-        end = time.monotonic() + 20
+        end = time.monotonic() + HANG
         while self.one.status()["peers"][0]["ended_well"] is None and time.monotonic() < end:
             time.sleep(0.1)
         return self
@@ -180,7 +179,7 @@ class Reply:
 
 
 def curl(address, path, *words):
-    ran = subprocess.run(["curl", "-sS", "-i", "--max-time", "60", "--path-as-is", "--noproxy", "*", *words, f"http://{address}{path}"],
+    ran = subprocess.run(["curl", "-sS", "-i", "--max-time", str(HANG), "--path-as-is", "--noproxy", "*", *words, f"http://{address}{path}"],
                          capture_output=True)
     if ran.returncode:
         raise OSError(f"curl {path}: {ran.stderr.decode()}")
@@ -436,9 +435,9 @@ def look_at_unfinished(replica):
     for thread in threads:
         thread.start()
     for thread in threads:
-        thread.join(120)
+        thread.join(HANG)
     for name in cases:
-        read, seconds = ends.get(name, (None, 120))
+        read, seconds = ends.get(name, (None, HANG))
         check(is_one_reply(read, True), f"a request without an end, {name}: {said_of(read)}", read)
     check(is_answering(replica), "the replica answers after them")
 
@@ -451,7 +450,7 @@ def longest_bundle(replica, times=40):
     for _ in range(times):
         began = time.monotonic()
         with socket.socket(socket.AF_UNIX) as stream:
-            stream.settimeout(30)
+            stream.settimeout(HANG)
             stream.connect(str(replica.folder / "socket"))
             stream.sendall(json.dumps(["bundle", "--domain", "a.example"]).encode() + b"\n")
             stream.shutdown(socket.SHUT_WR)
@@ -492,7 +491,7 @@ def look_at_slow(scene, room):
     thread.join()
     for stream in [*streams, *silent]:
         stream.close()
-    end = time.monotonic() + 5
+    end = time.monotonic() + HANG
     while not is_answering(scene.one) and time.monotonic() < end:
         time.sleep(0.1)
     check(is_answering(scene.one), "it answers when they have left")
@@ -610,10 +609,12 @@ class Prometheus:
         url = f"http://{self.address}/api/v1/{path}?{urllib.parse.urlencode(fields)}"
         opener = urllib.request.build_opener(urllib.request.ProxyHandler({}))
         try:
-            with opener.open(url, timeout=20) as reply:
+            with opener.open(url, timeout=HANG) as reply:
                 return json.load(reply)
         except urllib.error.HTTPError as error:
-            return json.load(error)
+            text = error.read()
+            # It says in plain text that it is not ready yet.
+            return json.loads(text) if text.startswith(b"{") else {"status": "none", "data": None}
         except OSError:
             return {"status": "none", "data": None}
 
@@ -649,7 +650,7 @@ def look_at_prometheus(scene, room):
     need("prometheus", "promtool")
     addresses = [scene.one.address, scene.two.address]
     with Prometheus(room, addresses) as server:
-        check(server.becomes("count(up == 1) == 2", 30), "Prometheus scrapes both replicas", server.get("targets"))
+        check(server.becomes("count(up == 1) == 2", HANG), "Prometheus scrapes both replicas", server.get("targets"))
         time.sleep(30)
         status = scene.one.status()
         one = f'{{instance="{scene.one.address}"}}'
@@ -870,10 +871,10 @@ def look_at_without_script(scene):
 
 def look_at_page(scene, room, pictures=None):
     if not find_browser():
-        raise Lacking("chromium is not there")
+        raise Lacking(why_not("chromium"))
     replica = scene.one
     ran = subprocess.run([find_browser(), *Browser.FLAGS[:-1], "--dump-dom", "--virtual-time-budget=5000", f"--user-data-dir={room}/dump",
-                          f"http://{replica.address}/"], capture_output=True, timeout=120)
+                          f"http://{replica.address}/"], capture_output=True, timeout=HANG)
     check(replica.status()["config"].encode() in ran.stdout and str(GREATEST).encode() in ran.stdout, "chromium --dump-dom has what is looked at", ran.stdout[-300:])
     with Browser() as browser:
         browser.show(1200, 900)
@@ -930,7 +931,7 @@ def main():
                 try:
                     part(scene, room, **({"pictures": given.pictures} if name == "page" else {}))
                 except Lacking as lack:
-                    print(f"left out: {name}, since {lack}")
+                    left_out(name, lack)
                 except (AssertionError, OSError, ValueError) as why:
                     check(False, f"{name} goes to its end", why)
                 print(f"-- {name}: {time.monotonic() - began:.0f} s", flush=True)

@@ -35,6 +35,8 @@ import time
 from pathlib import Path
 
 sys.dont_write_bytecode = True
+sys.path.insert(0, str(Path(__file__).resolve().parent / "lib"))
+from needs import left_out, require  # noqa: E402
 TOP = Path(__file__).resolve().parent.parent
 USER = 65532
 ROUNDS = 20
@@ -183,7 +185,7 @@ class Container:
 
     def first(self):
         """The container's first process, as this machine numbers it."""
-        end = time.monotonic() + 10
+        end = time.monotonic() + 300
         while time.monotonic() < end:
             found = Path(f"/proc/{self.began.pid}/task/{self.began.pid}/children").read_text().split()
             if found and Path(f"/proc/{found[0]}/comm").read_text() != "bwrap\n":
@@ -193,7 +195,7 @@ class Container:
 
     def run(self, *words):
         """Runs a command of the image next to it, with the same volumes."""
-        return subprocess.run(self.enter(list(words)), capture_output=True, text=True, timeout=60, stdin=subprocess.DEVNULL)
+        return subprocess.run(self.enter(list(words)), capture_output=True, text=True, timeout=600, stdin=subprocess.DEVNULL)
 
     def ready(self):
         line = self.began.stdout.readline().decode()
@@ -218,7 +220,7 @@ class Container:
 def ask(container, *words, given=b""):
     """Asks the replica of a container from outside, by the program of the image."""
     return subprocess.run([container.image.root / "usr/bin/fedbundle", *words, "--at", container.room / "run/socket"], input=given,
-                          capture_output=True, timeout=30)
+                          capture_output=True, timeout=600)
 
 
 def runs(image):
@@ -314,14 +316,14 @@ def ends(image):
 
 def crun(image):
     if not shutil.which("crun") or not shutil.which("umoci"):
-        raise Lacking("crun or umoci is not there")
+        raise Lacking("there is no crun or no umoci")
     bundle = image.room / "bundle"
     config = json.loads((bundle / "config.json").read_text())
     config["process"]["terminal"] = False
     config["process"]["args"] = [*image.config["config"]["Entrypoint"], "fedbundle", "--version"]
     (bundle / "config.json").write_text(json.dumps(config))
     ran = subprocess.run(["crun", "--root", image.room / "crun", "--cgroup-manager=disabled", "run", "--bundle", bundle, f"fedbundle-{os.getpid()}"],
-                         capture_output=True, text=True, timeout=60, stdin=subprocess.DEVNULL)
+                         capture_output=True, text=True, timeout=600, stdin=subprocess.DEVNULL)
     if ran.returncode and "cgroup" in ran.stderr:
         raise Lacking(f"crun runs nothing here: {ran.stderr.strip()}")
     check(ran.returncode == 0 and ran.stdout.startswith("fedbundle "), f"crun runs it: {(ran.stdout or ran.stderr).splitlines()[:1]}")
@@ -332,23 +334,22 @@ PARTS = {"made": made, "runs": runs, "ends": ends, "crun": crun}
 
 def main():
     tried = ["bwrap", "--ro-bind", "/", "/", "--unshare-user", "--unshare-pid", "true"]
-    if os.geteuid() or not shutil.which("bwrap") or subprocess.run(tried, capture_output=True).returncode:
-        print("left out: all, since it needs root and a bwrap that makes name spaces")
-        return 0
+    require(__file__)
+    if subprocess.run(tried, capture_output=True).returncode:
+        sys.exit("image: bwrap makes no name spaces here")
     with tempfile.TemporaryDirectory() as folder:
         os.chmod(folder, 0o755)
         try:
             image = Image(Path(folder))
         except Lacking as lack:
-            print(f"left out: all, since {lack}")
-            return 0
+            sys.exit(f"image: {lack}")
         for name, part in PARTS.items():
             if not sys.argv[1:] or name in sys.argv[1:]:
                 began = time.monotonic()
                 try:
                     part(image)
                 except Lacking as lack:
-                    print(f"left out: {name}, since {lack}")
+                    left_out(name, lack)
                 print(f"-- {name}: {time.monotonic() - began:.0f} s", flush=True)
     print(f"{reported} things are not so")
     return 1 if reported else 0

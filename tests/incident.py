@@ -23,8 +23,10 @@ import tempfile
 import time
 from pathlib import Path
 
-TOP = Path(__file__).resolve().parent.parent
-PROGRAM = str(Path(os.environ.get("FEDBUNDLE", str(TOP / "fedbundle"))).resolve())
+sys.path.insert(0, str(Path(__file__).resolve().parent / "lib"))
+from harness import HANG, find_program  # noqa: E402
+
+PROGRAM = find_program()
 DOMAIN = "a.example"
 ENDPOINT = "spiffe://a.example/bundle"
 CERTIFICATES = {"abc": "YWJj", "hello": "aGVsbG8=", "forged": "dGVzdA==", "test": "aGVsbG8gd29ybGQ="}
@@ -51,7 +53,7 @@ def config(*seeds):
 
 def run(*words, given=b"", status=0):
     """The output of the program, which has to end with this status, and what is on standard error."""
-    ran = subprocess.run([PROGRAM, *words], input=given, capture_output=True, timeout=60)
+    ran = subprocess.run([PROGRAM, *words], input=given, capture_output=True, timeout=HANG)
     check(f"{words[0]} ends with {status}", ran.returncode == status, f"{ran.returncode} {ran.stderr.decode()}")
     return ran.stdout, ran.stderr
 
@@ -100,7 +102,7 @@ class Replica:
         server = subprocess.Popen([PROGRAM, *words], stdout=subprocess.DEVNULL)
         wait_for(address)
         self.run("pull", "--peer", address)
-        check("serve ends with 0", server.wait(timeout=60) == 0)
+        check("serve ends with 0", server.wait(timeout=HANG) == 0)
 
 
 def named(document):

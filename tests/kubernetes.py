@@ -32,6 +32,7 @@ sys.dont_write_bytecode = True
 sys.path.insert(0, str(Path(__file__).resolve().parent / "lib"))
 from harness import find_program  # noqa: E402
 from machine import Lacking, Machine, TOP, in_own_mounts, mount, raise_loopback  # noqa: E402
+from needs import has, left_out, require, why_not  # noqa: E402
 from watched_replica import has_health  # noqa: E402
 
 try:
@@ -42,7 +43,6 @@ DEPLOY = TOP / "deploy"
 SCRIPTS = ["fedbundle-every", "fedbundle-fetch", "fedbundle-spire"]
 HELPS = {}
 SECRET = {"fedbundle-tls": {"tls.crt", "tls.key", "ca.crt"}}
-PROGRAM = os.environ.get("FEDBUNDLE")
 reported = 0
 
 
@@ -54,8 +54,6 @@ def check(is_so, what):
 
 def render(folder=DEPLOY / "kubernetes"):
     kubectl = os.environ.get("KUBECTL", "kubectl")
-    if not yaml or not shutil.which(kubectl):
-        raise Lacking("kubectl or Python's yaml is not there")
     ran = subprocess.run([kubectl, "kustomize", folder], capture_output=True, text=True)
     if ran.returncode or ran.stderr:
         sys.exit(f"kubernetes: kubectl kustomize: {ran.stderr}")
@@ -206,7 +204,7 @@ def faults_of_rights(found):
 
 def faults_of_words(found):
     """Options that a program does not have."""
-    program, helps = PROGRAM or find_program(), HELPS
+    program, helps = find_program(), HELPS
     for container, words in found.commands():
         words = words[2:] if words[0] == "fedbundle-every" and float(words[1]) > 0 else words
         if words[0] == "stunnel4":
@@ -303,7 +301,7 @@ class Pod(Machine):
 
     def connect(self, number):
         """A cable to the bridge between the pods."""
-        end = time.monotonic() + 10
+        end = time.monotonic() + 300
         while os.readlink(f"/proc/{self.holder.pid}/ns/net") == os.readlink("/proc/self/ns/net") and time.monotonic() < end:
             time.sleep(0.01)
         inside = ["nsenter", f"--net=/proc/{self.holder.pid}/ns/net", "ip"]
@@ -344,7 +342,7 @@ class Pod(Machine):
         self.running[name] = subprocess.Popen(words, stdin=subprocess.DEVNULL, stdout=log, stderr=log)
 
     def ask(self, *words, given=b"", name="replica"):
-        return subprocess.run([*self.enter(name), *words], input=given, capture_output=True, timeout=30)
+        return subprocess.run([*self.enter(name), *words], input=given, capture_output=True, timeout=300)
 
     def said(self, name):
         return (self.folder / f"{name}.log").read_text()
@@ -356,7 +354,7 @@ class Pod(Machine):
 
 
 def until(right, what):
-    end = time.monotonic() + 30
+    end = time.monotonic() + 300
     while not (seen := right()) and time.monotonic() < end:
         time.sleep(0.1)
     check(bool(seen), what)
@@ -413,7 +411,7 @@ def health_component(plain):
     listed = rendered_with("health")
     lacking = set() if has_health(find_program()) else {"replica: fedbundle replica has no --health"}
     for lack in lacking:
-        print(f"left out: a part of the component for health, since {lack}")
+        left_out("a part of the component for health", lack)
     faults = set(faults_of(listed)) - lacking
     words = Objects(listed).containers["replica"]["args"]
     check(words == [*Objects(plain).containers["replica"]["args"], "--health", "0.0.0.0:9463", "--listen-anywhere"] and not faults,
@@ -460,10 +458,10 @@ def ending(pod):
     for name in ("replica", "fetch", "spire", "tls-serve", "tls-pull"):
         began = time.monotonic()
         pod.running[name].send_signal(signal.SIGTERM)
-        pod.running[name].wait(20)
+        pod.running[name].wait(300)
         took = time.monotonic() - began
-        # The others are Python or stunnel, which a busy machine keeps waiting; they hold nothing.
-        check(took < (1 if name == "replica" else 8), f"{name} ends {took:.2f} s after SIGTERM, with status {pod.running.pop(name).returncode}")
+        # A cluster waits thirty seconds.
+        check(took < 25, f"{name} ends {took:.2f} s after SIGTERM, with status {pod.running.pop(name).returncode}")
     check(pod.ask(*pod.found.containers["replica"]["livenessProbe"]["exec"]["command"]).returncode == 3, "then the probe fails")
     pod.begin("replica")
     until(lambda: b"\nreceipts 1 " in pod.ask("fedbundle", "report", "--at", "/run/fedbundle/socket").stdout, "the pod comes back with what it had")
@@ -471,8 +469,8 @@ def ending(pod):
 
 def pods(room):
     for tool in ("ip", "stunnel4", "tini", "openssl"):
-        if not shutil.which(tool):
-            raise Lacking(f"{tool} is not there")
+        if not has(tool):
+            raise Lacking(why_not(tool))
     first_start_component()
     found, made = Objects(render()), []
     found.containers["replica"]["args"] += ["--every", "1"]
@@ -499,6 +497,7 @@ PARTS = {"objects": objects, "falsified": falsified, "pods": pods}
 def main():
     words = sys.argv[1:]
     if words[:1] != ["inside"]:
+        require(__file__)
         # So that nothing is unpacked inside.
         os.environ["FEDBUNDLE"] = find_program()
         sys.exit(in_own_mounts(__file__, words))
@@ -512,7 +511,7 @@ def main():
             try:
                 part(room)
             except Lacking as lack:
-                print(f"left out: {name}, since {lack}")
+                left_out(name, lack)
             print(f"-- {name}: {time.monotonic() - began:.0f} s", flush=True)
     print(f"{reported} things are not so")
     sys.exit(1 if reported else 0)

@@ -12,22 +12,29 @@
   nothing; and under inject.c with each allocation of each call refused, which must leave the replica as it was.
 - The tests of each binding run; Go's sources are as gofmt and go vet want them.
 
-It needs rt, cc, binutils and python3. What go, cargo or valgrind would do is left out with a note if one is not there.
+It needs cc, binutils and python3. What go, cargo or valgrind would do is left out if one is not there.
 
-usage: library [PREFIX]    PREFIX has what tools/library.sh made, which else is made first; the status is 1 if something fails
+usage: library [PREFIX]    PREFIX has what tools/library.sh made; if left out, the released library is unpacked, if it is one
+                           of these sources; the status is 1 if something fails
 """
 import os
 import re
 import shutil
 import subprocess
 import sys
+import tarfile
 import tempfile
 from importlib.machinery import SourceFileLoader
 from importlib.util import module_from_spec, spec_from_loader
 from pathlib import Path
 
 sys.dont_write_bytecode = True
+sys.path.insert(0, str(Path(__file__).resolve().parent / "lib"))
+from needs import can  # noqa: E402
 TOP = Path(__file__).resolve().parent.parent
+sys.path.insert(0, str(TOP / "tools"))
+import release  # noqa: E402
+
 BINDINGS = TOP / "bindings"
 EXAMPLES = TOP / "examples"
 VERBS = ("report", "bundle", "canon", "explain", "merge", "distrust", "observe")
@@ -79,7 +86,7 @@ def check_header():
             fail(f"{name}: the source has {sources.get(name)}, the header {header.get(name)}")
     for words in (["cc", "-std=c99", "-xc"], ["c++", "-std=c++11", "-xc++"]):
         strict = ["-pedantic", "-Wall", "-Wextra", "-Werror", "-fsyntax-only", "-include", TOP / "include/fedbundle.h", "-"]
-        if shutil.which(words[0]):
+        if can(words[0], f"the header by {words[0]}"):
             made = run([*words, *strict], input=b"fedbundle_replica place = FEDBUNDLE_CLOSED;\n")
             if made.returncode:
                 fail(f"the header by {' '.join(words)}: {made.stderr.decode()}")
@@ -234,13 +241,13 @@ def programs(prefix, folder, program):
     """How each language's program is run, and its environment."""
     found = {"C": ([program], {})}
     found["Python"] = ([sys.executable, "-B", BINDINGS / "python/calls.py"], python_environment(prefix))
-    if shutil.which("go"):
+    if can("go", "all of the binding for Go"):
         made = run(["go", "build", "-o", folder / "calls_go", "./calls"], cwd=BINDINGS / "go",
                    env={**os.environ, **go_cache(folder), **go_environment(prefix)})
         found["Go"] = ([folder / "calls_go"], go_environment(prefix))
         if made.returncode:
             fail(f"Go: {made.stderr.decode()}")
-    if shutil.which("cargo"):
+    if can("cargo", "all of the binding for Rust"):
         made = run(["cargo", "build", "--offline", "--quiet", "--example", "calls"], cwd=copy_of_rust(folder),
                    env={**os.environ, **rust_environment(prefix, folder)})
         found["Rust"] = ([folder / "rust_target/debug/examples/calls"], {})
@@ -312,12 +319,10 @@ def check_memory(prefix, folder, program, lines, wanted):
     small, _ = replies_of("small", [program, "small"], {}, lines)
     if small != wanted:
         fail("buffers that are too small change what comes of a call")
-    if shutil.which("valgrind"):
+    if can("valgrind", "the calls under valgrind"):
         words = ["valgrind", "-q", "--leak-check=full", "--error-exitcode=9", program]
         if replies_of("valgrind", words, {}, lines)[0] != wanted:
             fail("under valgrind a call comes to something else")
-    else:
-        print("valgrind is not there: left out")
     library = folder / "inject.so"
     if run(["cc", "-O2", "-fPIC", "-shared", "-o", library, TOP / "tests/lib/inject.c"]).returncode:
         sys.exit("library: inject.c is not built")
@@ -340,10 +345,10 @@ def check_examples(prefix, folder):
     steps = [("C", ["cc", *flags, f"-I{prefix}/include", "-o", made["C"], BINDINGS / "c/report.c", f"{prefix}/lib/libfedbundle.a"],
               TOP, {})]
     programs = {"C": ([made["C"]], {}), "Python": ([sys.executable, "-B", BINDINGS / "python/report.py"], python_environment(prefix))}
-    if shutil.which("go"):
+    if can("go", "all of the binding for Go"):
         steps.append(("Go", ["go", "build", "-o", made["Go"], "./report"], BINDINGS / "go", go_environment(prefix)))
         programs["Go"] = ([made["Go"]], go_environment(prefix))
-    if shutil.which("cargo"):
+    if can("cargo", "all of the binding for Rust"):
         words = ["cargo", "build", "--offline", "--quiet", "--example", "report"]
         steps.append(("Rust", words, copy_of_rust(folder), rust_environment(prefix, folder)))
         programs["Rust"] = ([folder / "rust_target/debug/examples/report"], {})
@@ -364,16 +369,12 @@ def check_examples(prefix, folder):
 
 def check_bindings(prefix, folder):
     steps = [("Python", [sys.executable, "-B", "test_fedbundle.py"], BINDINGS / "python", python_environment(prefix))]
-    if shutil.which("go"):
+    if can("go", "all of the binding for Go"):
         for words in (["gofmt", "-l", "."], ["go", "vet", "./..."], ["go", "test", "./..."]):
             steps.append((" ".join(words), words, BINDINGS / "go", go_environment(prefix)))
-    else:
-        print("go is not there: left out")
-    if shutil.which("cargo"):
+    if can("cargo", "all of the binding for Rust"):
         words = ["cargo", "test", "--offline", "--quiet"]
         steps.append(("cargo test", words, copy_of_rust(folder), rust_environment(prefix, folder)))
-    else:
-        print("cargo is not there: left out")
     for name, words, where, environment in steps:
         done = run(words, cwd=where, env={**os.environ, **go_cache(folder), **environment})
         if done.returncode or (words[0] == "gofmt" and done.stdout):
@@ -382,13 +383,21 @@ def check_bindings(prefix, folder):
             print(f"{name}: passed")
 
 
+def released(folder):
+    """Unpacks the released library, if it is one of these sources."""
+    line = f"library-sources {release.digest_of(release.crates_of(release.LIBRARY))}"
+    if line not in (release.DIST / "MANIFEST").read_text().splitlines():
+        sys.exit("library: no library of these sources: tools/library.sh PREFIX proves and builds one, and PREFIX is then given")
+    with tarfile.open(release.DIST / release.ARCHIVE) as tar:
+        tar.extractall(folder)
+    return folder / release.ROOT
+
+
 def main():
     check_header()
     with tempfile.TemporaryDirectory(prefix="fedbundle-") as name:
         folder = Path(name)
-        prefix = Path(sys.argv[1]).resolve() if len(sys.argv) > 1 else folder / "prefix"
-        if len(sys.argv) == 1 and run([TOP / "tools/library.sh", prefix]).returncode:
-            sys.exit("library: tools/library.sh fails")
+        prefix = Path(sys.argv[1]).resolve() if len(sys.argv) > 1 else released(folder)
         check_names(prefix)
         program = built_c(prefix, folder)
         rows = list(rows_of_commands())

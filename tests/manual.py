@@ -14,7 +14,18 @@ import sys
 import tempfile
 from pathlib import Path
 
+sys.dont_write_bytecode = True
+sys.path.insert(0, str(Path(__file__).resolve().parent / "lib"))
+from needs import can  # noqa: E402
+
 TOP = Path(__file__).resolve().parent.parent
+# Where else the version of the program is written, beside rows of crates/command_rows, which the program is run on.
+VERSIONS = {
+    "tools/manual.py": 'VERSION = "{}"',
+    "crates/fedbundle_c/src/opening_c.rt": 'outcome.put(b"{}", out)',
+    "bindings/rust/Cargo.toml": '\nversion = "{}"\n',
+    "deploy/kubernetes/kustomization.yaml": "newTag: {}\n",
+}
 reported = 0
 
 
@@ -58,10 +69,8 @@ def check_zsh(commands):
     arms = dict(re.findall(r"^        (\w+)\)\n            _arguments \\\n(.*?)            ;;", text, re.S | re.M))
     found = {name: re.findall(r"'(--[a-z-]+)\[", body) for name, body in arms.items()}
     check(found == {name: [*options, "--help"] for name, options in commands.items()}, "zsh: the options of each subcommand")
-    if shutil.which("zsh"):
+    if can("zsh", "zsh reading its completions"):
         check(run("zsh", "-n", str(TOP / "completions/_fedbundle")).returncode == 0, "zsh: it is read")
-    else:
-        print("left out: zsh reading its completions, since there is no zsh")
 
 
 def check_manual(commands):
@@ -71,11 +80,9 @@ def check_manual(commands):
     found = {name: re.findall(r"^\\fB(\\-\\-[a-z\\-]+)\\fR", part, re.M) for name, part in parts.items()}
     found = {name: [word.replace("\\", "") for word in words] for name, words in found.items()}
     check(found == commands, "the manual page: the options of each subcommand")
-    if shutil.which("man"):
+    if can("man", "man -l"):
         shown = run("man", "-l", "--warnings", str(page), env={"PATH": "/usr/bin:/bin", "LC_ALL": "C.UTF-8", "MANPAGER": "cat"})
         check(shown.returncode == 0 and not shown.stderr, "man -l: no warning")
-    else:
-        print("left out: man -l, since there is no man")
 
 
 def check_version():
@@ -83,11 +90,12 @@ def check_version():
     helps = (TOP / "crates/command_line/src/help_texts.rt").read_text()
     text = re.search(r'const VERSION: &str = "\\\n(.*?)";', helps, re.S).group(1)
     version, kit, *formats = text.split("\n")
-    check(f'VERSION = "{version}"' in (TOP / "tools/manual.py").read_text(), "--version: it is that of the manual page")
+    for path, line in VERSIONS.items():
+        check(line.format(version) in (TOP / path).read_text(), f"--version: it is that of {path}")
     replica = (TOP / "crates/fedbundle_cli/src/replica_settings.rt").read_text()
     check("version: first_line(VERSION)," in replica, "--version: it is that of the metrics of a replica")
-    used = f"kit {run('rt', 'version').stdout.strip()}"
     check(kit.startswith("kit rattle-kit-"), "--version: the kit has a name")
+    used = f"kit {run('rt', 'version').stdout.strip()}" if can("rt", "the kit of --version next to that of rt") else kit
     if kit != used:
         print(f"note:    --version names {kit[4:]}, and this machine has {used[4:]}: say so in help_texts.rt and README")
     specs = TOP / "crates/replica_texts/specs"
@@ -106,7 +114,7 @@ def check_install():
         top = Path(folder) / "top"
         out = top / "crates/fedbundle_cli/out"
         out.mkdir(parents=True)
-        for name in ("fedbundle", "crates.txt", "docs/fedbundle.1", "completions/fedbundle.bash", "completions/_fedbundle"):
+        for name in ("fedbundle", "HANDLES", "crates.txt", "docs/fedbundle.1", "completions/fedbundle.bash", "completions/_fedbundle"):
             (top / name).parent.mkdir(parents=True, exist_ok=True)
             shutil.copy(TOP / name, top / name)
         (out / "fedbundle").write_text('#!/bin/sh\necho "$@"\n')

@@ -31,7 +31,6 @@ import shutil
 import subprocess
 import sys
 import tarfile
-import tempfile
 import time
 from importlib.machinery import SourceFileLoader
 from importlib.util import module_from_spec, spec_from_loader
@@ -40,6 +39,7 @@ from pathlib import Path
 sys.dont_write_bytecode = True
 sys.path.insert(0, str(Path(__file__).resolve().parent / "lib"))
 from machine import Booted, Lacking, TOP, in_own_mounts, mount, raise_loopback  # noqa: E402
+from needs import has, left_out, require, why_not  # noqa: E402
 
 EARLIER = "0.1.99"
 STATE = "/var/lib/fedbundle"
@@ -138,8 +138,8 @@ def made(room):
 
 
 def lintian(room):
-    if not shutil.which("lintian"):
-        raise Lacking("lintian is not there")
+    if not has("lintian"):
+        raise Lacking(why_not("lintian"))
     packages = packages_of(room / "packages")
     ran = subprocess.run(["lintian", "--fail-on", "error", *packages.values()], capture_output=True, text=True)
     print("".join(f"  {line}\n" for line in ran.stdout.splitlines()), end="")
@@ -206,7 +206,7 @@ def begin(machine, package):
 
 
 def until(right, what):
-    end = time.monotonic() + 15
+    end = time.monotonic() + 300
     while not (seen := right()) and time.monotonic() < end:
         time.sleep(0.1)
     check(bool(seen), what)
@@ -286,7 +286,7 @@ def library(room):
     machine = Booted(room / "compiling", "two", os.environ.get("FEDBUNDLE_ROOT", "/"))
     try:
         if machine.attempt("command -v cc && command -v pkg-config").returncode:
-            raise Lacking("cc or pkg-config is not there")
+            raise Lacking("cc or pkg-config is not in the copy of the machine")
         for path in (package, *sorted((TOP / "bindings/c").iterdir())):
             (machine.root / str(path)[1:]).parent.mkdir(parents=True, exist_ok=True)
             if path.is_file():
@@ -310,6 +310,7 @@ PARTS = {"made": made, "lintian": lintian, "life": life, "library": library}
 def main():
     words = sys.argv[1:]
     if words[:1] != ["inside"]:
+        require(__file__)
         sys.exit(in_own_mounts(__file__, words))
     folder = Path(words[1])
     mount("tmpfs", "mode=755", folder)
@@ -322,7 +323,7 @@ def main():
             try:
                 part(room)
             except Lacking as lack:
-                print(f"left out: {name}, since {lack}")
+                left_out(name, lack)
             print(f"-- {name}: {time.monotonic() - began:.0f} s", flush=True)
     print(f"{reported} things are not so")
     sys.exit(1 if reported else 0)

@@ -18,11 +18,14 @@ none of them, and whoever takes a use away lowers the number here.
 The exit status is 1 if something is missing, or a word has more uses than it may have.
 """
 import re
-import shutil
 import subprocess
 import sys
 from collections import Counter, defaultdict
 from pathlib import Path
+
+sys.dont_write_bytecode = True
+sys.path.insert(0, str(Path(__file__).resolve().parent / "lib"))
+from needs import can  # noqa: E402
 
 TOP = Path(__file__).resolve().parent.parent
 LINK = re.compile(r"\]\(([^)#:\s]*)(?:#([^)]*))?\)")
@@ -284,7 +287,7 @@ def missing_terms(text):
 
 def faults_of_c():
     """What the compiler says of the C of the pages, if there is one."""
-    for path in TOP.glob("bindings/c/*.c") if shutil.which("cc") else []:
+    for path in TOP.glob("bindings/c/*.c") if can("cc", "the C of the pages by a compiler") else []:
         flags = ["-std=c11", "-fsyntax-only", "-Wall", "-Wextra", "-Werror", f"-I{TOP}/include"]
         done = subprocess.run(["cc", *flags, path], capture_output=True, text=True)
         if done.returncode:

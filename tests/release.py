@@ -1,34 +1,46 @@
 #!/usr/bin/env python3
-"""Checks that dist/ is the release of the sources here, and that ./fedbundle starts it.
+"""Checks that dist/ is the release that it has to be, and what ./fedbundle does with it.
 
-- The files of dist/ are those that SHA256SUMS names, and each file of the archive is the one of the tree, or has the length
-  and the SHA-256 that MANIFEST names.
-- MANIFEST has the version and the digests of the sources as they are.
-- With PROGRAM, which the gate built of these sources: under the kit that MANIFEST names it equals the released program;
-  under another kit a line says so, and nothing is compared.
-- In copies of the tree, a byte of the archive, the digest, a source and the program's bytes are falsified, one at a time: each
-  copy fails the checks above.
-- In a copy that has nothing built, ./fedbundle unpacks the released program and says so once. If a source or a byte of
-  the archive has changed, it goes on to prove.
+CHANGELOG.md says which commit is a release: there its first section is a version with its day, and on each other commit since
+then it is `Unreleased`.
+
+- On each commit the files of dist/ are those that SHA256SUMS names; what was compiled has the length and the SHA-256 that
+  MANIFEST names; MANIFEST's version is that of the sources and of the newest release in CHANGELOG.md, both here and in
+  the archive, in which that section is the first.
+- On a release, dist/ is also that of the sources: MANIFEST has their digests, and each other file of the archive is the one of
+  the tree. With PROGRAM, which the gate built of these sources: under the kit that MANIFEST names it equals the released
+  program; under another kit a line says so, and nothing is compared.
+- Copies of the tree, one that is a release of its sources and one with a section Unreleased, are falsified in one thing at a
+  time, and each fault is found; a changed source is one only on a release.
+- In copies, `./fedbundle` runs a fresh build, else the released program, with a line if a source changed, also if the user may
+  not write there, and `rt` is never called. Where it cannot, it says why in a line. `--which` prints a program of these sources
+  alone. `--prove` says what it wants of the machine; what it started ends with it, and what was proved stays.
 
 usage: release [PROGRAM]      the status is 1 if something is not so
 """
+import contextlib
 import io
+import lzma
 import os
 import shutil
 import subprocess
 import sys
 import tarfile
 import tempfile
+import time
 from importlib.machinery import SourceFileLoader
 from importlib.util import module_from_spec, spec_from_loader
 from pathlib import Path
+from types import SimpleNamespace
 
 sys.dont_write_bytecode = True
 TOP = Path(__file__).resolve().parent.parent
 # What the checks and the launcher read.
 READ = ["fedbundle", "tools", "crates.txt", "HANDLES", "crates", "dist", "deploy", "completions", "include", "LICENSE",
         "CHANGELOG.md", "docs/fedbundle.1"]
+UNRELEASED = "Unreleased"
+SOURCE = "crates/spiffe_name/src/lib.rt"
+VERSION_SOURCE = "crates/command_line/src/help_texts.rt"
 reported = 0
 
 
@@ -74,6 +86,10 @@ def members_of(tool):
     return files, links
 
 
+def is_release(tool):
+    return tool.sections()[0] != UNRELEASED
+
+
 def faults_of_sums(tool):
     lines = (tool.DIST / "SHA256SUMS").read_text().splitlines()
     sums = dict(reversed(line.split("  ", 1)) for line in lines)
@@ -85,28 +101,43 @@ def faults_of_sums(tool):
             yield f"{name} has not the sum that SHA256SUMS names"
 
 
+def faults_of_version(tool, said, files):
+    """What keeps dist/ from being the newest release that CHANGELOG.md names."""
+    newest = next(title for title in tool.sections() if title != UNRELEASED)
+    if not tool.is_version_with_day(newest):
+        yield f"CHANGELOG.md has '{newest}' as the newest release, and the sources have the version {tool.version()}"
+    if said["release"] != tool.version():
+        yield f"dist/ is the release {said['release']}, and the sources have the version {tool.version()}"
+    packed = files[f"{tool.ROOT}share/doc/fedbundle/CHANGELOG.md"][0].decode()
+    if tool.sections(packed)[0] != newest:
+        yield f"the archive's CHANGELOG.md begins with '{tool.sections(packed)[0]}': only a release makes dist/"
+
+
+def faults_of_compiled(tool, listed, files):
+    if listed.keys() != {tool.ROOT + place for place in tool.COMPILED}:
+        yield f"MANIFEST lists other files: {sorted(listed)}"
+    for path, (size, digest) in listed.items():
+        content = files[path][0]
+        if (len(content), tool.sha256(content)) != (size, digest):
+            yield f"the archive has another {path} than MANIFEST"
+
+
 def faults_of_sources(tool, said):
-    crates = {"": tool.crates_of(tool.PROGRAM), "library-": tool.crates_of(tool.LIBRARY)}
-    wanted = {"release": tool.version()}
-    for kind, names in crates.items():
-        wanted[f"{kind}sources"], wanted[f"{kind}crates"] = tool.digest_of(names), " ".join(names)
-    for key, value in wanted.items():
-        if said.get(key) != value:
-            yield f"the line {key} of MANIFEST is not that of the sources: run tools/release.py"
+    for kind, name in {"": tool.PROGRAM, "library-": tool.LIBRARY}.items():
+        crates = tool.crates_of(name)
+        if (said[f"{kind}sources"], said[f"{kind}crates"]) != (tool.digest_of(crates), " ".join(crates)):
+            yield f"the {kind}sources are not those of MANIFEST"
 
 
-def faults_of_archive(tool, listed):
-    files, links = members_of(tool)
+def faults_of_tree(tool, listed, files, links):
     plain = {tool.ROOT + place: file for place, file in tool.plain_files().items()}
-    if files.keys() != plain.keys() | listed.keys() or listed.keys() != {tool.ROOT + place for place in tool.COMPILED}:
+    if files.keys() != plain.keys() | listed.keys():
         yield f"the archive has other files: {sorted(files.keys() ^ (plain.keys() | listed.keys()))}"
     if links != {tool.ROOT + place: target for place, target in tool.LINKS.items()}:
         yield f"the archive has other links: {links}"
-    for path, (content, mode) in files.items():
-        if path in plain and (content, mode) != plain[path]:
+    for path in plain.keys() & files.keys():
+        if files[path] != plain[path]:
             yield f"the archive has another {path} than the tree"
-        if path in listed and (len(content), tool.sha256(content)) != listed[path]:
-            yield f"the archive has another {path} than MANIFEST"
 
 
 def faults_of_program(tool, said, listed, program):
@@ -118,9 +149,12 @@ def faults_of(top, program=None):
     """What is wrong with the release of a tree."""
     tool = tool_of(top)
     try:
-        said, listed = manifest_of(tool)
-        faults = [*faults_of_sums(tool), *faults_of_sources(tool, said), *faults_of_archive(tool, listed)]
-        return faults + [*faults_of_program(tool, said, listed, program)] if program else faults
+        (said, listed), (files, links) = manifest_of(tool), members_of(tool)
+        faults = [*faults_of_sums(tool), *faults_of_version(tool, said, files), *faults_of_compiled(tool, listed, files)]
+        if is_release(tool):
+            faults += [*faults_of_sources(tool, said), *faults_of_tree(tool, listed, files, links)]
+            faults += [*faults_of_program(tool, said, listed, program)] if program else []
+        return faults
     except Exception as why:
         # What is falsified may be unreadable: that is an error too.
         return [f"dist/ is not read: {why!r}"]
@@ -128,14 +162,44 @@ def faults_of(top, program=None):
 
 # ---- falsified copies
 
-def copy_into(top):
+def copy_into(top, source=TOP):
     """A copy of what is read, without what was built."""
+    ignored = shutil.ignore_patterns("out", "edits", "must-fail", "stdin", "stdout", "__pycache__")
     for name in READ:
         (top / name).parent.mkdir(parents=True, exist_ok=True)
-        source = TOP / name
-        ignored = shutil.ignore_patterns("out", "edits", "must-fail", "stdin", "stdout", "__pycache__")
-        shutil.copytree(source, top / name, ignore=ignored) if source.is_dir() else shutil.copy2(source, top / name)
+        shutil.copytree(source / name, top / name, ignore=ignored) if (source / name).is_dir() else shutil.copy2(source / name, top / name)
     return top
+
+
+def make_dist(top):
+    """Makes dist/ as tools/release.py does, with what is compiled already."""
+    tool = tool_of(top)
+    (said, _), (files, _) = manifest_of(tool), members_of(tool)
+    tool.kit, tool.compiler = lambda: said["kit"], lambda: said["compiler"]
+    # As fast as can be.
+    tool.lzma = SimpleNamespace(compress=lambda content, preset: lzma.compress(content, preset=0), PRESET_EXTREME=0)
+    with tempfile.TemporaryDirectory() as folder, contextlib.redirect_stdout(io.StringIO()):
+        for place in tool.COMPILED:
+            (Path(folder) / place).parent.mkdir(exist_ok=True)
+            (Path(folder) / place).write_bytes(files[tool.ROOT + place][0])
+        tool.write([Path(folder) / place for place in tool.LEVELS.values()], Path(folder))
+
+
+def edit(path, old, new):
+    path.write_text(path.read_text().replace(old, new, 1))
+
+
+def make_release(top):
+    """Makes a copy the release of its sources: of its tree's version, on the day of the newest release."""
+    text = (top / "CHANGELOG.md").read_text()
+    (top / "CHANGELOG.md").write_text(text[text.index(f"## {tool_of(top).version()}, "):])
+    make_dist(top)
+    return top
+
+
+def begin_unreleased(top):
+    text = (top / "CHANGELOG.md").read_text()
+    (top / "CHANGELOG.md").write_text(f"## {UNRELEASED}\n\n{text}")
 
 
 def flip_byte(path):
@@ -144,44 +208,59 @@ def flip_byte(path):
     path.write_bytes(content)
 
 
-def write_sums(top):
-    tool = tool_of(top)
-    names = [tool.ARCHIVE, "MANIFEST"]
-    text = "".join(f"{tool.sha256((tool.DIST / name).read_bytes())}  {name}\n" for name in names)
-    (tool.DIST / "SHA256SUMS").write_text(text)
-
-
 def falsify_archive(top):
     flip_byte(top / "dist" / tool_of(top).ARCHIVE)
 
 
-def falsify_digest(top):
-    path = top / "dist/MANIFEST"
-    text = path.read_text()
-    digest = manifest_of(tool_of(top))[0]["sources"]
-    path.write_text(text.replace(digest, digest[1:] + digest[0]))
-    write_sums(top)
+def falsify_manifest(top, key):
+    """Another value of a line of MANIFEST, with the sum of that."""
+    tool, path = tool_of(top), top / "dist/MANIFEST"
+    value = manifest_of(tool)[0][key]
+    before = tool.sha256(path.read_bytes())
+    edit(path, f"{key} {value}", f"{key} {value[1:] + value[0]}")
+    edit(top / "dist/SHA256SUMS", before, tool.sha256(path.read_bytes()))
 
 
 def falsify_source(top):
-    with open(top / "crates/spiffe_name/src/lib.rt", "a") as file:
-        file.write("\n")
+    (top / SOURCE).write_text((top / SOURCE).read_text() + "\n")
 
 
-def check_falsified(room):
-    for falsify in (falsify_archive, falsify_digest, falsify_source):
-        top = copy_into(room / falsify.__name__)
+def falsify_version(top):
+    version = tool_of(top).version()
+    edit(top / VERSION_SOURCE, f"\n{version}\n", f"\n{version}1\n")
+
+
+FALSIFIED = {
+    "a byte of the archive": falsify_archive,
+    "the digest of the sources": lambda top: falsify_manifest(top, "sources"),
+    "the version of the release": lambda top: falsify_manifest(top, "release"),
+    "a source": falsify_source,
+    "the version of the sources": falsify_version,
+    "dist/ made anew": make_dist,
+}
+# What MANIFEST's digest is of is known on a release alone, and dist/ made anew is equal there.
+ALLOWED = {True: {"dist/ made anew"}, False: {"a source", "the digest of the sources"}}
+
+
+def check_falsified(top, is_a_release):
+    """Falsifies one thing at a time in a copy that is a release, or is none, and puts it back."""
+    texts = {path: path.read_bytes() for path in [*(top / "dist").iterdir(), top / SOURCE, top / VERSION_SOURCE]}
+    for what, falsify in FALSIFIED.items():
         falsify(top)
-        found = faults_of(top)
-        check(found, f"{falsify.__name__.replace('_', ' ')}: {'; '.join(found) or 'no fault was found'}")
-        shutil.rmtree(top)
+        found, allowed = faults_of(top), what in ALLOWED[is_a_release]
+        kind = "a release" if is_a_release else f"under {UNRELEASED}"
+        check(bool(found) != allowed, f"{kind}: {what}{' may change' * allowed}: {'; '.join(found) or 'no fault'}")
+        for path, text in texts.items():
+            path.write_bytes(text)
 
 
 def check_other_program(room, program):
     """A program of other bytes is found, if the kit is the release's."""
     tool = tool_of(TOP)
     kit = manifest_of(tool)[0]["kit"]
-    if program and kit != tool.kit():
+    if program and not is_release(tool):
+        print("note: no release: the program is not compared with the released one")
+    elif program and kit != tool.kit():
         print(f"note: another kit: the release is of {kit}, and this is {tool.kit()}, so the programs are not compared")
     elif program:
         shutil.copy2(program, room / "other")
@@ -191,35 +270,145 @@ def check_other_program(room, program):
 
 # ---- the launcher
 
-def run(top, *words):
-    """Runs the launcher of a copy with no `rt` on the path, so that it can prove nothing."""
-    return subprocess.run([top / "fedbundle", *words], capture_output=True, text=True, env={**os.environ, "PATH": "/usr/bin:/bin"})
+class Clone:
+    """A copy in which ./fedbundle is run, with an `rt` on the path that leaves a trace."""
+
+    def __init__(self, room, released):
+        self.top, self.bin, self.trace = copy_into(room / "a clone", released), room / "bin", room / "called"
+        self.out = self.top / "crates/fedbundle_cli/out"
+        self.variables = {"PATH": str(self.bin), "HOME": str(room / "home")}
+        self.bin.mkdir()
+        for tool in [*Path("/bin").iterdir(), *Path("/usr/bin").iterdir()]:
+            if tool.name not in ("rt", "xz") and not (self.bin / tool.name).is_symlink():
+                (self.bin / tool.name).symlink_to(tool)
+        (self.bin / "xz").symlink_to(shutil.which("xz"))
+        if not (self.bin / "python3").exists():
+            (self.bin / "python3").symlink_to(sys.executable)
+        (self.bin / "rt").write_text(f"#!/bin/sh\n: >'{self.trace}'\nexit 1\n")
+        (self.bin / "rt").chmod(0o755)
+
+    def run(self, *words, user=(), **variables):
+        return subprocess.run([*user, self.top / "fedbundle", *words], capture_output=True, text=True, env=self.variables | variables)
+
+    def check(self, what, ran, out="", said=""):
+        """Whether it printed what begins so, or else ended with 1, and said nothing, or one line that has these words."""
+        is_so = ran.stdout.startswith(out) if out else ran.returncode == 1 and not ran.stdout
+        is_so &= not out or ran.returncode == 0
+        lines = ran.stderr.splitlines()
+        is_so &= len(lines) == 1 and said in lines[0] if said else not lines
+        check(is_so and not self.trace.exists(), f"./fedbundle {what}: {ran.stderr.strip() or ran.stdout.partition(chr(10))[0]}")
 
 
-def check_launcher(room):
-    top = copy_into(room / "a clone")
-    version = f"fedbundle {tool_of(top).version()}\n"
-    first, second = run(top, "-V"), run(top, "-V")
-    check(first.stdout == second.stdout and first.stdout.startswith(version), f"./fedbundle -V prints {version.strip()}")
-    check(first.stderr.count("\n") == 1 and "the released program" in first.stderr and "--prove" in first.stderr and
-          not second.stderr, f"the first time it says: {first.stderr.strip()}")
-    falsify_source(top)
-    changed = run(top, "-V")
-    check(changed.returncode == 1 and "rt, the command" in changed.stderr and not changed.stdout, "of a changed source it proves")
-    shutil.rmtree(top)
-    falsify_archive(copy_into(top))
-    damaged = run(top, "-V")
-    check(damaged.returncode == 1 and "SHA256SUMS" in damaged.stderr and not damaged.stdout, "a damaged archive is not unpacked")
+def check_released(clone, version):
+    clone.check("runs the release", clone.run("-V"), version)
+    clone.check("runs the release again", clone.run("-V"), version)
+    clone.check("finds the release", clone.run("--which"), str(clone.out))
+    clone.check("finds $FEDBUNDLE", clone.run("--which", FEDBUNDLE="/bin/sh"), str(Path("/bin/sh").resolve()))
+    clone.check("finds no program in $FEDBUNDLE", clone.run("--which", FEDBUNDLE="/none"), said="names no program: /none")
+
+
+def check_changed(clone, version):
+    """Of a changed source the release runs, with a line, and no program is found until one is built."""
+    falsify_source(clone.top)
+    clone.check("runs the release of a changed source", clone.run("-V"), version, "the sources have changed; ./fedbundle --prove builds them")
+    clone.check("finds no program of a changed source", clone.run("--which"), said="no program of these sources")
+    (clone.top / "docs/fedbundle.1").write_text("changed\n")
+    ran, prefix = clone.run("--install", str(clone.top / "prefix")), clone.top / "prefix"
+    page = (prefix / "share/man/man1/fedbundle.1").read_bytes()
+    check(ran.returncode == 0 and page != b"changed\n" and (prefix / "bin/fedbundle").exists(), "--install: the release, with its own manual")
+
+
+def check_built(clone):
+    """A build that is fresh runs, by --prove or by `rt ci`, until a source changes."""
+    builds = {"--prove": ("fedbundle", clone.out / "fedbundle.built"), "rt ci": ("fedbundle_cli", clone.top / ".git/rt-ci.lock")}
+    for kind, (name, begun) in builds.items():
+        begun.parent.mkdir(exist_ok=True)
+        begun.write_text("cpu=x86-64-v2\nspiffe_name\n")
+        program = clone.out / name
+        program.write_text("#!/bin/sh\necho built\n")
+        program.chmod(0o755)
+        later = (begun.stat().st_mtime_ns + 10**7,) * 2
+        os.utime(program, ns=later)
+        clone.check(f"runs the build of {kind}", clone.run("-V", FEDBUNDLE_CPU="x86-64-v2"), "built")
+        clone.check(f"finds the build of {kind}", clone.run("--which", FEDBUNDLE_CPU="x86-64-v2"), str(program))
+        os.utime(clone.top / SOURCE, ns=later)
+        clone.check(f"finds no stale build of {kind}", clone.run("--which", FEDBUNDLE_CPU="x86-64-v2"), said="no program of these sources")
+
+
+def check_lacking(clone, room, version):
+    """Without xz, with a damaged archive, and in a folder that the user may not write."""
+    shutil.rmtree(clone.out)
+    (clone.bin / "xz").unlink()
+    clone.check("has no xz", clone.run("-V"), said="install the package xz-utils")
+    (clone.bin / "xz").symlink_to(shutil.which("xz"))
+    shutil.rmtree(clone.out)
+    clone.out.parent.chmod(0o555)
+    user = [] if os.geteuid() else ["setpriv", "--reuid=65534", "--regid=65534", "--clear-groups"]
+    home, cache = room / "home", room / "home/.cache"
+    home.mkdir(0o555)
+    clone.check("cannot write anywhere", clone.run("-V", user=user), said="set XDG_CACHE_HOME")
+    home.chmod(0o755)
+    cache.mkdir()
+    cache.chmod(0o777)
+    ran = clone.run("-V", user=user)
+    clone.check("unpacks below the user's cache", ran, version, "the sources have changed")
+    check(len([*cache.rglob("fedbundle/*/fedbundle")]) == 1, "the program is below the user's cache")
+    clone.out.parent.chmod(0o755)
+    shutil.rmtree(cache)
+    falsify_archive(clone.top)
+    clone.check("has a damaged archive", clone.run("-V"), said="is not what SHA256SUMS says")
+
+
+def has_ended(process):
+    """Whether a process goes away. On a busy machine that takes a while."""
+    for _ in range(2_000):
+        if not Path(f"/proc/{process}").exists():
+            return True
+        time.sleep(0.05)
+    return False
+
+
+def check_prove(clone):
+    """`rt` proves where the crates are, and ends with ./fedbundle. What was proved stays, and nothing is left below .git."""
+    proved, read_end = clone.top / "crates/spiffe_name/out/rlib/stamp", clone.bin / "started"
+    proved.parent.mkdir(parents=True)
+    proved.touch()
+    os.mkfifo(read_end)
+    (clone.bin / "rt").write_text(f"#!/bin/sh\necho $$ $(pwd) >'{read_end}'\nexec sleep 1000\n")
+    before = sorted((clone.top / ".git").rglob("*"))
+    launcher = subprocess.Popen([clone.top / "fedbundle", "--prove"], env=clone.variables, stderr=subprocess.PIPE, text=True)
+    process, _, folder = read_end.read_text().rstrip("\n").partition(" ")
+    launcher.terminate()
+    launcher.wait()
+    check(has_ended(process), "rt ends with ./fedbundle --prove")
+    check(Path(folder) == clone.out.parent, "it proves where the crates are")
+    check(proved.exists() and sorted((clone.top / ".git").rglob("*")) == before, "what was proved stays, and .git is as it was")
+    said = launcher.stderr.read()
+    check("1 were proved before" in said and " GB of memory" in said and " minutes" in said, f"--prove says first: {said.strip()}")
 
 
 def main():
     program = Path(sys.argv[1]) if len(sys.argv) > 1 else None
     found = faults_of(TOP, program)
-    check(not found, "; ".join(found) or "dist/ is the release of these sources, and its program the one that was built, if the kits are equal")
+    what = "the release of these sources" if is_release(tool_of(TOP)) else "the newest release that CHANGELOG.md names"
+    hint = f"; what changes after a release begins CHANGELOG.md with '## {UNRELEASED}'" * is_release(tool_of(TOP))
+    check(not found, "; ".join(found) + hint if found else f"dist/ is {what}")
     with tempfile.TemporaryDirectory() as folder:
-        check_falsified(Path(folder))
-        check_other_program(Path(folder), program)
-        check_launcher(Path(folder))
+        room = Path(folder)
+        room.chmod(0o755)
+        released = make_release(copy_into(room / "released"))
+        found = faults_of(released)
+        check(not found, "; ".join(found) or "a copy is the release of its sources")
+        clone, version = Clone(room, released), f"fedbundle {tool_of(released).version()}\n"
+        check_falsified(released, True)
+        begin_unreleased(released)
+        check_falsified(released, False)
+        check_other_program(room, program)
+        check_released(clone, version)
+        check_changed(clone, version)
+        check_built(clone)
+        check_lacking(clone, room, version)
+        check_prove(clone)
     sys.exit(1 if reported else 0)
 
 

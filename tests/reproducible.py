@@ -11,15 +11,19 @@ usage: reproducible      the status is 1 if bytes differ or a build fails
 import hashlib
 import os
 import shutil
+import signal
 import subprocess
 import sys
 import tempfile
-from importlib.machinery import SourceFileLoader
-from importlib.util import module_from_spec, spec_from_loader
 from pathlib import Path
 
 sys.dont_write_bytecode = True
+sys.path.insert(0, str(Path(__file__).resolve().parent / "lib"))
+from needs import left_out  # noqa: E402
 TOP = Path(__file__).resolve().parent.parent
+sys.path.insert(0, str(TOP / "tools"))
+import release  # noqa: E402
+
 PROGRAM, LIBRARY = "fedbundle_cli", "fedbundle_c"
 PARTS = ["src", "specs", "proofs", "out/rlib", "out/incremental"]
 OTHER_USER = ["unshare", "--user", "--map-user=1234", "--map-group=1234"]
@@ -30,13 +34,6 @@ def check(is_so, what):
     global reported
     print(f"{'ok:      ' if is_so else 'differs: '}{what}", flush=True)
     reported += not is_so
-
-
-def tool(name):
-    loader = SourceFileLoader(name, str(TOP / "tools" / f"{name}.py"))
-    module = module_from_spec(spec_from_loader(name, loader))
-    loader.exec_module(module)
-    return module
 
 
 def fill(room, crates):
@@ -71,7 +68,7 @@ def built(room, lanes, user):
     return {name: hashlib.sha256(path.read_bytes()).hexdigest() for name, path in made.items()}
 
 
-def released(release):
+def released():
     """The SHA-256 of each file of the release that was compiled, by its name, if it is one of these sources."""
     manifest = release.DIST / "MANIFEST"
     lines = [line.split(" ") for line in manifest.read_text().splitlines()] if manifest.exists() else []
@@ -81,12 +78,16 @@ def released(release):
 
 
 def main():
-    release = tool("release")
+    # The folder below .git goes away also where this is told to end.
+    for number in (signal.SIGTERM, signal.SIGHUP):
+        signal.signal(number, lambda number, _: sys.exit(128 + number))
     crates = sorted({*release.crates_of(PROGRAM), *release.crates_of(LIBRARY)})
     lacking = [crate for crate in crates if not (TOP / "crates" / crate / "out/rlib").is_dir() and crate not in (PROGRAM, LIBRARY)]
     if lacking:
         sys.exit(f"reproducible: not proved yet: {' '.join(lacking)}: run ./fedbundle --prove and tools/library.sh first")
     user = OTHER_USER if call([*OTHER_USER, "true"], TOP) else []
+    if not user:
+        left_out("the build by another user", "no name spaces of users are allowed here")
     with tempfile.TemporaryDirectory(dir=TOP / ".git") as folder:
         rooms = [(Path(folder) / "a", 1, []), (Path(folder) / ("a folder with a long name " * 4).strip(), 4, user)]
         made = []
@@ -97,7 +98,7 @@ def main():
             shutil.rmtree(room)
     for name in ("fedbundle", "libfedbundle.a", "libfedbundle.so.0"):
         check(name in made[0] and made[0].get(name) == made[1].get(name), f"{name} is the same in both")
-    for name, digest in released(release).items():
+    for name, digest in released().items():
         if name in made[0]:
             check(made[0][name] == digest, f"{name} is the released one")
     sys.exit(1 if reported else 0)

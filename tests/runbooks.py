@@ -12,7 +12,7 @@ A machine is a copy of this one whose changes are thrown away, with the programs
 stands in for systemd, a script for a SPIRE server, and the TLS server of tests/fetch.py for the foreign domain. All have a
 network of their own.
 
-It needs root, mounts, overlayfs, python3 and what TOOLS names; if one is missing, it is left out, with a line. The
+It needs root, mounts, overlayfs, python3 and the tools of tests/lib/needs.py. The
 program is the one that $FEDBUNDLE names, or else the one that ./fedbundle runs.
 
 usage: runbooks [WORD..]   plays those whose title has one of the words, or all; a line for each, and the status is 1
@@ -40,6 +40,7 @@ sys.dont_write_bytecode = True
 sys.path.insert(0, str(Path(__file__).resolve().parent / "lib"))
 from harness import find_program  # noqa: E402
 from machine import Machine, mount  # noqa: E402
+from needs import require  # noqa: E402
 
 TOP = Path(__file__).resolve().parent.parent
 PAGE = TOP / "docs/OPERATING.md"
@@ -47,8 +48,7 @@ HOME = "/var/lib/fedbundle"
 UNIT = "fedbundle-replica.service"
 # What is repeated until it prints what the page shows.
 LOOKS = re.compile(r"(fedbundle (status|report|bundle|list|diff)|journalctl|systemctl (show|is-active)|cmp|df|wc) ")
-SECONDS = 20
-TOOLS = ["openssl", "jq", "cc", "systemd-sysusers", "systemd-tmpfiles", "runuser", "chroot"]
+SECONDS = 300
 # What the words that differ look like.
 WILD = {"..": ".*", "<id>": "[0-9a-f]{64}", "<n>": "[0-9]+", "<seconds>": r"[0-9.]+", "<cause>": ".+"}
 
@@ -189,7 +189,7 @@ class Replica(Machine):
         """The status of a line of a shell, and what it printed on both streams."""
         if not by_root:
             command = f"runuser -u fedbundle -- bash -c {shlex.quote(f'umask 077; {command}')}"
-        ran = subprocess.run(self.words(f"exec 2>&1; {command}", home), stdout=subprocess.PIPE, text=True, timeout=120,
+        ran = subprocess.run(self.words(f"exec 2>&1; {command}", home), stdout=subprocess.PIPE, text=True, timeout=1200,
                              stdin=subprocess.DEVNULL)
         return ran.returncode, ran.stdout
 
@@ -736,15 +736,11 @@ def inside(words):
 def main():
     if sys.argv[1:2] == ["inside"]:
         sys.exit(inside(sys.argv[3:]))
+    require(__file__)
     room = ["unshare", "--mount", "--net", "--pid", "--fork", "--kill-child"]
     probe = subprocess.run([*room, "mount", "-t", "tmpfs", "none", "/mnt"], capture_output=True, text=True)
     if probe.returncode:
-        print(f"runbooks: left out, since mounts are not allowed here: {probe.stderr.strip()}")
-        return
-    lacks = [tool for tool in TOOLS if not shutil.which(tool, path=f"{os.environ.get('PATH', '')}:/usr/sbin:/sbin")]
-    if lacks:
-        print(f"runbooks: left out, since there is no {', no '.join(lacks)}")
-        return
+        sys.exit(f"runbooks: mounts are not allowed here: {probe.stderr.strip()}")
     find_program()
     with tempfile.TemporaryDirectory(prefix="fedbundle-runbooks-") as folder:
         more = os.environ | {"TMPDIR": folder}

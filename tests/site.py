@@ -25,7 +25,6 @@ import importlib.util
 import json
 import os
 import py_compile
-import shutil
 import socket
 import subprocess
 import sys
@@ -35,7 +34,8 @@ from pathlib import Path
 
 sys.dont_write_bytecode = True
 sys.path.insert(0, str(Path(__file__).resolve().parent / "lib"))
-from harness import find_program, temporary  # noqa: E402
+from harness import HANG, find_program, temporary  # noqa: E402
+from needs import require  # noqa: E402
 
 TOP = Path(__file__).resolve().parent.parent
 DEPLOY = TOP / "deploy"
@@ -118,7 +118,7 @@ class Runner:
 
 
 def fedbundle(*words, given=b""):
-    ran = subprocess.run([PROGRAM, *map(str, words)], input=given, capture_output=True, timeout=60)
+    ran = subprocess.run([PROGRAM, *map(str, words)], input=given, capture_output=True, timeout=HANG)
     return ran.returncode, ran.stdout, ran.stderr.decode()
 
 
@@ -136,7 +136,7 @@ class Spire:
 
     def call(self, *words, given=b""):
         named = [*words[:2], "-socketPath", self.store, *words[2:]] if words[0] != "init" else ["init", "-socketPath", self.store, *words[1:]]
-        ran = subprocess.run([self.path, *map(str, named)], input=given, capture_output=True, timeout=60)
+        ran = subprocess.run([self.path, *map(str, named)], input=given, capture_output=True, timeout=HANG)
         return ran.returncode, ran.stdout.decode(), ran.stderr.decode().strip()
 
     def must(self, *words, given=b""):
@@ -165,7 +165,7 @@ class Spire:
 
 def bring(*words):
     """Runs the importer: its status, the configuration, and its lines."""
-    ran = subprocess.run([sys.executable, DEPLOY / "fedbundle-import", "--program", PROGRAM, *map(str, words)], capture_output=True, timeout=120)
+    ran = subprocess.run([sys.executable, DEPLOY / "fedbundle-import", "--program", PROGRAM, *map(str, words)], capture_output=True, timeout=HANG)
     want(b"Traceback" not in ran.stderr, "no traceback wanted", ran.stderr)
     return ran.returncode, json.loads(ran.stdout) if ran.stdout else None, ran.stderr.decode().splitlines()
 
@@ -498,7 +498,7 @@ class World:
 
     def agree(self):
         """Waits until both hold the same."""
-        end = time.monotonic() + 20
+        end = time.monotonic() + HANG
         while len({site.ask("report")[1] for site in self.sites}) > 1:
             want(time.monotonic() < end, "equal reports wanted", "other ones")
             time.sleep(0.05)
@@ -587,9 +587,7 @@ PARTS = {"import": importer, "server": server, "days": days, "falsified": falsif
 
 def main():
     global PROGRAM
-    if not shutil.which("openssl"):
-        print("skipped: openssl is not there")
-        return 0
+    require(__file__)
     PROGRAM, failed = find_program(), 0
     RUNNERS.extend([Runner(), Runner()])
     os.environ.pop("FEDBUNDLE_VERBOSE", None)

@@ -3,18 +3,18 @@
 
 All blocks of a page run in one shell, in a folder that has the examples and the program: $FEDBUNDLE, or the one that
 ./fedbundle runs. A line after `$ ` is a command, and the lines below it are what it prints, standard error as well. A
-command that runs openssl is left out, with a line that says so, if there is no openssl. The exit status is 1 if a
+command that runs openssl is left out, if there is no openssl. The exit status is 1 if a
 command prints anything else.
 """
 import os
-import shutil
 import subprocess
 import sys
 import tempfile
 from pathlib import Path
 
 sys.path.insert(0, str(Path(__file__).resolve().parent / "lib"))
-from harness import find_program  # noqa: E402
+from harness import HANG, find_program  # noqa: E402
+from needs import can  # noqa: E402
 
 TOP = Path(__file__).resolve().parent.parent
 MARK = "=== end of a command ==="
@@ -30,17 +30,14 @@ def commands(page):
             found.append((line[2:], []))
         elif inside:
             found[-1][1].append(line)
-    left_out = [] if shutil.which("openssl") else [command for command, _ in found if "openssl" in command]
-    for command in left_out:
-        print(f"left out, since there is no openssl: {command}")
-    return [(command, wanted) for command, wanted in found if command not in left_out]
+    return [(command, wanted) for command, wanted in found if "openssl" not in command or can("openssl", command)]
 
 
 def run(page, room):
     """The commands of the page, each with what it has to print and what it printed."""
     asked = commands(page)
     script = "exec 2>&1\n" + "".join(f"{command}\necho '{MARK}'\n" for command, _ in asked)
-    shell = subprocess.run(["bash", "-c", script], cwd=room, capture_output=True, text=True, timeout=300)
+    shell = subprocess.run(["bash", "-c", script], cwd=room, capture_output=True, text=True, timeout=HANG)
     printed = shell.stdout.split(MARK + "\n")
     return [(command, wanted, came.splitlines()) for (command, wanted), came in zip(asked, printed + [""] * len(asked))]
 

@@ -12,9 +12,7 @@ usage: views          the exit status is 1 if something is not as wanted
 """
 import hashlib
 import json
-import os
 import re
-import shutil
 import ssl
 import subprocess
 import sys
@@ -24,13 +22,15 @@ from pathlib import Path
 
 TOP = Path(__file__).resolve().parent.parent
 sys.dont_write_bytecode = True
-sys.path.insert(0, str(TOP / "tests/oracle"))
+sys.path[:0] = [str(TOP / "tests/oracle"), str(TOP / "tests/lib")]
 from report import Document, config_id  # noqa: E402
 import json_view  # noqa: E402
 import status_view  # noqa: E402
+from harness import HANG, find_program  # noqa: E402
 from held_view import Held  # noqa: E402
+from needs import can  # noqa: E402
 
-PROGRAM = str(Path(os.environ.get("FEDBUNDLE", str(TOP / "fedbundle"))).resolve())
+PROGRAM = find_program()
 CONFIG = TOP / "examples/config.json"
 faults = 0
 
@@ -42,7 +42,7 @@ def check(what, holds, seen=""):
 
 
 def run(*words, given=b""):
-    ran = subprocess.run([PROGRAM, *words], input=given, capture_output=True, timeout=60)
+    ran = subprocess.run([PROGRAM, *words], input=given, capture_output=True, timeout=HANG)
     return ran.returncode, ran.stdout.decode(), ran.stderr.decode()
 
 
@@ -179,7 +179,7 @@ def look_at_pem(state, domain):
     blocks = re.findall(r"-----BEGIN CERTIFICATE-----\n[^-]+-----END CERTIFICATE-----\n", pem)
     check(f"bundle of {domain}, pem is whole", (status, errors, "".join(blocks)) == (0, "", pem), pem + errors)
     wanted = Document(domain, json.loads(document)).ordered_keys
-    if shutil.which("openssl"):
+    if can("openssl", "PEM, keys and certificates as openssl reads them"):
         ders = [subprocess.run(["openssl", "x509", "-outform", "DER"], input=block.encode(), capture_output=True).stdout
                 for block in blocks]
         again = [subprocess.run(["openssl", "x509", "-inform", "DER"], input=der, capture_output=True).stdout.decode()
@@ -199,7 +199,7 @@ def look_at_keys(state, domain, distrusted):
     check(f"keys of {domain}: JSON", (status, errors) == (0, "") and len(told) >= len(blocks) > 0, (status, errors, told))
     lines = run(*words, "--domain", domain)[1].splitlines()
     check(f"keys of {domain}: a line each", [line.split()[1] for line in lines] == list(told), lines)
-    if not shutil.which("openssl"):
+    if not can("openssl", "PEM, keys and certificates as openssl reads them"):
         return
 
     def openssl(*words, given):
@@ -284,7 +284,7 @@ def look_at_chain(config, held, document, words):
 def look_at_graph(what, words, lines):
     status, output, errors = run("graph", *words)
     check(what, (status, output, errors) == (0, "".join(f"{line}\n" for line in lines), ""), output + errors)
-    if shutil.which("dot"):
+    if can("dot", "graphs as Graphviz draws them"):
         drawn = subprocess.run(["dot", "-Tsvg"], input=output.encode(), capture_output=True)
         check(f"{what}, Graphviz draws it", (drawn.returncode, drawn.stderr) == (0, b""), drawn.stderr)
 

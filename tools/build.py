@@ -1,10 +1,11 @@
 #!/usr/bin/env python3
 """Proves and builds the program, and says how far it is and how long it took. `./fedbundle --prove` starts it.
 
-The crates that the program uses, by crates.txt, are copied into a repository of their own, so that nothing else is proved. There `rt`
-proves them, those that do not use one another side by side: as many as there are processors, and 4 GB of memory for each. What the checks
-keep in out/ moves there and back, so that the next build proves only what has changed. The program and the names of its crates, which
-./fedbundle watches, are put into place last.
+`rt` proves the crates that the program uses where they are, those that do not use one another side by side: as many as there are
+processors, and 4 GB of free memory for each. The program's own crate comes last, with nothing beside it. What is proved stays in out/
+of each crate, however this ends, so the next build proves only what is left or has changed. `rt` keeps other runs of its own out of
+these crates meanwhile, and waits for one that works there. The program and the names of its crates, which ./fedbundle watches,
+are put into place last.
 
 The program runs on processors of the level x86-64-v2 (D-142, D-394), as the toolchain builds programs if nothing is said; the gate builds
 the same. With FEDBUNDLE_CPU=x86-64 it runs on older ones too; with x86-64-v3 it is only for newer ones. The proofs are the same.
@@ -16,17 +17,21 @@ import os
 import shutil
 import subprocess
 import sys
-import tempfile
 import time
 from pathlib import Path
 
 TOP = Path(__file__).resolve().parent.parent
 PROGRAM = "fedbundle_cli"
-PARTS = ["src", "specs", "proofs"]
-# What the checks of a crate keep.
-KEPT = ["rlib", "incremental"]
-MEMORY_OF_A_CHECK = 4_000_000_000
+CRATE = TOP / "crates" / PROGRAM
+OUT = CRATE / "out"
 LEVELS = ["x86-64-v2", "x86-64", "x86-64-v3"]
+GB = 1_000_000_000
+MEMORY_OF_A_CHECK = 4
+# Of a run from nothing on 2026-11-29: the memory of the program's own crate, and the minutes of a processor of all.
+MEMORY_OF_THE_PROGRAM = 10
+MINUTES = 150
+# Ends with this process, however that ends. What `rt` starts ends with it.
+RT = ["setpriv", "--pdeathsig", "TERM", "rt"]
 
 
 def say(text):
@@ -51,99 +56,77 @@ def wanted_cpu():
     return cpu
 
 
-def lines_of_crates():
-    """The lines of crates.txt of the program and of all that it uses, by the crates' names."""
-    lines = (TOP / "crates.txt").read_text().splitlines()
-    lines = {line.split(":")[0].split()[0]: line for line in lines if ":" in line and not line.startswith("#")}
+def crates():
+    """The names of the program's crate and of all that it uses."""
+    lines = [line.split(":") for line in (TOP / "crates.txt").read_text().splitlines() if line[:1] not in ("", "#")]
+    used = {head.split()[0]: names.split() for head, names in lines}
     found = [PROGRAM]
     for name in found:
-        found += [used for used in lines[name].split(":")[1].split() if used in lines and used not in found]
-    return {name: lines[name] for name in found}
+        found += [below for below in used[name] if below in used and below not in found]
+    return found
 
 
-def lanes():
-    """How many crates are proved side by side."""
-    free = next(int(line.split()[1]) * 1024 for line in open("/proc/meminfo") if line.startswith("MemAvailable:"))
-    return max(1, min(len(os.sched_getaffinity(0)), free // MEMORY_OF_A_CHECK))
+def free_memory():
+    """The memory that is free, in GB."""
+    return next(int(line.split()[1]) * 1024 // GB for line in open("/proc/meminfo") if line.startswith("MemAvailable:"))
 
 
-def move(source, target):
-    if source.is_dir():
-        shutil.rmtree(target, ignore_errors=True)
-        target.parent.mkdir(parents=True, exist_ok=True)
-        shutil.move(source, target)
+def plan(names):
+    """Says what the proofs will want, and returns how many are made side by side."""
+    free = free_memory()
+    lanes = max(1, min(len(os.sched_getaffinity(0)), free // MEMORY_OF_A_CHECK))
+    kept = sum((TOP / "crates" / name / "out/rlib/stamp").exists() for name in names)
+    say(f"proving {len(names)} crates, {lanes} at a time; {kept} were proved before, and are taken over if nothing below them changed")
+    most = max(MEMORY_OF_THE_PROGRAM, lanes * MEMORY_OF_A_CHECK)
+    say(f"from nothing this takes some {MINUTES // lanes} minutes, and up to {most} GB of memory, of which {free} GB are free")
+    if free < MEMORY_OF_THE_PROGRAM:
+        say(f"the check of {PROGRAM} alone takes up to {MEMORY_OF_THE_PROGRAM} GB: without them it may be killed")
+    return lanes
 
 
-def fill(room, lines):
-    """Makes the repository of the program's crates, with what earlier checks kept."""
-    (room / "crates.txt").write_text("".join(f"{line}\n" for line in lines.values()))
-    shutil.copy(TOP / "HANDLES", room)
-    for name in lines:
-        crate = TOP / "crates" / name
-        for part in filter(lambda part: (crate / part).is_dir(), PARTS):
-            shutil.copytree(crate / part, room / "crates" / name / part)
-        for kept in KEPT:
-            move(crate / "out" / kept, room / "crates" / name / "out" / kept)
-
-
-def give_back(room, lines):
-    for name in lines:
-        for kept in KEPT:
-            move(room / "crates" / name / "out" / kept, TOP / "crates" / name / "out" / kept)
-
-
-def prove(room, count):
-    """Proves all crates, with a line for each, and returns whether they are proved."""
+def prove(names, lanes):
+    """Proves all crates, with a line for each."""
     start = time.monotonic()
     said, done = [], 0
-    how = {"cwd": room, "stdin": subprocess.DEVNULL, "stdout": subprocess.PIPE, "stderr": subprocess.STDOUT}
-    with subprocess.Popen(["rt", "all", "check", "--jobs", str(lanes())], text=True, errors="replace", **how) as ran:
+    how = {"cwd": CRATE, "stdin": subprocess.DEVNULL, "stdout": subprocess.PIPE, "stderr": subprocess.STDOUT}
+    with subprocess.Popen([*RT, "all", "check", "--jobs", str(lanes)], text=True, errors="replace", **how) as ran:
         for line in ran.stdout:
             said.append(line)
             # rt prints what it said of a crate once it is through with it.
             if line.startswith("== ") and line != "== summary\n":
                 done += 1
-                say(f"[{done}/{count}] {line[3:].strip()}, {shown(time.monotonic() - start)}")
+                say(f"[{done}/{len(names)}] {line[3:].strip()}, {shown(time.monotonic() - start)}")
+            elif line.startswith("rt: waiting"):
+                say(line.strip())
     if ran.returncode:
         print("".join(said[-200:]), file=sys.stderr)
-    return not ran.returncode
+        stop(f"not proved, so nothing is built: rt ended with {ran.returncode}")
 
 
-def build(room, made, cpu):
+def build(made, cpu):
     """Builds the proved program, and runs it once."""
-    how = {"cwd": room / "crates" / PROGRAM, "stdin": subprocess.DEVNULL, "capture_output": True}
-    ran = subprocess.run(["rt", "run", "--cpu", cpu, "--", "--version"], text=True, errors="replace", **how)
+    how = {"cwd": CRATE, "stdin": subprocess.DEVNULL, "capture_output": True}
+    ran = subprocess.run([*RT, "run", "--cpu", cpu, "--", "--version"], text=True, errors="replace", **how)
     if ran.returncode:
         stop(f"the program is not built:\n{ran.stdout}{ran.stderr}")
     # A copy, so that the program has its own name in what it prints.
-    shutil.copy2(room / "crates" / PROGRAM / "out" / PROGRAM, made)
+    shutil.copy2(OUT / PROGRAM, made)
 
 
 def main():
     if not shutil.which("rt"):
         stop("rt, the command of the Rattle toolchain, is not on PATH")
-    start, lines, cpu = time.monotonic(), lines_of_crates(), wanted_cpu()
-    out = TOP / "crates" / PROGRAM / "out"
-    out.mkdir(exist_ok=True)
+    start, names, cpu = time.monotonic(), crates(), wanted_cpu()
+    OUT.mkdir(exist_ok=True)
     # One build at a time; it ends with this process.
-    lock = open(out / "build.lock", "w")
+    lock = open(OUT / "build.lock", "w")
     fcntl.flock(lock, fcntl.LOCK_EX)
-    made, stamp = out / "fedbundle.new", out / "fedbundle.built.new"
-    stamp.write_text("".join(f"{line}\n" for line in [f"cpu={cpu}", *lines]))
-    if not any((out / kept).is_dir() for kept in KEPT):
-        say(f"proving {len(lines)} crates, {lanes()} at a time: an hour and more on four processors")
-    scratch = TOP / ".git"
-    with tempfile.TemporaryDirectory(dir=scratch if scratch.is_dir() else None) as folder:
-        room = Path(folder)
-        fill(room, lines)
-        try:
-            if not prove(room, len(lines)):
-                stop("not proved, so nothing is built")
-            build(room, made, cpu)
-        finally:
-            give_back(room, lines)
-    os.replace(made, out / "fedbundle")
-    os.replace(stamp, out / "fedbundle.built")
+    made, stamp = OUT / "fedbundle.new", OUT / "fedbundle.built.new"
+    stamp.write_text("".join(f"{line}\n" for line in [f"cpu={cpu}", *names]))
+    prove(names, plan(names))
+    build(made, cpu)
+    os.replace(made, OUT / "fedbundle")
+    os.replace(stamp, OUT / "fedbundle.built")
     say(f"proved and built in {shown(time.monotonic() - start)}")
 
 

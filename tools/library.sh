@@ -19,6 +19,8 @@ stop() {
 mkdir -p -- "$1/include" "$1/lib/pkgconfig" || exit 1
 prefix=$(cd -- "$1" && pwd) || exit 1
 runtime=$(dirname -- "$(rt doc)")/c/liblibc_c.a
+version=$(sed -n '/const VERSION: /{n;p;}' "$top/crates/command_line/src/help_texts.rt")
+[ -n "$version" ] || stop 'help_texts.rt names no version'
 [ -f "$runtime" ] || stop "there is no $runtime"
 
 (cd -- "$crate" && rt lib) || stop 'it is not proved'
@@ -45,7 +47,7 @@ libdir=\${prefix}/lib
 
 Name: fedbundle
 Description: the store under a replica of a SPIFFE trust server
-Version: 0.10.0
+Version: $version
 Cflags: -I\${includedir}
 Libs: -L\${libdir} -lfedbundle
 EOF

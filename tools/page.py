@@ -18,7 +18,7 @@ TOP = Path(__file__).resolve().parent.parent
 WRITTEN = TOP / "crates/health_pages/src/page_files.rt"
 FILES = {"INDEX_HTML": "index.html", "PAGE_CSS": "page.css", "PAGE_JS": "page.js"}
 COLUMNS, MOST_BYTES = 100, 24_576
-HEAD = "//! The three files of web/, by tools/page.py: the page at `/`, and what it loads.\n"
+HEAD = "//! The three files of web/, by tools/page: the page at `/`, and what it loads.\n"
 
 
 def stop(text):

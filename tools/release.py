@@ -93,6 +93,15 @@ def version():
     return re.search(r'const VERSION: &str = "\\\n([0-9.]+)\n', text).group(1)
 
 
+def sections(text=None):
+    """The titles of the sections of CHANGELOG.md, the newest first: Unreleased, and each release with its day."""
+    return re.findall(r"^## (.*)$", text or (TOP / "CHANGELOG.md").read_text(), re.M)
+
+
+def is_version_with_day(title):
+    return re.fullmatch(rf"{re.escape(version())}, \d{{4}}-\d\d-\d\d", title) is not None
+
+
 def crates_of(name):
     """A crate and all of the repository that it uses, in the order of their names."""
     lines = [line.split(":") for line in (TOP / "crates.txt").read_text().splitlines() if line[:1] not in ("", "#")]
@@ -208,6 +217,8 @@ def main():
     words = [Path(word) for word in sys.argv[1:]]
     if len(words) not in (0, 3):
         stop("usage: release [PROGRAM V3 LIBRARY]")
+    if not is_version_with_day(sections()[0]):
+        stop(f"CHANGELOG.md begins with '{sections()[0]}', and not with the version that the sources have, {version()}, and its day")
     with tempfile.TemporaryDirectory() as room:
         write(*((words[:2], words[2]) if words else built(Path(room))))
 

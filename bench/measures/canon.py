@@ -15,7 +15,7 @@ import subprocess
 import tempfile
 from pathlib import Path
 
-from building import build_peer, built_program, earlier_programs, stop, used_by_children
+from building import build_peer, earlier_programs, find_program, stop, used_by_children
 from texts import url_text
 
 DOMAIN = "a.example"
@@ -154,7 +154,7 @@ def main(words):
     runs = int(words[0]) if words else 31
     words = ["canon", "--domain", DOMAIN]
     earlier = [[program, *words] for program in earlier_programs()]
-    commands = [[built_program(), *words], [str(build_peer("canon")), DOMAIN], *earlier]
+    commands = [[find_program(), *words], [str(build_peer("canon")), DOMAIN], *earlier]
     print(f"Processor times of whole processes in ms, the start of the process included, by {runs} runs of each, in turns.")
     print("MB/s is by the best time. The ratio is fedbundle's time over that of plain Rust.\n")
     before = RATIOS.format("before", "") * len(earlier)

@@ -21,7 +21,7 @@ import time
 from multiprocessing import get_context
 from pathlib import Path
 
-from building import built_program, stop
+from building import find_program, stop
 from measures.replica import (
     IDLE_SESSIONS, LEAST_EVERY, SECONDS, Held, ask, free_address, idle_seconds, memory, next_pull, start, used)
 from receipts import DOMAIN, KINDS, SEED_DER
@@ -299,7 +299,7 @@ def main(words):
     sizes = [int(word) for word in words if word.isdigit()] or SIZES
     if unknown := [word for word in words if not word.isdigit() and word not in KINDS]:
         stop(f"no kind: {' '.join(unknown)}")
-    program = built_program()
+    program = find_program()
     table = Table()
     print_head()
     for kind in kinds:

@@ -13,7 +13,7 @@ import subprocess
 import tempfile
 from pathlib import Path
 
-from building import BENCH, OUT, TOP, build_peer, built_program, run_timed, stop
+from building import BENCH, OUT, TOP, build_peer, find_program, run_timed, stop
 from measures.report import streams, write_stream
 
 REPORTS = 20
@@ -52,7 +52,7 @@ def timed(words):
 def main(words):
     runs = int(words[0]) if words else 5
     sizes = [int(size) for size in words[1:]] or [4_096, 16_384]
-    ours, plain, command = build_c(built_library()), build_peer("report", soft=True), built_program()
+    ours, plain, command = build_c(built_library()), build_peer("report", soft=True), find_program()
     print(f"Takes and reports a second, best of {runs} runs of each, in turns; the ratio is plain Rust's over the library's. Last")
     print("the milliseconds of a processor for the command on the same receipts.\n")
     print(ROW.format("bundles", "shape", "receipts", "takes/s", "plain", "ratio", "reports/s", "plain", "ratio", "command"))

@@ -20,7 +20,7 @@ import threading
 import time
 from pathlib import Path
 
-from building import built_program, stop
+from building import find_program, stop
 from receipts import DOMAIN, ENDPOINT, config_text, limit_words, write_state
 
 LEAST_EVERY = 1
@@ -203,7 +203,7 @@ def print_records(held, answers, asks):
 def main(words):
     count = int(words[0]) if words else 61_440
     requests = int(words[1]) if len(words) > 1 else 1_000
-    program = built_program()
+    program = find_program()
     with tempfile.TemporaryDirectory(prefix="fedbundle-") as folder:
         folder = Path(folder)
         held = Held(folder, count, 3 * requests + 100)

@@ -21,7 +21,7 @@ import random
 import tempfile
 from pathlib import Path
 
-from building import build_peer, built_program, earlier_programs, run_timed, stop
+from building import build_peer, earlier_programs, find_program, run_timed, stop
 from receipts import limit_words
 from texts import compact, url_text
 
@@ -185,7 +185,7 @@ def main(words):
     names = [word for word in words[1:] if not word.isdigit()]
     if unknown := [name for name in names if name not in MAKES and name not in SHAPES]:
         stop(f"no bundles and no shape: {' '.join(unknown)}")
-    program = built_program()
+    program = find_program()
     plain = [build_peer("report"), build_peer("report", soft=True)]
     earlier = earlier_programs()
     row = "{:<11} {:<15} {:>8} {:>10}" + OURS + OTHER * (len(plain) + len(earlier))

@@ -18,7 +18,7 @@ import threading
 import time
 from pathlib import Path
 
-from building import build_peer, build_with_earlier, built_program, earlier_programs, own_rows, run, stop
+from building import build_peer, build_with_earlier, earlier_programs, find_program, own_rows, run, stop
 from receipts import KINDS, SIZES, limit_words, write_config, write_receipts, write_snapshot
 
 HOST = "127.0.0.1"
@@ -196,7 +196,7 @@ class Ours:
     """The words of the built program's commands, over states of so many receipts at most."""
 
     def __init__(self, most, program=None):
-        self.program = program or built_program()
+        self.program = program or find_program()
         self.limit = limit_words(most)
 
     def serve(self, config, state, port, sessions):

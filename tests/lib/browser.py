@@ -92,7 +92,7 @@ class Browser:
     def open(self, address):
         self.call("Page.navigate", url=address)
 
-    def becomes(self, code, seconds=20):
+    def becomes(self, code, seconds=600):
         """Whether the expression is true within this many seconds."""
         end = time.monotonic() + seconds
         while time.monotonic() < end:

@@ -12,6 +12,7 @@ import threading
 import time
 from contextlib import nullcontext
 from dataclasses import dataclass, field, replace
+from functools import lru_cache
 from importlib.machinery import SourceFileLoader
 from importlib.util import module_from_spec, spec_from_loader
 from itertools import count
@@ -20,7 +21,8 @@ from pathlib import Path
 from sums import PARTS, answer, marks_between, question, sums_of
 
 TOP = Path(__file__).resolve().parent.parent.parent
-SECONDS = 10
+# What takes longer hangs, also on a machine with much other work. A shorter limit of time is only in what looks at a time.
+HANG = 600
 
 # As `struct told` of inject.c.
 KINDS = ["alloc", "open", "read", "write", "sync", "rename", "lock", "close", "change", "socket", "system"]
@@ -40,18 +42,11 @@ def stop(text):
     sys.exit(f"{Path(sys.argv[0]).name}: {text}")
 
 
+@lru_cache
 def find_program():
-    """The program that $FEDBUNDLE names, or else the one that ./fedbundle builds. If nobody ran that, but `rt ci` or
-    `rt run` built the program, it is that one."""
-    named = os.environ.get("FEDBUNDLE")
-    by_rt = TOP / "crates/fedbundle_cli/out/fedbundle_cli"
-    if not named and by_rt.exists() and not by_rt.with_name("fedbundle").exists():
-        named = by_rt
-    if not named:
-        if subprocess.run([TOP / "fedbundle", "--version"], stdout=subprocess.DEVNULL).returncode != 0:
-            stop("the program is not built")
-        named = TOP / "crates/fedbundle_cli/out/fedbundle"
-    return str(Path(named).resolve())
+    """The program of these sources that `./fedbundle --which` finds. If there is none, that said so in a line."""
+    found = subprocess.run([TOP / "fedbundle", "--which"], stdout=subprocess.PIPE, text=True)
+    return found.stdout.removesuffix("\n") if found.returncode == 0 else sys.exit(1)
 
 
 def temporary():
@@ -81,14 +76,28 @@ def build_library(folder, program):
     return library
 
 
-PORTS = count()
+PORTS, MARKS = count(), {}
+
+
+def first_port():
+    """The first of 200 ports that no other process of a test takes. The name of a socket says so while this process runs."""
+    process = os.getpid()
+    for number in count(process):
+        if process in MARKS:
+            return MARKS[process][0]
+        mark = socket.socket(socket.AF_UNIX)
+        try:
+            mark.bind(f"\0fedbundle-ports-{number % 100}")
+            MARKS[process] = 10_000 + number % 100 * 200, mark
+        except OSError:
+            mark.close()
 
 
 def listener_of_own():
     """A listener at a port that no other process of a test takes: each has 200 of its own, below those that the system
     gives away."""
     while True:
-        port = 10_000 + os.getpid() % 100 * 200 + next(PORTS) % 200
+        port = first_port() + next(PORTS) % 200
         try:
             return socket.create_server(("127.0.0.1", port)), port
         except OSError:
@@ -145,7 +154,7 @@ class Peer:
 
     def answer_on(self, stream):
         with stream, stream.makefile("rb") as lines:
-            stream.settimeout(SECONDS)
+            stream.settimeout(HANG)
             try:
                 for line in lines:
                     is_have = line.startswith(b'{"bucket":')
@@ -156,7 +165,7 @@ class Peer:
     def ask(self):
         while not self.ended.is_set():
             try:
-                stream = socket.create_connection(("127.0.0.1", self.port), SECONDS)
+                stream = socket.create_connection(("127.0.0.1", self.port), HANG)
                 break
             except OSError:
                 time.sleep(0.002)
@@ -270,7 +279,7 @@ class Place:
             "REFUSE_CALL": str(call),
             "REFUSE_HOW": how,
             "REFUSE_ERROR": str(error),
-            "REFUSE_SECONDS": str(SECONDS),
+            "REFUSE_SECONDS": str(HANG),
         }
         with run.peer() if run.peer else nullcontext() as address:
             words = [address if word == "PEER" else word for word in run.words]

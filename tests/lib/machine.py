@@ -78,7 +78,7 @@ class Machine:
 
     def attempt(self, command, **more):
         """Runs a line there, with no limit on its status."""
-        return subprocess.run(self.words(command), capture_output=True, text=True, timeout=300, **{"stdin": subprocess.DEVNULL, **more})
+        return subprocess.run(self.words(command), capture_output=True, text=True, timeout=1200, **{"stdin": subprocess.DEVNULL, **more})
 
     def run(self, command, quiet=False):
         """Runs a line there that has to end well, and returns what it printed."""
@@ -148,7 +148,7 @@ class Booted(Machine):
         return int(children[0]) if children and "systemd" in Path(f"/proc/{children[0]}/comm").read_text() else None
 
     def _until(self, found, what):
-        end = time.monotonic() + 30
+        end = time.monotonic() + 300
         while time.monotonic() < end and self.outer.poll() is None:
             if seen := found():
                 return seen

@@ -52,7 +52,7 @@ class WatchedReplica:
         return (self.at if self.askable[word] else self.files)(word, *more, text=text)
 
     def printed(self, *words, given=b"", text=False):
-        ran = subprocess.run([self.program, *words], input=given, capture_output=True, cwd=self.folder, timeout=60)
+        ran = subprocess.run([self.program, *words], input=given, capture_output=True, cwd=self.folder, timeout=600)
         if ran.returncode > 1:
             raise OSError(f"{' '.join(words)}: {ran.stderr.decode()}")
         return ran.stdout.decode() if text else ran.stdout
@@ -75,7 +75,7 @@ class WatchedReplica:
         return self
 
     def printed_address(self):
-        end = time.monotonic() + 10
+        end = time.monotonic() + 600
         while time.monotonic() < end:
             if found := re.search(r"^fedbundle: health (\S+)$", self.said(), re.M):
                 return found[1]

@@ -1,10 +1,10 @@
 #!/bin/sh
 # Compares what `fedbundle canon` prints for each bundle of examples/, and `fedbundle report` for the receipts, with the stored
-# texts, and the key ids in them with the SHA-256 of the certificates. If there is python3, what canon.py and report.py print
-# is compared, too. The program is the one that ./fedbundle runs, or the one that $FEDBUNDLE names. The exit status is 1 if
+# texts, and the key ids in them with the SHA-256 of the certificates. What canon.py and report.py print is compared, too. The
+# program is the one that ./fedbundle runs, or the one that $FEDBUNDLE names. The exit status is 1 if
 # something differs.
 oracle=$(dirname -- "$(readlink -f -- "$0")")
-program=$(readlink -f -- "${FEDBUNDLE:-$oracle/../../fedbundle}")
+program=$("$oracle/../../fedbundle" --which) || exit 1
 cd -- "$oracle/../../examples" || exit 1
 ended=0
 
@@ -32,10 +32,8 @@ for domain in a.example b.example; do
     [ "$(key_lines "$domain")" = "$(grep '^key ' "$domain.canon" | sort)" ]
     tell "$domain, SHA-256 of the certificates by openssl" $?
 
-    if command -v python3 >/dev/null; then
-        python3 "$oracle/canon.py" "$domain" <"$domain.json" | diff "$domain.canon" -
-        tell "$domain, canon.py" $?
-    fi
+    python3 "$oracle/canon.py" "$domain" <"$domain.json" | diff "$domain.canon" -
+    tell "$domain, canon.py" $?
 done
 "$program" report --config config.json <receipts.jsonl | diff receipts.report -
 tell "receipts, fedbundle report" $?
@@ -50,8 +48,6 @@ unknown=$(sed 's/.*"key":"\([0-9a-f]*\)".*/\1/' receipts.jsonl | sort -u | grep 
 [ -z "$unknown" ]
 tell "receipts, SHA-256 of the certificates by openssl" $?
 
-if command -v python3 >/dev/null; then
-    python3 "$oracle/report.py" config.json <receipts.jsonl | diff receipts.report -
-    tell "receipts, report.py" $?
-fi
+python3 "$oracle/report.py" config.json <receipts.jsonl | diff receipts.report -
+tell "receipts, report.py" $?
 exit "$ended"

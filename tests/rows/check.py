@@ -10,7 +10,6 @@ It needs python3 and nothing else. The program is the one that ./fedbundle runs,
 usage: check [WORD]     runs the rows whose lines have WORD, all if left out; the status is 1 if one fails
 """
 import hashlib
-import os
 import re
 import subprocess
 import sys
@@ -18,9 +17,10 @@ import tempfile
 from pathlib import Path
 
 TOP = Path(__file__).resolve().parent.parent.parent
+sys.path.insert(0, str(TOP / "tests/lib"))
+from harness import HANG, find_program  # noqa: E402
+
 CRATE = TOP / "crates" / "command_rows"
-PROGRAM = os.environ.get("FEDBUNDLE", str(TOP / "fedbundle"))
-SECONDS = 60
 FOR_THE_PROGRAM = ("run", "shows", "built")
 MAX_SHOWN_BYTES = 200
 MAX_LINES_BYTES = 4_000
@@ -148,11 +148,11 @@ class Case:
             for name, text in self.files.items():
                 (Path(folder) / name).write_bytes(text)
             ran = subprocess.run(
-                [PROGRAM, *self.words],
+                [find_program(), *self.words],
                 input=self.input,
                 capture_output=True,
                 cwd=folder,
-                timeout=SECONDS,
+                timeout=HANG,
             )
             state = self.files.get(self.state)
             path = Path(folder) / self.state if self.state else None

@@ -29,7 +29,7 @@ from pathlib import Path
 sys.dont_write_bytecode = True
 HERE = Path(__file__).resolve().parent
 sys.path.insert(0, str(HERE.parent / "lib"))
-from harness import KINDS, TOLD, build_library, find_program, temporary  # noqa: E402
+from harness import HANG, KINDS, TOLD, build_library, find_program, temporary  # noqa: E402
 import replica as replicas  # noqa: E402
 
 DOMAIN, ENDPOINT, KEY, OBSERVE = replicas.DOMAIN, replicas.ENDPOINT, replicas.KEY, replicas.OBSERVE
@@ -140,8 +140,8 @@ def changes(program, above):
         merged = one.ask("merge", text=(other.folder / "state").read_bytes())
         want("it is merged", merged == (0, b"new 3\n", b""), merged)
         with two:
-            want("it pulls", within(20, lambda: events_of(two, "pull") != []), two.said())
-            within(5, lambda: (two.folder / "audit").read_text().count("\n") > 1)
+            want("it pulls", within(HANG, lambda: events_of(two, "pull") != []), two.said())
+            within(HANG, lambda: (two.folder / "audit").read_text().count("\n") > 1)
             two.stop()
         one.stop()
     ids = [document_id(program, text) for text in texts]
@@ -278,7 +278,7 @@ def calls(program, above):
         told.write_bytes(bytes(TOLD.size))
         replica = Replica(program, above / f"calls-{runs}", *AUDIT, environment={
             "LD_PRELOAD": library, "REFUSE_TOLD": str(told), "REFUSE_KIND": "system" if call else "none",
-            "REFUSE_CALL": str(call), "REFUSE_HOW": how, "REFUSE_ERROR": "0", "REFUSE_SECONDS": "120",
+            "REFUSE_CALL": str(call), "REFUSE_HOW": how, "REFUSE_ERROR": "0", "REFUSE_SECONDS": str(HANG),
         })
         replica.start()
         first = dict(zip(KINDS, TOLD.unpack(told.read_bytes())))["system"]
@@ -307,8 +307,8 @@ def calls(program, above):
             runs += 1
             *_, was_killed, was_cut = run(call, how)
             killed, cuts = killed + was_killed, cuts + was_cut
-    # How many calls come depends on what is ready at one time, so the last ones may not come.
-    want("it is killed, and lines are cut off", killed > runs // 4 and cuts > 0, runs, killed, cuts)
+    # How many calls come depends on what is ready at one time, so on a busy machine most of the last ones do not come.
+    want("it is killed, and lines are cut off", killed >= 10 and cuts > 0, runs, killed, cuts)
     return f"{runs} runs, {killed} kills, after {cuts} of them lines were cut off"
 
 

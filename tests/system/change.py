@@ -49,12 +49,12 @@ from pathlib import Path
 sys.dont_write_bytecode = True
 HERE = Path(__file__).resolve().parent
 sys.path.insert(0, str(HERE.parent / "lib"))
-from harness import KINDS, TOLD, TOP, build_library, find_program, shown, temporary  # noqa: E402
+from harness import HANG, KINDS, TOLD, TOP, build_library, find_program, shown, temporary# noqa: E402
+from needs import left_out  # noqa: E402
 import replica as replicas  # noqa: E402
 
 ask, free_address = replicas.ask, replicas.free_address
 
-SECONDS = 120
 DER = b"the certificate of each bundle"
 KEY = hashlib.sha256(DER).hexdigest()
 PLAIN = [f"p{number}.example" for number in range(4)]
@@ -84,10 +84,10 @@ def want(what, right, *seen):
 
 def until(what, holds, seen=lambda: ""):
     """Waits until it holds. If it does not, that is reported, and the part ends."""
-    end = time.monotonic() + SECONDS
+    end = time.monotonic() + HANG
     while not holds():
         if time.monotonic() > end:
-            want(f"{what}, within {SECONDS} seconds", False, seen())
+            want(f"{what}, within {HANG} seconds", False, seen())
             raise Failed
         time.sleep(0.05)
     want(what, True)
@@ -212,7 +212,7 @@ class Replica:
         self.process, self.begun, self.config, self.is_away = None, 0, None, False
 
     def run(self, *words, text=b""):
-        return subprocess.run([self.program, *words], input=text, capture_output=True, cwd=self.folder, timeout=SECONDS)
+        return subprocess.run([self.program, *words], input=text, capture_output=True, cwd=self.folder, timeout=HANG)
 
     def command(self, config, previous=None, socket="socket"):
         return ["replica", "--config", config.name, *(["--previous", previous.name] if previous else []), "--state", "state",
@@ -228,10 +228,10 @@ class Replica:
     def start(self, config, previous=None):
         """Starts it, and returns what it prints until it accepts requests or has ended."""
         self.begin(config, previous)
-        printed, end = b"", time.monotonic() + SECONDS
+        printed, end = b"", time.monotonic() + HANG
         while not printed.endswith(b"\n"):
             if not select.select([self.process.stdout], [], [], max(0, end - time.monotonic()))[0]:
-                want(f"a start, within {SECONDS} seconds", False, self.said())
+                want(f"a start, within {HANG} seconds", False, self.said())
                 self.kill()
                 raise Failed
             piece = os.read(self.process.stdout.fileno(), 1 << 16)
@@ -242,7 +242,7 @@ class Replica:
 
     def ends(self):
         """Waits until it has ended."""
-        status = self.process.wait(SECONDS)
+        status = self.process.wait(HANG)
         self.process.stdout.close()
         self.process = None
         return status
@@ -256,11 +256,11 @@ class Replica:
         return self.ends()
 
     def ask(self, *words, text=b""):
-        return ask(self.socket, words, text, SECONDS)
+        return ask(self.socket, words, text, HANG)
 
     def observe(self, domain, sequence, *ders, config=None):
         words = ["--domain", domain, "--endpoint", (config or self.config).endpoint(domain), "--key", KEY]
-        return ask(self.socket, ["observe", *words], bundle(sequence, *ders).encode(), SECONDS)
+        return ask(self.socket, ["observe", *words], bundle(sequence, *ders).encode(), HANG)
 
     def said(self):
         """What it reported since its last start."""
@@ -644,7 +644,7 @@ class Refusing:
         self.told = above / "told"
         self.environment = {
             "LD_PRELOAD": build_library(above, program), "REFUSE_TOLD": str(self.told), "REFUSE_ERROR": "5",
-            "REFUSE_SECONDS": str(SECONDS - 20),
+            "REFUSE_SECONDS": str(HANG - 20),
         }
 
     def run(self, case, kind, call, how):
@@ -677,7 +677,8 @@ def some_of(count, most):
 
 def calls(program, above):
     if b"AddressSanitizer" in Path(program).read_bytes():
-        return "left out, since the program was built with a sanitizer"
+        left_out("refused calls", "the program was built with a sanitizer")
+        return "nothing"
     refusing, count = Refusing(program, above), 0
     for case in cases_of(4):
         ready, _, calls_of, _ = refusing.run(case, "none", 0, "once")
@@ -822,7 +823,7 @@ class Fleet(Net):
             replica = chance.choice([it for it in self.replicas if not it.is_away] or self.replicas)
             domain, sequence = chance.choice([*PLAIN, FLOORED]), next(self.sequences)
             words = ["observe", "--domain", domain, "--endpoint", OLD.endpoint(domain), "--key", KEY]
-            reply = ask(replica.socket, words, bundle(sequence, chance.randbytes(12)).encode(), 10)
+            reply = ask(replica.socket, words, bundle(sequence, chance.randbytes(12)).encode(), HANG)
             if reply is None:
                 # The replica was just killed or stopped: another one gets the next bundle.
                 self.turns.release()
@@ -841,7 +842,7 @@ class Fleet(Net):
         while not self.ended.wait(pause):
             begun = time.monotonic()
             for domain in BOTH:
-                reply = None if replica.is_away else ask(replica.socket, ["bundle", "--domain", domain], b"", 10)
+                reply = None if replica.is_away else ask(replica.socket, ["bundle", "--domain", domain], b"", HANG)
                 if reply is None:
                     continue
                 self.looks[number] += 1

@@ -23,7 +23,7 @@ from pathlib import Path
 
 sys.dont_write_bytecode = True
 sys.path.insert(0, str(Path(__file__).resolve().parent.parent / "lib"))
-from harness import SECONDS, content, find_program, lay, shown, temporary, worked_runs  # noqa: E402
+from harness import HANG, content, find_program, lay, shown, temporary, worked_runs  # noqa: E402
 
 WRITES_OUT = [
     "canon-normalises/whole",
@@ -63,7 +63,7 @@ class Judge:
         with self.input.open("rb") as stdin:
             given = {"stdin": stdin, "stdout": subprocess.PIPE, "stderr": subprocess.PIPE, **streams}
             words = ["/bin/sh", "-c", f'exec "$@" {before}', "sh", self.program, *run.words]
-            ran = subprocess.run(words, cwd=self.folder, timeout=SECONDS, **given)
+            ran = subprocess.run(words, cwd=self.folder, timeout=HANG, **given)
         return ran.returncode, ran.stdout, ran.stderr
 
     def want(self, what, run, right, answer):

@@ -29,7 +29,7 @@ from pathlib import Path
 
 sys.dont_write_bytecode = True
 sys.path.insert(0, str(Path(__file__).resolve().parent.parent / "lib"))
-from harness import SECONDS, as_journal, find_program, journaled, lay, shown  # noqa: E402
+from harness import HANG, as_journal, find_program, journaled, lay, shown  # noqa: E402
 from harness import temporary, worked_runs  # noqa: E402
 
 ROWS = ["state-files/observe-third-document", "merge/third-merges-second", "distrust/key-of-abc"]
@@ -57,7 +57,7 @@ def run(program, folder, row, words=None, variables=None):
     words = [program, *(words or row.words)]
     variables = {**os.environ, **(variables or {})}
     try:
-        return subprocess.run(words, cwd=folder, input=row.stdin, capture_output=True, timeout=SECONDS, env=variables)
+        return subprocess.run(words, cwd=folder, input=row.stdin, capture_output=True, timeout=HANG, env=variables)
     except subprocess.TimeoutExpired:
         return subprocess.CompletedProcess(words, None, b"", b"it did not end")
 
@@ -174,7 +174,7 @@ def the_lock_is_taken_away(program, folder, row, wanted, replace):
         time.sleep(0.3)
         want(waiting.poll() is None, f"{row.name}: it waits for the file that replaced it", waiting.poll())
         other.close()
-    want(waiting.wait(timeout=SECONDS) == 0, f"{row.name}: the lock was taken away", waiting.stderr.read())
+    want(waiting.wait(timeout=HANG) == 0, f"{row.name}: the lock was taken away", waiting.stderr.read())
     want((folder / "state").read_bytes() == wanted, f"{row.name}: the lock was taken away: the state")
     want(lock.exists(), f"{row.name}: the lock was taken away: a lock's file")
 

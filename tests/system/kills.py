@@ -31,7 +31,7 @@ from pathlib import Path
 
 sys.dont_write_bytecode = True
 sys.path.insert(0, str(Path(__file__).resolve().parent.parent / "lib"))
-from harness import SECONDS, Place, Run, as_journal, build_library, content, find_program  # noqa: E402
+from harness import HANG, Place, Run, as_journal, build_library, content, find_program  # noqa: E402
 from harness import journaled, lay, shown, temporary, worked_runs  # noqa: E402
 
 ROWS = [
@@ -191,7 +191,7 @@ class Together:
         return given
 
     def ends(self, processes):
-        return [process.wait(timeout=MANY * SECONDS) for process in processes]
+        return [process.wait(timeout=HANG) for process in processes]
 
     def one_after_another(self, commands):
         for command in commands:

@@ -29,7 +29,7 @@ from pathlib import Path
 
 sys.dont_write_bytecode = True
 sys.path.insert(0, str(Path(__file__).resolve().parent.parent / "lib"))
-from harness import SECONDS, find_program, temporary  # noqa: E402
+from harness import HANG, find_program, temporary  # noqa: E402
 
 DOMAIN = "a.example"
 ENDPOINT = "spiffe://a.example/bundle"
@@ -78,7 +78,7 @@ def distrusting(state, key="hello"):
 
 
 def run(command, given=b""):
-    return subprocess.run(command, input=given, capture_output=True, timeout=SECONDS)
+    return subprocess.run(command, input=given, capture_output=True, timeout=HANG)
 
 
 def start(command):
@@ -114,7 +114,7 @@ def giving_up():
             loud = run([*command, "--wait", "1", "--verbose"], given)
             expect(loud, 3, waits + LOCKED + HAS_IT, f"{name} --wait 1 --verbose")
             took = time.monotonic() - began
-            want(0.9 < took < 5, f"{name} --wait 1: seconds", took)
+            want(0.9 < took < 60, f"{name} --wait 1: seconds", took)
     want(not Path("first").exists(), "no state was made")
     for number in ("", "-1", "+1", "1.0", "86401", "x"):
         ended = run([*commands["distrust"][0], f"--wait={number}"])
@@ -136,7 +136,7 @@ def slow_input():
         slow.stdin.flush()
         time.sleep(0.3)
         expect(run([*distrusting(state), "--wait", "0"]), 0, b"", f"distrust beside a slow {name}")
-        _, complaint = slow.communicate(given[20:], timeout=SECONDS)
+        _, complaint = slow.communicate(given[20:], timeout=HANG)
         want((slow.returncode, complaint) == (0, b""), f"the slow {name}", (slow.returncode, complaint))
         want(held(state) == (receipts, 1), f"{name}: receipts and records", held(state))
 
@@ -163,7 +163,7 @@ def serve(state, *more):
     address = free_address()
     server = start(words("serve", state, "--listen", address, "--sessions", "1", *more))
     place = "%04X" % int(address.rsplit(":", 1)[1])
-    for _ in range(500):
+    for _ in range(50 * HANG):
         sockets = [line.split() for line in Path("/proc/net/tcp").read_text().splitlines()[1:]]
         if any(fields[1].endswith(f":{place}") and fields[3] == "0A" for fields in sockets):
             return server, address
@@ -185,7 +185,7 @@ class SlowPeer:
     def play(self):
         client, _ = self.listener.accept()
         self.came.set()
-        self.may.wait(SECONDS)
+        self.may.wait(HANG)
         replica = socket.create_connection(self.replica)
         threading.Thread(target=self.carry, args=(client, replica), daemon=True).start()
         self.carry(replica, client)
@@ -210,13 +210,13 @@ def slow_pull():
         server, address = serve("source")
         peer = SlowPeer(address)
         pull = start(words("pull", "slow.pull", "--peer", peer.address))
-        want(peer.came.wait(SECONDS), "the pull came")
+        want(peer.came.wait(HANG), "the pull came")
         for command, given in meanwhile:
             expect(run([*command, "--wait", "0"], given), 0, b"", f"{name} beside a slow pull")
         peer.may.set()
-        printed, complaint = pull.communicate(timeout=SECONDS)
+        printed, complaint = pull.communicate(timeout=HANG)
         want((pull.returncode, printed, complaint) == (0, b"new 2\n", b""), f"a slow pull beside {name}", (printed, complaint))
-        want(server.wait(timeout=SECONDS) == 0, "serve ends")
+        want(server.wait(timeout=HANG) == 0, "serve ends")
         want(held("slow.pull") == wanted, f"a slow pull beside {name}: receipts and records", held("slow.pull"))
 
 
@@ -236,7 +236,7 @@ def too_many_bytes():
         Path("cut").unlink(missing_ok=True)
         server, address = serve("source")
         ended = run([*words("pull", "cut", "--peer", address), "--most-bytes", str(most)])
-        server.communicate(timeout=SECONDS)
+        server.communicate(timeout=HANG)
         if ended.returncode == 0:
             break
         expect(ended, 1, TOO_MANY, f"pull of {most} bytes")
@@ -300,13 +300,13 @@ def limits_of_sessions():
     """`serve` and `pull` have limits too: what came before one receipt too many is kept."""
     server, address = serve("source", "--most-receipts", "2")
     ended = run(words("pull", "room", "--peer", address, "--most-receipts", "1"))
-    server.communicate(timeout=SECONDS)
+    server.communicate(timeout=HANG)
     want(ended.returncode == 1, "pull of one too many", (ended.returncode, ended.stderr))
     want(re.fullmatch(rb"fedbundle: S8 Refused line \d+ G3 Full taken 1\n", ended.stderr), "pull of one too many", ended.stderr)
     want(held("room") == (1, 0), "what it keeps", held("room"))
     server, address = serve("source", "--most-receipts", "2")
     ended = run(words("pull", "room", "--peer", address, "--most-receipts", "2"))
-    server.communicate(timeout=SECONDS)
+    server.communicate(timeout=HANG)
     expect(ended, 0, b"", "pull of all that fits")
     want(held("room") == (2, 0), "what it brought", held("room"))
     ended = run(words("serve", "source", "--listen", "127.0.0.1:0", "--sessions", "1", "--most-receipts", "1"))
@@ -342,7 +342,7 @@ def verbose():
         want(loud.stdout == quiet.stdout, f"{name}: its output", loud.stdout)
     server, address = serve("source", "--verbose")
     want(run(words("pull", "heard", "--peer", address)).returncode == 0, "pull")
-    _, said = server.communicate(timeout=SECONDS)
+    _, said = server.communicate(timeout=HANG)
     client = r"127\.0\.0\.1:\d+"
     wanted = f"fedbundle: listens at {re.escape(address)}\nfedbundle: {client} came\nfedbundle: {client} was given 2 answers\n"
     want(re.fullmatch(wanted, said.decode()), "serve --verbose", said)

@@ -18,7 +18,6 @@ import os
 import resource
 import shutil
 import signal
-import socket
 import subprocess
 import sys
 from contextlib import contextmanager, nullcontext
@@ -27,7 +26,7 @@ from pathlib import Path
 
 sys.dont_write_bytecode = True
 sys.path.insert(0, str(Path(__file__).resolve().parent.parent / "lib"))
-from harness import SECONDS, find_program, listener_of_own, temporary  # noqa: E402
+from harness import HANG, find_program, listener_of_own, temporary  # noqa: E402
 
 NOBODY = 65534
 KEY = hashlib.sha256(b"abc").hexdigest()
@@ -304,7 +303,7 @@ def run(mistake, called, port, environment, more):
     words = [word.replace("PORT", str(port)) for word in mistake.words.split()] + more
     user = {"user": NOBODY, "group": NOBODY, "extra_groups": []} if mistake.as_nobody and os.geteuid() == 0 else {}
     return subprocess.run(
-        [called, *words], input=mistake.given, capture_output=True, timeout=SECONDS, env=environment,
+        [called, *words], input=mistake.given, capture_output=True, timeout=HANG, env=environment,
         preexec_fn=limit if mistake.limited else None, **user,
     )
 

@@ -10,7 +10,6 @@ usage: peers [slow]   with `slow` also those that say nothing more, for which th
 """
 import hashlib
 import json
-import os
 import signal
 import socket
 import struct
@@ -22,7 +21,7 @@ from pathlib import Path
 
 sys.dont_write_bytecode = True
 sys.path.insert(0, str(Path(__file__).resolve().parent.parent / "lib"))
-from harness import TOP, find_program, listener_of_own, shown, temporary  # noqa: E402
+from harness import HANG, TOP, find_program, listener_of_own, shown, temporary  # noqa: E402
 from sums import accept_haves  # noqa: E402
 
 CONFIG = (TOP / "examples/config.json").read_bytes()
@@ -53,7 +52,7 @@ class Program:
         return [self.program, word, "--config", "config", *held, *more]
 
     def run(self, word, state=None, *more, stdin=b""):
-        return subprocess.run(self.words(word, state, *more), input=stdin, capture_output=True, cwd=self.folder, timeout=120)
+        return subprocess.run(self.words(word, state, *more), input=stdin, capture_output=True, cwd=self.folder, timeout=HANG)
 
     def pull(self, state, port):
         return self.run("pull", state, "--peer", f"127.0.0.1:{port}")
@@ -100,7 +99,7 @@ def connected(port):
 
 
 def ended(server):
-    out, err = server.communicate(timeout=120)
+    out, err = server.communicate(timeout=HANG)
     return server.returncode, out, err
 
 
@@ -234,7 +233,7 @@ def one_by_one(program):
     out before its answer is waited for, and after the last answer nothing more is waited for."""
     answers = program.answers(HELD)
     asked = []
-    over = threading.Event()
+    over, answered = threading.Event(), []
 
     def meet(stream):
         # Each answer goes out immediately, as the program's own do.
@@ -243,16 +242,16 @@ def one_by_one(program):
             for answer in answers:
                 asked.append(questions.readline())
                 stream.sendall(answer)
-            over.wait(60)
+            answered.append(time.monotonic())
+            over.wait(HANG)
 
-    start = time.monotonic()
     pulled = program.pull("open", met_once(meet))
-    took = time.monotonic() - start
+    took = [time.monotonic() - last for last in answered]
     over.set()
     judge("a connection that stays open", (pulled.returncode, pulled.stdout, pulled.stderr) == (0, b"new %d\n" % HELD, b""), pulled)
     judge("a connection that stays open, the questions", asked == [program.question(bucket) for bucket in range(256)], asked)
     judge("a connection that stays open, the state", program.content("open") == program.content("held"), "another state")
-    judge("a connection that stays open, the time", took < 20, took)
+    judge("a connection that stays open, the time after the last answer", took and took[0] < 20, took)
 
 
 def endless_lines(program):
@@ -308,14 +307,14 @@ def other_configurations(program):
 def silent_peers(program):
     """Who says nothing more costs one session, and some thirty seconds."""
     start = time.monotonic()
-    pulled = program.pull("silent", met_once(lambda stream: time.sleep(60)))
+    pulled = program.pull("silent", met_once(lambda stream: time.sleep(HANG)))
     judge("a silent peer", (pulled.returncode, pulled.stderr) == (3, b"fedbundle: S9 Io taken 0\n"), pulled)
     server, port = program.serve("held", 1)
     with connected(port) as stream:
         stream.sendall(program.question(0)[:20])
         seen = ended(server)
     judge("a silent client", seen == (3, b"served 1\n", b"fedbundle: S9 Io\n"), seen)
-    judge("both", 55 < time.monotonic() - start < 75, time.monotonic() - start)
+    judge("both", 55 < time.monotonic() - start < 300, time.monotonic() - start)
 
 
 def main():

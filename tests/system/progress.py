@@ -32,10 +32,10 @@ TOP = Path(__file__).resolve().parents[2]
 sys.path[:0] = [str(TOP / "tests/lib"), str(TOP / "bench")]
 import receipts  # noqa: E402
 import sums  # noqa: E402
-from harness import find_program, temporary  # noqa: E402
+from harness import HANG, find_program, temporary  # noqa: E402
 
 # How long the program is stopped, or a peer pauses, and how long a command may take in all.
-PAUSE, LIMIT = 1.3, 120
+PAUSE = 1.3
 MANY, FEW = 12_000, 3
 LINE = re.compile(r"fedbundle: (reading the state|reading the other state|writing the state|writing the migrated state|pulling|serving): "
                   r"(\d+) receipts, (\d+) MB so far")
@@ -93,7 +93,7 @@ class Run:
 
     def pause_at(self, path):
         """Stops the program for a while, once it has the file open. Returns whether it came to that."""
-        end = time.monotonic() + LIMIT
+        end = time.monotonic() + HANG
         while self.process.poll() is None and time.monotonic() < end:
             if self.has_open(path):
                 self.pause()
@@ -107,7 +107,7 @@ class Run:
 
     def end(self):
         try:
-            status = self.process.wait(LIMIT)
+            status = self.process.wait(HANG)
         except subprocess.TimeoutExpired:
             self.process.kill()
             status = self.process.wait()
@@ -233,7 +233,7 @@ def merges(room):
 def started(room, words, terminal, ready):
     run = room.run(words, terminal)
     paused = run.pause_at(room.state)
-    end = time.monotonic() + LIMIT
+    end = time.monotonic() + HANG
     while not ready.exists() and run.process.poll() is None and time.monotonic() < end:
         time.sleep(0.01)
     return run, paused
@@ -295,7 +295,7 @@ def pulls(room, of):
             peer.start()
             run = room.run(room.words("pull", "--peer", f"127.0.0.1:{listener.getsockname()[1]}"), terminal)
             status = run.end()
-            peer.join(LIMIT)
+            peer.join(HANG)
         want("pull ends well", status == 0, status, run.text)
         if terminal:
             says(run, "pull", "pulling", MANY, room.bytes + 100_000)
@@ -306,7 +306,7 @@ def pulls(room, of):
 def asks(address, has, pause_at):
     """Asks a serve for each bucket, and pauses before one. Returns how many receipts came."""
     count = 0
-    with socket.create_connection(address, LIMIT) as stream, stream.makefile("rb") as lines:
+    with socket.create_connection(address, HANG) as stream, stream.makefile("rb") as lines:
         for bucket in range(BUCKETS):
             if bucket == pause_at:
                 time.sleep(PAUSE)
@@ -324,7 +324,7 @@ def asks(address, has, pause_at):
 
 def port_of(run):
     """At which port it listens: it says so on standard error, since 0 was asked for."""
-    end = time.monotonic() + LIMIT
+    end = time.monotonic() + HANG
     while time.monotonic() < end and run.process.poll() is None:
         if found := re.search(rb"listens at 127\.0\.0\.1:(\d+)", run.text):
             return int(found[1])

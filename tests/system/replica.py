@@ -54,7 +54,7 @@ from pathlib import Path
 
 sys.dont_write_bytecode = True
 sys.path.insert(0, str(Path(__file__).resolve().parent.parent / "lib"))
-from harness import KINDS, TOLD, build_library, find_program, listener_of_own, shown, temporary  # noqa: E402
+from harness import HANG, KINDS, TOLD, build_library, find_program, listener_of_own, shown, temporary  # noqa: E402
 
 DOMAIN = "a.example"
 ENDPOINT = "spiffe://a.example/bundle"
@@ -100,7 +100,7 @@ def free_address():
     return f"127.0.0.1:{port}"
 
 
-def ask(path, words, text=b"", seconds=30):
+def ask(path, words, text=b"", seconds=HANG):
     """What a replica replies to a request: the status and the two streams. None if it does not reply."""
     with socket.socket(socket.AF_UNIX) as stream:
         stream.settimeout(seconds)
@@ -157,16 +157,16 @@ class Replica:
     def run(self, word, *more, text=b""):
         """The program over the state file."""
         words = [self.program, word, "--config", "config", "--state", "state", *more]
-        return subprocess.run(words, input=text, capture_output=True, cwd=self.folder, timeout=120)
+        return subprocess.run(words, input=text, capture_output=True, cwd=self.folder, timeout=HANG)
 
     def run_config(self, *more):
         """What the program says of the configuration."""
         words = [self.program, "config", "--config", "config", *more]
-        return subprocess.run(words, capture_output=True, cwd=self.folder, timeout=120)
+        return subprocess.run(words, capture_output=True, cwd=self.folder, timeout=HANG)
 
     def run_at(self, word, *more, text=b""):
         words = [self.program, word, "--at", "socket", *more]
-        return subprocess.run(words, input=text, capture_output=True, cwd=self.folder, timeout=120)
+        return subprocess.run(words, input=text, capture_output=True, cwd=self.folder, timeout=HANG)
 
     def ask(self, *words, text=b""):
         return ask(self.socket, words, text)
@@ -179,7 +179,7 @@ class Replica:
         self.end()
 
     def end(self):
-        status = self.process.wait(60)
+        status = self.process.wait(HANG)
         self.process.stdout.close()
         self.log.close()
         self.process = None
@@ -236,12 +236,12 @@ def three_replicas(program, above):
         def reports():
             return [it.ask("report") for it in replicas]
 
-        same = within(3, lambda: all(it.ask("bundle", "--domain", DOMAIN) == (0, canon, b"") for it in replicas))
+        same = within(HANG, lambda: all(it.ask("bundle", "--domain", DOMAIN) == (0, canon, b"") for it in replicas))
         want("three, a bundle reaches all", same, reports())
         key = hashlib.sha256(OTHER_DER).hexdigest()
         seen = replicas[1].ask("distrust", "--domain", DOMAIN, "--key", key)
         want("three, distrusted", seen == (0, b"", b""), seen)
-        same = within(3, lambda: all(key.encode() in report[1] for report in reports()))
+        same = within(HANG, lambda: all(key.encode() in report[1] for report in reports()))
         want("three, a record reaches all", same, reports())
         seen = reports()
         want("three, equal reports", seen[0] == seen[1] == seen[2] and seen[0][0] == 0, seen)
@@ -344,10 +344,10 @@ def own_status(program, above):
     with Replica(program, above / "shown", "--listen", here) as one, Replica(program, above / "own", *words) as two:
         one.observe(2)
         began = int(time.time())
-        want("a receipt is pulled", within(5, lambda: b"receipts 1 of" in two.ask("status")[1]), two.ask("status"))
+        want("a receipt is pulled", within(HANG, lambda: b"receipts 1 of" in two.ask("status")[1]), two.ask("status"))
         ended_none = f"peer {here} ended-well none".encode()
-        want("the session ends well", within(5, lambda: ended_none not in two.ask("status")[1]), two.ask("status"))
-        want("a peer that is away", within(5, lambda: b"fault S9" in two.ask("status")[1]), two.ask("status"))
+        want("the session ends well", within(HANG, lambda: ended_none not in two.ask("status")[1]), two.ask("status"))
+        want("a peer that is away", within(HANG, lambda: b"fault S9" in two.ask("status")[1]), two.ask("status"))
         over = two.run("status")
         shown_lines = two.ask("status")
         told, told_over = ([line for line in text.decode().splitlines() if not line.startswith("warning: ")]
@@ -402,20 +402,20 @@ def crowd(program, above):
     words = ["--listen", address, "--peers", other, "--every", "1"]
     with Replica(program, above / "other", "--listen", other) as two, Replica(program, above / "crowd", *words) as one:
         gossip = [socket.create_connection(address.rsplit(":", 1)) for _ in range(150)]
-        want("they are refused, as there is no room", within(5, lambda: "event=refuse" in one.said()), one.said())
+        want("they are refused, as there is no room", within(HANG, lambda: "event=refuse" in one.said()), one.said())
         local = [socket.socket(socket.AF_UNIX) for _ in range(LOCAL - 1)]
         for stream in local:
             stream.connect(str(one.socket))
         seen = one.ask("report")
         want("a request in a crowd", seen is not None and seen[0] == 0, seen)
         two.observe(2)
-        want("a pull in a crowd", within(5, lambda: b"receipts 1 of" in one.ask("status")[1]), one.ask("status"))
+        want("a pull in a crowd", within(HANG, lambda: b"receipts 1 of" in one.ask("status")[1]), one.ask("status"))
         last = socket.socket(socket.AF_UNIX)
         last.connect(str(one.socket))
         want("one request more in a crowd", one.ask("report")[0] == 0, one.ask("report"))
         for stream in [*gossip, *local, last]:
             stream.close()
-        want("they are gone", within(5, lambda: (one.ask("report") or [1])[0] == 0))
+        want("they are gone", within(HANG, lambda: (one.ask("report") or [1])[0] == 0))
 
 
 def folded(program, above):
@@ -427,7 +427,7 @@ def folded(program, above):
             reply = replica.observe(sequence, bytes([sequence]) * 700_000)
             want(f"bundle {sequence} of a long journal", reply is not None and reply[0] == 0, reply and reply[2])
             acknowledged += [reply[1]] if reply and reply[0] == 0 else []
-        within(2, lambda: "event=fold bytes=" in replica.said())
+        within(HANG, lambda: "event=fold bytes=" in replica.said())
         sizes = (state.stat().st_size, journal.stat().st_size)
         want("it is folded once", replica.said().count("event=fold bytes=") == 1, replica.said())
         want("the state has the most of it, and the journal the rest", sizes[0] > 8_388_608 > sizes[1] > 0, sizes)
@@ -457,8 +457,8 @@ def refused_beginnings(program, above):
     with Replica(program, above / "lock") as one:
         for word, more in (("merge", []), ("distrust", ["--domain", DOMAIN, "--key", KEY])):
             begun = time.monotonic()
-            seen = one.run(word, *more)
-            quick = time.monotonic() - begun < 5
+            seen = one.run(word, *more, "--wait", "300")
+            quick = time.monotonic() - begun < 100
             said = (seen.returncode, seen.stderr) == (3, b"fedbundle: a replica is running\n")
             want(f"{word} beside a replica", said and quick, seen)
         seen = one.run("report")
@@ -557,7 +557,7 @@ def kill_in_folds(replica, acknowledged, rounds):
         lost = lost_of(replica, acknowledged)
         want(f"kill {number} in a fold, what was acknowledged is held", not lost, len(lost), lost[:1])
         with LongBundles(replica, 2 + 100_000 * number, acknowledged):
-            begun = within(20, lambda: new.exists() and new.stat().st_size > 0)
+            begun = within(HANG, lambda: new.exists() and new.stat().st_size > 0)
             time.sleep(0.002 * number)
             killed += new.exists()
             replica.kill()
@@ -574,8 +574,8 @@ def folds_under_load(program, above):
     with Replica(program, above / "pieces") as replica:
         files, acknowledged = [replica.folder / name for name in ("state", "state.journal")], []
         with LongBundles(replica, 2, acknowledged):
-            within(60, lambda: replica.said().count("event=fold bytes=") >= 3)
-        want("the end of the last fold", within(10, lambda: not (replica.folder / "state.new").exists()))
+            within(HANG, lambda: replica.said().count("event=fold bytes=") >= 3)
+        want("the end of the last fold", within(HANG, lambda: not (replica.folder / "state.new").exists()))
         sizes = [file.stat().st_size for file in files]
         folds = replica.said().count("event=fold bytes=")
         # With what came before the last fold it would have more than the state has.
@@ -668,7 +668,7 @@ def full_log(program, above):
         for sequence in sequences:
             for words, text in ((OBSERVE, bundle(sequence)), (["bundle", "--domain", DOMAIN], b"")):
                 begun = time.monotonic()
-                seen = ask(replica.socket, words, text, 20)
+                seen = ask(replica.socket, words, text)
                 longest = max(longest, time.monotonic() - begun)
                 want(f"{words[0]} {sequence} while nobody reads the events", seen is not None and seen[0] == 0, seen)
                 if seen is None:
@@ -691,7 +691,7 @@ def full_log(program, above):
         want("the next events", lost is None and second == list(range(64, 64 + len(second))), lost, second)
         want("it is stopped", replica.stop() == 0)
         want("what was left out at the end", observed_in(reading) == (60 - len(second), []))
-        want("how long a request takes", longest < 5, longest)
+        want("how long a request takes", longest < 60, longest)
     finally:
         replica.__exit__()
         os.close(reading)
@@ -714,7 +714,7 @@ def few_descriptors(program, above):
         want("failing accepts, time", now_ticks - ticks <= 30, now_ticks - ticks)
         for stream in quiet:
             stream.close()
-        want("there is room again", within(5, lambda: (replica.ask("report") or [1])[0] == 0))
+        want("there is room again", within(HANG, lambda: (replica.ask("report") or [1])[0] == 0))
         said = replica.said().count("event=accept fault=S9\n")
         want("it is reported, and not each time", 1 <= said <= 20, said)
     return f"woken {now_woken - woken} times in 3 seconds of failing accepts, {now_ticks - ticks} ticks"
@@ -767,12 +767,12 @@ def slow_others(program, above):
         want("one more of this machine than there may be", replica.ask("report")[0] == 0, replica.ask("report"))
         for stream in more:
             stream.close()
-        want("there is room again", within(5, lambda: (replica.ask("report") or [1])[0] == 0))
+        want("there is room again", within(HANG, lambda: (replica.ask("report") or [1])[0] == 0))
         ended.set()
         thread.join()
         for stream in [*slow, *gossip, never]:
             stream.close()
-        want("the others are gone", within(5, lambda: (replica.ask("report") or [1])[0] == 0))
+        want("the others are gone", within(HANG, lambda: (replica.ask("report") or [1])[0] == 0))
         return f"the longest bundle took {1000 * longest:.1f} ms"
 
 
@@ -791,13 +791,13 @@ class Refusing:
         self.number += 1
         replica = Replica(self.program, self.above / f"refusing-{self.number}", environment={
             "LD_PRELOAD": self.library, "REFUSE_TOLD": str(self.told), "REFUSE_KIND": kind, "REFUSE_CALL": str(call),
-            "REFUSE_HOW": how, "REFUSE_ERROR": str(error), "REFUSE_SECONDS": "60",
+            "REFUSE_HOW": how, "REFUSE_ERROR": str(error), "REFUSE_SECONDS": str(HANG),
         })
         acknowledged = []
         replica.start()
         if replica.ready:
             for sequence in (2, 3, 4):
-                reply = ask(replica.socket, OBSERVE, bundle(sequence), 5)
+                reply = ask(replica.socket, OBSERVE, bundle(sequence), 60)
                 acknowledged += [reply[1]] if reply and reply[0] == 0 else []
             ask(replica.socket, ["bundle", "--domain", DOMAIN], b"", 5)
             ask(replica.socket, ["stop"], b"", 5)
@@ -854,7 +854,7 @@ class Folding:
         self.told.write_bytes(bytes(TOLD.size))
         replica = Replica(self.program, self.above / f"folding-{self.number}", environment={
             "LD_PRELOAD": self.library, "REFUSE_TOLD": str(self.told), "REFUSE_KIND": kind, "REFUSE_CALL": str(call),
-            "REFUSE_HOW": how, "REFUSE_ERROR": "5", "REFUSE_SECONDS": "120",
+            "REFUSE_HOW": how, "REFUSE_ERROR": "5", "REFUSE_SECONDS": str(HANG),
         })
         replica.start()
         acknowledged = []
@@ -866,7 +866,7 @@ class Folding:
                 reply = None
             acknowledged += [reply[1]] if reply and reply[0] == 0 else []
             if before:
-                within(2, lambda: "event=fold" in replica.said() or replica.process.poll() is not None)
+                within(2 if call else HANG, lambda: "event=fold" in replica.said() or replica.process.poll() is not None)
                 calls = before, self.counts()
         said = replica.said()
         replica.kill()
@@ -951,7 +951,7 @@ def lost_files(program, above):
             if how == "replaced":
                 (replica.folder / "older").rename(name)
             reply = replica.observe(4) or (None, b"", b"")
-            said = within(2, lambda: f"event=lost file={file}\n" in replica.said())
+            said = within(HANG, lambda: f"event=lost file={file}\n" in replica.said())
             want(f"{what}: it is reported", said, replica.said())
             if file == "state":
                 want(f"{what}: it goes on", reply[0] == 0, reply)
@@ -959,7 +959,7 @@ def lost_files(program, above):
                 replica.kill()
             else:
                 want(f"{what}: nothing is acknowledged", reply[0] == 3, reply)
-                ended = within(2, lambda: replica.process.poll() is not None)
+                ended = within(HANG, lambda: replica.process.poll() is not None)
                 want(f"{what}: it ends with 3", ended and replica.process.poll() == 3)
                 replica.kill()
             replica.start()
@@ -990,10 +990,10 @@ def clients_that_wait(program, above):
 
     def timed(what, *words, text=b"", wanted=(3, b"fedbundle: no reply\n")):
         begun = time.monotonic()
-        seen = subprocess.run([program, *words, "--wait", "1"], input=text, capture_output=True, cwd=replica.folder, timeout=30)
+        seen = subprocess.run([program, *words, "--wait", "1"], input=text, capture_output=True, cwd=replica.folder, timeout=HANG)
         seconds.append(time.monotonic() - begun)
         want(what, (seen.returncode, seen.stderr) == wanted, seen)
-        want(f"{what}: in time", 0.9 <= seconds[-1] <= 6, seconds[-1])
+        want(f"{what}: in time", 0.9 <= seconds[-1] <= 60, seconds[-1])
 
     with Replica(program, above / "wait") as replica:
         os.kill(replica.process.pid, signal.SIGSTOP)
@@ -1031,7 +1031,7 @@ def own_socket(program, above):
 
     def said(words, **more):
         environment = {**os.environ, **loud}
-        return subprocess.run([program, *words], capture_output=True, cwd=replica.folder, env=environment, timeout=60, **more)
+        return subprocess.run([program, *words], capture_output=True, cwd=replica.folder, env=environment, timeout=HANG, **more)
 
     seen = said(["replica", "--config", "config", "--state", "state", "--new", "--socket", long])
     wanted = (3, f"fedbundle: S9 Io\n  socket {long}: File name too long\n".encode())
@@ -1080,12 +1080,12 @@ def read_socket(program, above):
             os.chown(read, 0, 65534)
             for path, wanted in ((read, 0), (replica.socket, 3)):
                 words = [program, "report", "--at", path]
-                seen = subprocess.run(words, capture_output=True, user=1, group=65534, extra_groups=[], timeout=60)
+                seen = subprocess.run(words, capture_output=True, user=1, group=65534, extra_groups=[], timeout=HANG)
                 want(f"{path.name} by one of the group", seen.returncode == wanted, seen)
         want("it ends", replica.stop() == 0)
         want("both sockets go", not replica.socket.exists() and not read.exists())
     with Replica(program, above / "one", "--read-socket", "socket") as replica:
-        want("one path for both", replica.process.wait(60) == 3, replica.said())
+        want("one path for both", replica.process.wait(HANG) == 3, replica.said())
 
 
 def listens_anywhere(program, above):
@@ -1140,9 +1140,9 @@ def different_limits(program, above):
         want("most, three are taken", seen == [0, 0, 0], seen)
         seen = three.observe(5)
         want("most, one too many", seen[0] == 1 and seen[2].endswith(b"G3 Full\n"), seen)
-        shows = within(5, lambda: b"\nreceipts 2 of 2 " in two.ask("status")[1])
+        shows = within(HANG, lambda: b"\nreceipts 2 of 2 " in two.ask("status")[1])
         want("most, one takes what it has room for", shows, two.ask("status"))
-        shows = within(5, lambda: b" fault S8 " in two.ask("status")[1])
+        shows = within(HANG, lambda: b" fault S8 " in two.ask("status")[1])
         want("most, it says that it takes no more", shows, two.ask("status"))
         warns = b"\nwarning: nearly-full: 2 of 2 receipts are held\n" in two.ask("status")[1]
         want("most, it warns", warns, two.ask("status"))
@@ -1151,7 +1151,7 @@ def different_limits(program, above):
         key = hashlib.sha256(OTHER_DER).hexdigest()
         seen = two.ask("distrust", "--domain", DOMAIN, "--key", key)
         want("most, it takes a record", seen == (0, b"", b""), seen)
-        shows = within(5, lambda: b"\nrecords 1 of 1\n" in three.ask("status")[1])
+        shows = within(HANG, lambda: b"\nrecords 1 of 1\n" in three.ask("status")[1])
         want("most, and gives it", shows, three.ask("status"))
         want("most, the other holds three", b"\nreceipts 3 of 3 " in three.ask("status")[1], three.ask("status"))
         seen = three.ask("list", "--most-receipts", "4")

@@ -25,11 +25,10 @@ from pathlib import Path
 
 sys.dont_write_bytecode = True
 sys.path.insert(0, str(Path(__file__).resolve().parent.parent / "lib"))
-from harness import find_program, temporary  # noqa: E402
+from harness import HANG, find_program, temporary# noqa: E402
 
 PROGRAM = find_program()
 DOMAIN = "a.test"
-SECONDS = 120
 KINDS = {
     "RSA": ["-algorithm", "RSA", "-pkeyopt", "rsa_keygen_bits:2048"],
     "EC": ["-algorithm", "EC", "-pkeyopt", "ec_paramgen_curve:P-256"],
@@ -96,7 +95,7 @@ class Over:
         self.words = ["--config", f"{folder}/config", "--state", f"{folder}/state"] if socket is None else ["--at", socket]
 
     def run(self, name, *words, status=0):
-        ran = subprocess.run([PROGRAM, name, *self.words, *words], capture_output=True, text=True, timeout=SECONDS)
+        ran = subprocess.run([PROGRAM, name, *self.words, *words], capture_output=True, text=True, timeout=HANG)
         check(f"{name} {words} ends with {status}", ran.returncode == status, f"{ran.returncode} {ran.stderr}")
         return ran.stdout, ran.stderr
 
@@ -131,7 +130,7 @@ def running(folder):
         yield socket
     finally:
         server.send_signal(signal.SIGTERM)
-        server.communicate(timeout=SECONDS)
+        server.communicate(timeout=HANG)
 
 
 def play(kind, made, over):

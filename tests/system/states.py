@@ -25,7 +25,7 @@ from pathlib import Path
 
 sys.dont_write_bytecode = True
 sys.path.insert(0, str(Path(__file__).resolve().parent.parent / "lib"))
-from harness import TOP, find_program, shown, temporary  # noqa: E402
+from harness import HANG, TOP, find_program, shown, temporary  # noqa: E402
 
 KEY = "0" * 64
 MISSING = b"fedbundle: no state\n"
@@ -74,7 +74,7 @@ class Folder:
     def run(self, name, *words, text=b"", loud=False):
         variables = {**os.environ, "FEDBUNDLE_VERBOSE": "1" if loud else "0"}
         return subprocess.run([self.program, name, "--config", "config", "--state", "state", *words], cwd=self.path, input=text,
-                              capture_output=True, timeout=60, env=variables)
+                              capture_output=True, timeout=HANG, env=variables)
 
     def names(self):
         return sorted(path.name for path in self.path.iterdir())

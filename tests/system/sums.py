@@ -41,7 +41,7 @@ from pathlib import Path
 sys.dont_write_bytecode = True
 HERE = Path(__file__).resolve().parent
 sys.path.insert(0, str(HERE.parent / "lib"))
-from harness import find_program, listener_of_own, temporary  # noqa: E402
+from harness import HANG, find_program, listener_of_own, temporary# noqa: E402
 from sums import Relay, accept_haves, answer, head, id_of, marks_between, question, sums_of  # noqa: E402
 import replica as running  # noqa: E402
 
@@ -53,7 +53,6 @@ RECORDS = 4_096
 IDLE = 40_000
 # A replica accepts 64 of others a second.
 CONNECTIONS = 200
-SECONDS = 60
 
 
 def lines_of(replica, count, first=2):
@@ -115,13 +114,13 @@ class Pair:
     def next_sessions(self, count=1):
         """The connections of the next sessions, and the lines that report them."""
         relayed, told = len(self.relay.sessions), len(self.reports())
-        ended = within(SECONDS, lambda: len(self.reports()) >= told + count + 1)
+        ended = within(HANG, lambda: len(self.reports()) >= told + count + 1)
         want("sessions end", ended, self.reports()[-3:])
         # A session that had begun before is left out.
         return self.relay.sessions[relayed:], self.reports()[told + 1 : told + count + 1]
 
     def until(self, holds):
-        want("what is waited for comes", within(SECONDS, holds), self.reports()[-3:])
+        want("what is waited for comes", within(HANG, holds), self.reports()[-3:])
 
 
 def give(replica, text):
@@ -228,14 +227,14 @@ class Server:
         self.relay = Relay(listener_of_own()[0], address)
 
     def end(self):
-        out, err = self.process.communicate(timeout=SECONDS)
+        out, err = self.process.communicate(timeout=HANG)
         self.relay.close()
         return self.process.returncode, out, err
 
 
 def pull(replica, state, address, program=None):
     words = [program or replica.program, "pull", "--config", "config", "--state", state, "--peer", address]
-    seen = subprocess.run(words, capture_output=True, cwd=replica.folder, timeout=SECONDS)
+    seen = subprocess.run(words, capture_output=True, cwd=replica.folder, timeout=HANG)
     return seen.returncode, seen.stdout, seen.stderr
 
 
@@ -322,7 +321,7 @@ class OneByOnePeer(EarlierPeer):
             except OSError:
                 return
             with stream, stream.makefile("rb") as lines:
-                stream.settimeout(10)
+                stream.settimeout(HANG)
                 try:
                     for line in lines:
                         if line.startswith(b'{"bucket":'):
@@ -342,7 +341,7 @@ def asks_earlier(program, above, name, count, address_of):
         def reports():
             return [line for line in replica.said().splitlines() if line.startswith("event=pull")]
 
-        want(f"{name}: sessions", within(SECONDS, lambda: len(reports()) >= 3), reports())
+        want(f"{name}: sessions", within(HANG, lambda: len(reports()) >= 3), reports())
         relay.close()
         lines = reports()
         want(f"{name}: the first", f" new={count} records=0 " in lines[0] and "fault" not in lines[0], lines)
@@ -383,7 +382,7 @@ def earlier(program, above):
     with Replica(program, above / "new", "--listen", free_address()) as replica:
         give(replica, snapshot(digest, lines))
         with Replica(old, above / "old asks", "--peers", replica.words[1], "--every", "1") as asker:
-            said = within(SECONDS, lambda: asker.said().count("event=pull") >= 2)
+            said = within(HANG, lambda: asker.said().count("event=pull") >= 2)
             reports = [line for line in asker.said().splitlines() if line.startswith("event=pull")]
             well = said and " new=50 " in reports[0] and " new=0 " in reports[1] and "fault" not in "".join(reports)
             want("an earlier program asks", well, reports)
@@ -401,7 +400,7 @@ def earlier_commands(program, above):
     seen = pull(maker, "of one by one", OneByOnePeer(digest, lines).address)
     took = time.monotonic() - begun
     want("a pull from one that takes one connection after another", seen == (0, b"new 50\n", b""), seen)
-    want("its first connection is closed before the second", took < 5, took)
+    want("its first connection is closed before the second", took < 60, took)
     old = find_earlier()
     if not old:
         return "a stand-in; $FEDBUNDLE_EARLIER names no program of an earlier release"
@@ -443,16 +442,16 @@ def gone(program, above):
             def reports():
                 return [line for line in asks.said().splitlines() if line.startswith("event=pull")]
 
-            want("sessions fail", within(SECONDS, lambda: len(reports()) >= 2), reports())
+            want("sessions fail", within(HANG, lambda: len(reports()) >= 2), reports())
             want("they have a fault", all("fault=S" in line for line in reports()), reports())
             ways = [text.startswith(b'{"config"') for text in begun[:4]]
             want("sums are asked for each time", ways == [True, False, True, False], begun[:4])
             ends.clear()
-            want("it is gone", within(SECONDS, lambda: listener.fileno() < 0))
+            want("it is gone", within(HANG, lambda: listener.fileno() < 0))
             relay = Relay(socket.create_server(("127.0.0.1", port)), answers.words[1])
-            well = within(SECONDS, lambda: reports() and "fault" not in reports()[-1])
+            well = within(HANG, lambda: reports() and "fault" not in reports()[-1])
             want("it is back", well, reports()[-2:])
-            want("and is asked for sums", within(5, lambda: any(map(is_idle, relay.sessions))), len(relay.sessions))
+            want("and is asked for sums", within(HANG, lambda: any(map(is_idle, relay.sessions))), len(relay.sessions))
             relay.close()
     return f"{len(begun)} connections that were ended"
 
@@ -519,7 +518,7 @@ def answers(program, above):
         def reports():
             return [line for line in stays.said().splitlines() if line.startswith("event=pull")]
 
-        want("all are asked", within(SECONDS, lambda: len(reports()) >= len(texts)), reports())
+        want("all are asked", within(HANG, lambda: len(reports()) >= len(texts)), reports())
         for (name, (_, fault)), line in zip(HOSTILE_ANSWERS.items(), reports()):
             code = f" fault={fault.split()[0]}" if fault else ""
             want(f"a replica, {name}", " new=0 records=0 " in line and line.partition(" seconds=")[2][5:].endswith(code), line)
@@ -553,7 +552,7 @@ def tell(address, text):
     """What is answered to the text, whatever becomes of the connection."""
     host, port = address.rsplit(":", 1)
     answered = b""
-    with socket.create_connection((host, int(port)), SECONDS) as stream:
+    with socket.create_connection((host, int(port)), HANG) as stream:
         def send():
             try:
                 stream.sendall(text)
@@ -602,7 +601,7 @@ def questions(program, above):
             told = len(reports())
             tell(stays.words[1], text)
             # Faults of one kind have a line of their own only if a second is between them.
-            want(f"a replica, {name}: a line", within(5, lambda: len(reports()) > told), reports()[-2:])
+            want(f"a replica, {name}: a line", within(HANG, lambda: len(reports()) > told), reports()[-2:])
             time.sleep(1.1)
             code = f" fault={fault.split()[0]}" if fault else ""
             lines = reports()[told:]

@@ -34,7 +34,7 @@ sys.dont_write_bytecode = True
 HERE = Path(__file__).resolve().parent
 sys.path[:0] = [str(HERE.parent / "lib"), str(HERE.parents[1] / "bench")]
 import receipts  # noqa: E402
-from harness import find_program  # noqa: E402
+from harness import HANG, find_program# noqa: E402
 import replica as running  # noqa: E402
 
 DOMAIN, Replica, faults, free_address, want, within = (
@@ -42,7 +42,6 @@ DOMAIN, Replica, faults, free_address, want, within = (
 
 FULL = int(os.environ.get("FEDBUNDLE_RECEIPTS", 65_536))
 RECORDS = 4_096
-SECONDS = 120
 # What all replies may have together, and a line of `list --keys` at the least: two ids and the words between them.
 MOST_REPLY, LEAST_KEY_LINE = 536_870_912, 220
 # What a bundle may take beyond the work that it waits for: two waits for a busy disk and the client's own turns.
@@ -76,7 +75,7 @@ class Store:
 def ask(path, words, text=b""):
     """The status of a reply, how many bytes its output has, and its errors. The output, which may be long, is not kept."""
     with socket.socket(socket.AF_UNIX) as stream:
-        stream.settimeout(SECONDS)
+        stream.settimeout(HANG)
         stream.connect(str(path))
         stream.sendall(json.dumps(words).encode() + b"\n" + text)
         stream.shutdown(socket.SHUT_WR)
@@ -210,7 +209,7 @@ def wait_for_session(replica, new):
     before = len(sessions_of(replica))
 
     def wait():
-        want("a session ends", within(SECONDS, lambda: len(sessions_of(replica)) > before), replica.said()[-300:])
+        want("a session ends", within(HANG, lambda: len(sessions_of(replica)) > before), replica.said()[-300:])
         line = sessions_of(replica)[before]
         want("a session", f" new={new} " in line and "fault" not in line, line)
     return wait
@@ -245,13 +244,13 @@ def folds(program, above, store, turns, figures):
 
             def fold():
                 want("the rest", replica.ask("merge", text=pieces[2]) == (0, b"new %d\n" % (FULL - second), b""))
-                want("a fold", within(SECONDS, lambda: "event=fold" in replica.said()), replica.said())
+                want("a fold", within(HANG, lambda: "event=fold" in replica.said()), replica.said())
             figures.note("the state file is rewritten", replica, fold)
     for _ in range(turns):
         with Begun(program, above / "merges", store.snapshot([])) as replica:
             def merge():
                 want("a merge of all", replica.ask("merge", text=store.snapshot()) == (0, b"new %d\n" % FULL, b""))
-                want("a fold", within(SECONDS, lambda: "event=fold" in replica.said()), replica.said())
+                want("a fold", within(HANG, lambda: "event=fold" in replica.said()), replica.said())
             # The client's bundle is the configured one at first.
             figures.note("merge into none, with its fold", replica, merge)
 

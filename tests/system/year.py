@@ -23,7 +23,6 @@ usage: year [--months N] [--days N] [--domains N]     so many months, 12 if left
 import argparse
 import base64
 import hashlib
-import json
 import random
 import subprocess
 import sys
@@ -32,10 +31,9 @@ from pathlib import Path
 
 sys.dont_write_bytecode = True
 sys.path.insert(0, str(Path(__file__).resolve().parent.parent / "lib"))
-from harness import find_program, listener_of_own, shown, stop, temporary  # noqa: E402
+from harness import HANG, find_program, listener_of_own, shown, stop, temporary# noqa: E402
 
 SERVERS, CHANGES = 3, 4
-SECONDS = 120
 
 
 def sha256(data):
@@ -120,7 +118,7 @@ class Replica:
         return f"{kind}-{self.configs}"
 
     def run(self, *words, text=None):
-        return subprocess.run([self.program, *words], input=text, capture_output=True, cwd=self.folder, timeout=SECONDS)
+        return subprocess.run([self.program, *words], input=text, capture_output=True, cwd=self.folder, timeout=HANG)
 
     def at(self, *words, text=None):
         ran = self.run(words[0], "--at", "socket", *words[1:], text=text)
@@ -141,7 +139,7 @@ class Replica:
 
     def stop(self):
         self.at("stop")
-        want("stop", self.process.wait(SECONDS) == 0)
+        want("stop", self.process.wait(HANG) == 0)
         self.process.stdout.close()
         self.log.close()
         self.process = None
@@ -219,7 +217,7 @@ class Year:
 
     def compare(self):
         """Waits until each replica that runs has all, and compares the reports."""
-        wanted, end = self.report(), time.monotonic() + SECONDS
+        wanted, end = self.report(), time.monotonic() + HANG
         self.most = max(self.most, self.came + self.stayed)
         for replica in self.running:
             while (seen := replica.at("report").stdout) != wanted:
