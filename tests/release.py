@@ -6,7 +6,7 @@ then it is `Unreleased`.
 
 - On each commit the files of dist/ are those that SHA256SUMS names; what was compiled has the length and the SHA-256 that
   MANIFEST names; MANIFEST's version is that of the sources and of the newest release in CHANGELOG.md, both here and in
-  the archive, in which that section is the first.
+  the archive, in which that section is the first. If git has the history, the last commit that changed dist/ is a release.
 - On a release, dist/ is also that of the sources: MANIFEST has their digests, and each other file of the archive is the one of
   the tree. With PROGRAM, which the gate built of these sources: under the kit that MANIFEST names it equals the released
   program; under another kit a line says so, and nothing is compared.
@@ -140,6 +140,25 @@ def faults_of_tree(tool, listed, files, links):
             yield f"the archive has another {path} than the tree"
 
 
+def git(top, *words):
+    return subprocess.run(["git", "-c", "safe.directory=*", "-C", top, *words], capture_output=True, text=True, check=True).stdout
+
+
+def has_history(top):
+    """Whether git has each commit that changed dist/."""
+    is_there = (top / ".git").exists() and shutil.which("git")
+    return is_there and git(top, "rev-parse", "--is-shallow-repository") == "false\n"
+
+
+def faults_of_history(tool):
+    """What changed dist/ since the commit of the release."""
+    last = git(tool.TOP, "log", "-1", "--format=%H", "--", "dist").strip()
+    if git(tool.TOP, "status", "--porcelain", "--", "dist"):
+        yield "dist/ has changes that are not committed"
+    if tool.sections(git(tool.TOP, "show", f"{last}:CHANGELOG.md"))[0] == UNRELEASED:
+        yield f"the commit {last[:8]} changed dist/, and is no release"
+
+
 def faults_of_program(tool, said, listed, program):
     if said["kit"] == tool.kit() and tool.sha256(program.read_bytes()) != listed[tool.ROOT + "bin/fedbundle"][1]:
         yield "the program that was built here differs from the released one"
@@ -154,6 +173,8 @@ def faults_of(top, program=None):
         if is_release(tool):
             faults += [*faults_of_sources(tool, said), *faults_of_tree(tool, listed, files, links)]
             faults += [*faults_of_program(tool, said, listed, program)] if program else []
+        elif has_history(top):
+            faults += [*faults_of_history(tool)]
         return faults
     except Exception as why:
         # What is falsified may be unreadable: that is an error too.
@@ -238,8 +259,8 @@ FALSIFIED = {
     "the version of the sources": falsify_version,
     "dist/ made anew": make_dist,
 }
-# What MANIFEST's digest is of is known on a release alone, and dist/ made anew is equal there.
-ALLOWED = {True: {"dist/ made anew"}, False: {"a source", "the digest of the sources"}}
+# On a release dist/ made anew is equal.
+ALLOWED = {True: {"dist/ made anew"}, False: {"a source"}}
 
 
 def check_falsified(top, is_a_release):
@@ -252,6 +273,22 @@ def check_falsified(top, is_a_release):
         check(bool(found) != allowed, f"{kind}: {what}{' may change' * allowed}: {'; '.join(found) or 'no fault'}")
         for path, text in texts.items():
             path.write_bytes(text)
+
+
+def commit(top, what):
+    git(top, "add", "dist", "CHANGELOG.md")
+    git(top, "-c", "user.name=a", "-c", "user.email=a@a.example", "commit", "-q", "-m", what)
+
+
+def check_committed(top):
+    """A commit that is no release and changes dist/ is found."""
+    begin_unreleased(top)
+    commit(top, "Unreleased")
+    check_falsified(top, False)
+    check(not faults_of(top), "a commit after a release")
+    falsify_manifest(top, "sources")
+    commit(top, "the digest of the sources")
+    check(faults_of(top), f"such a commit that changes dist/: {'; '.join(faults_of(top))}")
 
 
 def check_other_program(room, program):
@@ -370,21 +407,21 @@ def has_ended(process):
 
 def check_prove(clone):
     """`rt` proves where the crates are, and ends with ./fedbundle. What was proved stays, and nothing is left below .git."""
-    proved, read_end = clone.top / "crates/spiffe_name/out/rlib/stamp", clone.bin / "started"
+    proved, started = clone.top / "crates/spiffe_name/out/rlib/stamp", clone.bin / "started"
     proved.parent.mkdir(parents=True)
     proved.touch()
-    os.mkfifo(read_end)
-    (clone.bin / "rt").write_text(f"#!/bin/sh\necho $$ $(pwd) >'{read_end}'\nexec sleep 1000\n")
+    os.mkfifo(started)
+    (clone.bin / "rt").write_text(f"#!/bin/sh\necho $$ $(pwd) >'{started}'\nexec sleep 1000\n")
     before = sorted((clone.top / ".git").rglob("*"))
     launcher = subprocess.Popen([clone.top / "fedbundle", "--prove"], env=clone.variables, stderr=subprocess.PIPE, text=True)
-    process, _, folder = read_end.read_text().rstrip("\n").partition(" ")
+    process, _, folder = started.read_text().rstrip("\n").partition(" ")
     launcher.terminate()
     launcher.wait()
     check(has_ended(process), "rt ends with ./fedbundle --prove")
     check(Path(folder) == clone.out.parent, "it proves where the crates are")
     check(proved.exists() and sorted((clone.top / ".git").rglob("*")) == before, "what was proved stays, and .git is as it was")
     said = launcher.stderr.read()
-    check("1 were proved before" in said and " GB of memory" in said and " minutes" in said, f"--prove says first: {said.strip()}")
+    check("proved 1 of them" in said and " GB of memory" in said and " minutes" in said, f"--prove says first: {said.strip()}")
 
 
 def main():
@@ -393,6 +430,8 @@ def main():
     what = "the release of these sources" if is_release(tool_of(TOP)) else "the newest release that CHANGELOG.md names"
     hint = f"; what changes after a release begins CHANGELOG.md with '## {UNRELEASED}'" * is_release(tool_of(TOP))
     check(not found, "; ".join(found) + hint if found else f"dist/ is {what}")
+    if not has_history(TOP):
+        print("note: git has no history here, so whether only releases changed dist/ is not looked at")
     with tempfile.TemporaryDirectory() as folder:
         room = Path(folder)
         room.chmod(0o755)
@@ -401,8 +440,9 @@ def main():
         check(not found, "; ".join(found) or "a copy is the release of its sources")
         clone, version = Clone(room, released), f"fedbundle {tool_of(released).version()}\n"
         check_falsified(released, True)
-        begin_unreleased(released)
-        check_falsified(released, False)
+        git(room, "init", "-q", released)
+        commit(released, "a release")
+        check_committed(released)
         check_other_program(room, program)
         check_released(clone, version)
         check_changed(clone, version)

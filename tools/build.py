@@ -76,11 +76,11 @@ def plan(names):
     free = free_memory()
     lanes = max(1, min(len(os.sched_getaffinity(0)), free // MEMORY_OF_A_CHECK))
     kept = sum((TOP / "crates" / name / "out/rlib/stamp").exists() for name in names)
-    say(f"proving {len(names)} crates, {lanes} at a time; {kept} were proved before, and are taken over if nothing below them changed")
+    say(f"proving {len(names)} crates, {lanes} at a time; earlier runs proved {kept} of them, which holds if nothing below changed")
     most = max(MEMORY_OF_THE_PROGRAM, lanes * MEMORY_OF_A_CHECK)
-    say(f"from nothing this takes some {MINUTES // lanes} minutes, and up to {most} GB of memory, of which {free} GB are free")
+    say(f"from nothing this takes some {MINUTES // lanes} minutes and up to {most} GB of memory; {free} GB are free")
     if free < MEMORY_OF_THE_PROGRAM:
-        say(f"the check of {PROGRAM} alone takes up to {MEMORY_OF_THE_PROGRAM} GB: without them it may be killed")
+        say(f"the check of {PROGRAM} takes up to {MEMORY_OF_THE_PROGRAM} GB by itself: it may be killed")
     return lanes
 
 
