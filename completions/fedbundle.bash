@@ -32,7 +32,7 @@ _fedbundle() {
         polls) words='--config --state --now --format --wait --most-receipts --most-records --verbose --at --help' ;;
         distrust) words='--config --state --domain --key --public-key --dry-run --new --wait --most-receipts --most-records --verbose --at --help' ;;
         serve) words='--config --state --listen --sessions --most-receipts --most-records --verbose --help' ;;
-        pull) words='--config --state --peer --wait --most-bytes --most-receipts --most-records --verbose --help' ;;
+        pull) words='--config --state --peer --sums --wait --most-bytes --most-receipts --most-records --verbose --help' ;;
         replica) words='--config --previous --state --socket --read-socket --listen --health --audit --listen-anywhere --peers --every --peer-quiet --expires-within --most-bytes --most-receipts --most-records --most-request-bytes --new --verbose --help' ;;
         stop) words='--wait --verbose --at --help' ;;
         help) words='canon config new report list diff graph status bundle explain observe merge migrate reseed polls distrust serve pull replica stop help' ;;

@@ -19,7 +19,9 @@ Of running replicas:
 
 Of `pull` and `serve`:
 
-- `commands`: `pull` from `serve`: all, nothing, records, one receipt, and what differs in both directions.
+- `plain`: `pull` without `--sums` asks about all 256 buckets on one connection: a peer that knows only haves and serves one
+  session, and one of another configuration, which is connected to once.
+- `commands`: `pull --sums` from `serve`: all, nothing, records, one receipt, and what differs in both directions.
 - `earlier_commands`, `pulls`, `serves`: the same as `earlier`, `answers` and `questions`; and a peer that takes one connection
   after another, where `pull` closes its first one before the second.
 
@@ -232,8 +234,9 @@ class Server:
         return self.process.returncode, out, err
 
 
-def pull(replica, state, address, program=None):
-    words = [program or replica.program, "pull", "--config", "config", "--state", state, "--peer", address]
+def pull(replica, state, address, program=None, more=("--sums",)):
+    # An earlier program has no such option.
+    words = [program or replica.program, "pull", "--config", "config", "--state", state, "--peer", address, *([] if program else more)]
     seen = subprocess.run(words, capture_output=True, cwd=replica.folder, timeout=HANG)
     return seen.returncode, seen.stdout, seen.stderr
 
@@ -242,6 +245,19 @@ def moved_by(server):
     for session in server.relay.sessions:
         session.ended.wait(5)
     return [(session.begins_with_sums(), session.haves()) for session in server.relay.sessions]
+
+
+def plain(program, above):
+    digest, maker, lines = digest_and_lines(program, above, 50)
+    for name, of, wanted in [("its own", digest, (0, b"new 50\n", b"")),
+                             ("another", "0" * 64, (1, b"", b"fedbundle: S2 ConfigDiffers taken 0\n"))]:
+        peer = OneSessionPeer(of, lines)
+        seen = pull(maker, f"of {name}", peer.address, more=())
+        want(f"a plain pull from a peer of {name} configuration", seen == wanted, seen)
+        asked = [have["bucket"] for have in peer.asked]
+        want(f"what a peer of {name} configuration was asked", asked == list(range(256))[: 256 if of == digest else 1], asked)
+        want(f"connections to a peer of {name} configuration", peer.refuses_more(), "a second one was taken")
+    return "a peer that serves one session"
 
 
 def commands(program, above):
@@ -309,6 +325,34 @@ class EarlierPeer:
         lines = [line for line in self.receipts if id_of(line)[0] == bucket and id_of(line).hex() not in held]
         first = f'{{"bucket":{bucket},"config":"{self.digest}","count":{len(lines)},"distrusts":0,"format":2,"of":256}}\n'
         return first.encode() + b"".join(sorted(lines))
+
+
+class OneSessionPeer(EarlierPeer):
+    """Answers haves on one connection, and takes no second one."""
+
+    def __init__(self, digest, receipts):
+        self.asked = []
+        super().__init__(digest, receipts)
+
+    def answer(self):
+        stream, _ = self.listener.accept()
+        with stream, stream.makefile("rb") as lines:
+            stream.setsockopt(socket.IPPROTO_TCP, socket.TCP_NODELAY, 1)
+            try:
+                for line in lines:
+                    self.asked.append(json.loads(line))
+                    stream.sendall(self.give(self.asked[-1]))
+            except (OSError, KeyError):
+                pass
+
+    def refuses_more(self):
+        """Whether nobody else waits to be accepted."""
+        self.listener.settimeout(0.2)
+        try:
+            self.listener.accept()
+        except TimeoutError:
+            return True
+        return False
 
 
 class OneByOnePeer(EarlierPeer):
@@ -615,7 +659,7 @@ def questions(program, above):
 
 
 def main():
-    parts = [idle, one, records, once, earlier, gone, answers, questions, commands, earlier_commands, pulls, serves]
+    parts = [idle, one, records, once, earlier, gone, answers, questions, plain, commands, earlier_commands, pulls, serves]
     parts = {part.__name__: part for part in parts}
     program = find_program()
     for name in sys.argv[1:] or parts:

@@ -36,7 +36,7 @@ use Rattle.command_line.specs.declared.command_name.OptionName.TheVariants.{Expi
 use Rattle.command_line.specs.declared.command_name.OptionName.TheVariants.{PeerQuiet, Floors}
 use Rattle.command_line.specs.declared.command_name.OptionName.TheVariants.{Previous}
 use Rattle.command_line.specs.declared.command_name.OptionName.TheVariants.{MostReceipts}
-use Rattle.command_line.specs.declared.command_name.OptionName.TheVariants.{MostRecords}
+use Rattle.command_line.specs.declared.command_name.OptionName.TheVariants.{MostRecords, Sums}
 
 abbrev pub option_text : OptionName → List ℕ
 option_text Config = codes "config"
@@ -83,6 +83,7 @@ option_text Audit = codes "audit"
 option_text Previous = codes "previous"
 option_text MostReceipts = codes "most-receipts"
 option_text MostRecords = codes "most-records"
+option_text Sums = codes "sums"
 
 -- it has no text after it
 abbrev pub is_flag : OptionName → Bool
@@ -94,6 +95,7 @@ is_flag Short = true
 is_flag New = true
 is_flag ListenAnywhere = true
 is_flag Keys = true
+is_flag Sums = true
 is_flag option = false
 
 -- the arguments may leave it out
@@ -192,8 +194,8 @@ options_of command.Distrust = Config ∷ State ∷ Domain ∷ OptionalKey ∷ Pu
     ∷ Wait ∷ MostReceipts ∷ MostRecords ∷ Verbose ∷ At ∷ []
 options_of command.Serve = Config ∷ State ∷ Listen ∷ Sessions ∷ MostReceipts ∷ MostRecords ∷ Verbose
     ∷ []
-options_of command.Pull = Config ∷ State ∷ Peer ∷ Wait ∷ MostBytes ∷ MostReceipts ∷ MostRecords
-    ∷ Verbose ∷ []
+options_of command.Pull = Config ∷ State ∷ Peer ∷ Sums ∷ Wait ∷ MostBytes ∷ MostReceipts
+    ∷ MostRecords ∷ Verbose ∷ []
 options_of command.Replica = Config ∷ Previous ∷ State ∷ Socket ∷ ReadSocket ∷ OptionalListen
     ∷ Health ∷ Audit ∷ ListenAnywhere ∷ Peers ∷ Every ∷ PeerQuiet ∷ ExpiresWithin ∷ MostBytes
     ∷ MostReceipts ∷ MostRecords ∷ MostRequestBytes ∷ New ∷ Verbose ∷ []

@@ -59,6 +59,8 @@ pub enum OptionName {
     Previous,
     MostReceipts,
     MostRecords,
+    /// Asks for sums first.
+    Sums,
 }
 
 /// A subcommand.
@@ -180,6 +182,7 @@ impl OptionName {
             OptionName::Previous => "previous",
             OptionName::MostReceipts => "most-receipts",
             OptionName::MostRecords => "most-records",
+            OptionName::Sums => "sums",
         }
     }
 
@@ -197,6 +200,7 @@ impl OptionName {
                 | OptionName::New
                 | OptionName::ListenAnywhere
                 | OptionName::Keys
+                | OptionName::Sums
         )
     }
 
@@ -453,10 +457,11 @@ static SERVE: [OptionName; 7] = [
     OptionName::Verbose,
 ];
 
-static PULL: [OptionName; 8] = [
+static PULL: [OptionName; 9] = [
     OptionName::Config,
     OptionName::State,
     OptionName::Peer,
+    OptionName::Sums,
     OptionName::Wait,
     OptionName::MostBytes,
     OptionName::MostReceipts,

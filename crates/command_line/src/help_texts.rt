@@ -331,7 +331,11 @@ with 3 if the address is taken.";
 const PULL_NOTES: &str = "\
 Reads the configuration and the state file, asks the other replica, which has to have the
 same configuration, for the receipts and the records of distrust that this one lacks, and
-takes what is answered.
+takes what is answered. It asks about all 256 parts of what is held, in one session.
+
+With --sums it asks for a sum of each part first, and then only about those that differ:
+much less is sent if both hold nearly the same. A replica that does not know sums ends
+the connection; it is then asked about all parts, on a second one.
 
 Writes to standard output `new` and how many receipts were not held, and then the state
 file, by way of FILE.new and under the lock of FILE.lock: at most 65,536 receipts and
@@ -357,7 +361,7 @@ Answers requests of this machine on the socket, whose mode is 0600: the commands
 At the one of --read-socket, whose mode is 0660, it refuses `stop` and all that would
 change what it holds: those who may only look are in that socket's group.
 Answers other replicas at the address of --listen, as `serve` does, and pulls from each of
---peers, as `pull` does. Everyone who reaches that address gets all that is held, so one
+--peers, as `pull --sums` does. Everyone who reaches it gets all that is held, so an address
 that is not a loopback address is refused without --listen-anywhere. At most 160 connections are
 open at once: 64 requests of this machine, 48 on which other replicas ask, 16 at the
 address of --health, one with each peer, and some that are only refused. A connection on
@@ -445,6 +449,7 @@ impl OptionName {
             OptionName::Previous => "FILE",
             OptionName::MostReceipts => "COUNT",
             OptionName::MostRecords => "COUNT",
+            OptionName::Sums => "",
         }
     }
 
@@ -521,6 +526,7 @@ impl OptionName {
             OptionName::MostReceipts => "How many receipts may be held, from 1 to 4194304 [65536]",
             OptionName::MostRecords =>
                 "How many records of distrust may be held, from 1 to 65536 [4096]",
+            OptionName::Sums => "Asks for sums first, and then only about what differs",
         }
     }
 }
@@ -672,9 +678,9 @@ impl CommandName {
                 --sessions <COUNT> [--most-receipts <COUNT>] [--most-records <COUNT>] [--verbose]"
             }
             CommandName::Pull => {
-                "fedbundle pull --config <FILE> --state <FILE> --peer <ADDRESS> [--wait <SECONDS>] \
-                [--most-bytes <BYTES>] [--most-receipts <COUNT>] [--most-records <COUNT>] \
-                [--verbose]"
+                "fedbundle pull --config <FILE> --state <FILE> --peer <ADDRESS> [--sums] \
+                [--wait <SECONDS>] [--most-bytes <BYTES>] [--most-receipts <COUNT>] \
+                [--most-records <COUNT>] [--verbose]"
             }
             CommandName::Replica => {
                 "fedbundle replica --config <FILE> [--previous <FILE>] --state <FILE> \

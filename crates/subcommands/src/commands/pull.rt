@@ -1,6 +1,7 @@
 //! `pull`: the end of a session that asks, over a socket. It loads the state, reads the address,
-//! and connects before a session begins; it saves the state at the end. A session begins with sums,
-//! and asks about the buckets that differ. A peer that does not know sums is asked about all.
+//! and connects before a session begins; it saves the state at the end. A session asks about all
+//! buckets. With `--sums` it begins with sums, and asks about those that differ; a peer that does
+//! not know sums is then asked about all, on a second connection.
 use crate::connection::{Connection, connect};
 use crate::limited_reader::LimitedReader;
 use crate::state_access::{StateAccess, leave, load, lock, room_left, save, state_access_of};
@@ -8,7 +9,7 @@ use bucket_sums::{KeptSums, QuietPulling, pull_quietly};
 use byte_lines::{FromRead, FromWrite};
 use command_exits::{CommandError, Exit, Step};
 use command_faults::status_of;
-use command_line::{Call, OptionName, wanted};
+use command_line::{Call, OptionName, given, is_flag_given, wanted};
 use command_streams::{options, output_line, progress_mode};
 use fed_config::Config;
 use fedbundle::{run_pull, write_counted};
@@ -41,23 +42,26 @@ enum SumsSession {
 pub(crate) fn run(rt: &HostRuntime, config: &Config, call: &Call<'_>) -> Result<u8, Exit> {
     let state = state_access_of(call)?;
     let mut begun = begin(rt, config, state)?;
-    let peer = wanted(call, OptionName::Peer)?;
-    let pulled = pull_from(rt, &mut begun.closure, peer, room_left(rt, state))?;
+    let pulled = pull_from(rt, call, &mut begun.closure, room_left(rt, state))?;
     let saved = end_saving(rt, config, state, &begun);
     leave(begun);
     Ok(end_pull(rt, call, pulled, saved))
 }
 
-// How the session ended, or why there was no connection. A peer that may not know sums is asked
-// without them, on another connection.
+// How the session ended, or why there was no connection. A peer that was asked for sums, and may
+// not know them, is asked without them, on another connection.
 fn pull_from(
     rt: &HostRuntime,
+    call: &Call<'_>,
     closure: &mut ExchangeClosure,
-    peer: &str,
     most_bytes: u64,
 ) -> Result<Result<(), Exit>, Exit> {
-    let address = options::known_address(peer)?;
-    match pull_with_sums(rt, closure, connect(rt, address)?, most_bytes) {
+    let address = options::known_address(wanted(call, OptionName::Peer)?)?;
+    let connection = connect(rt, address)?;
+    if !is_flag_given(given(call, OptionName::Sums)) {
+        return Ok(pull_with_haves(rt, closure, &connection, most_bytes));
+    }
+    match pull_with_sums(rt, closure, connection, most_bytes) {
         SumsSession::Ended(ended) => Ok(ended),
         SumsSession::Unanswered => {
             let connection = connect(rt, address)?;
