@@ -2,7 +2,6 @@
 Debian's packages, the built `fedbundle`, and programs run with the most memory that they held."""
 import os
 import resource
-import shutil
 import subprocess
 import sys
 import tempfile
@@ -12,6 +11,7 @@ BENCH = Path(__file__).resolve().parent
 TOP = BENCH.parent
 sys.path.insert(0, str(TOP / "tests/lib"))
 from harness import find_program  # noqa: E402, F401
+from scratch import below, crate_lines, files_of, lay_out, libraries  # noqa: E402
 
 OUT = BENCH / "out"
 REGISTRY = Path("/usr/share/cargo/registry")
@@ -43,22 +43,23 @@ def earlier_programs():
 def build_ours(name, *crates, words=(), text=b"", top=TOP):
     """Builds the program programs/NAME.rt.txt of a checkout, with the files of programs/NAME/ if there are any, over the
     crates and all that they use, runs it once on the arguments and the text, and returns where it is."""
-    repo = OUT / ("repo" if top == TOP else "repo-before")
-    program = repo / "crates" / f"{name}_bench"
-    shutil.rmtree(program / "src", ignore_errors=True)
-    (program / "src").mkdir(parents=True)
-    lines = {line.split(":")[0]: line for line in (top / "crates.txt").read_text().splitlines() if ":" in line}
-    needed = below(lines, crates)
-    own = f"{program.name}: {' '.join(needed)}\n"
-    (repo / "crates.txt").write_text("".join(f"{lines[crate]}\n" for crate in needed) + own)
-    shutil.copy(top / "HANDLES", repo / "HANDLES")
-    if not (repo / ".git").is_dir():
-        subprocess.run(["git", "init", "-q", repo], check=True)
-    for crate in needed:
-        copy_crate(top / "crates" / crate, repo / "crates" / crate)
-    shutil.copy(top / f"bench/programs/{name}.rt.txt", program / "src/main.rt")
-    for file in (top / "bench/programs" / name).glob("*.rt.txt"):
-        shutil.copy(file, program / "src" / file.stem)
+    programs = top / "bench/programs"
+    files = {"main.rt": programs / f"{name}.rt.txt", **files_of(programs / name)}
+    used = below(crate_lines(top / "crates.txt"), crates)
+    return build_over(used, f"{name}_bench", files, words, text, top)
+
+
+def build_simulation():
+    """Builds the program tests/rows/programs/simulation, and returns where it is."""
+    programs = TOP / "tests/rows/programs"
+    used = libraries(crate_lines(programs / "crates.txt")["simulation"])
+    return build_over(used, "simulation", files_of(programs / "simulation"))
+
+
+def build_over(used, name, files, words=(), text=b"", top=TOP):
+    """Proves and builds a program of these files over the libraries, runs it once on the arguments and the text, and returns
+    where it is."""
+    program = lay_out(OUT / ("repo" if top == TOP else "repo-before"), name, used, files, top)
     print(f"proving and building the crates of {top} and their benchmark", file=sys.stderr)
     done = subprocess.run(["rt", "run", "--", *words], cwd=program, input=text, capture_output=True)
     if done.returncode != 0:
@@ -80,33 +81,6 @@ def own_rows(programs):
     """The places of our programs among all, and the word before their rows: today's comes first, the peer second, and the
     program of an earlier commit third, if there is one."""
     return [(0, ""), (2, "before")][: len(programs) - 1]
-
-
-def below(lines, crates):
-    """The crates and those of the repository that they use, each once."""
-    found = list(crates)
-    for at in found:
-        for other in lines[at].split(":")[1].split():
-            if other in lines and other not in found:
-                found.append(other)
-    return found
-
-
-def copy_crate(source, target):
-    for part in ["src", "specs", "proofs"]:
-        shutil.rmtree(target / part, ignore_errors=True)
-        if (source / part).is_dir():
-            shutil.copytree(source / part, target / part)
-    if built_at(source) > built_at(target):
-        shutil.rmtree(target / "out/rlib", ignore_errors=True)
-        shutil.copytree(source / "out/rlib", target / "out/rlib")
-
-
-def built_at(crate):
-    """When the crate's library was proved and built, or 0. Its stamp tells `rt` of which files, so that it proves and
-    builds the library again if they are not those that lie there."""
-    stamp = crate / "out/rlib/stamp"
-    return stamp.stat().st_mtime if stamp.is_file() else 0
 
 
 def build_peer(name, soft=False, cpu=None):

@@ -1,9 +1,9 @@
 #!/usr/bin/env python3
-"""Lets many replicas pull from each other until all hold the same, in one process: the rows `scale` of crates/simulation_rows.
+"""Lets many replicas pull from each other until all hold the same, in one process: the rows `scale` of the program
+tests/rows/programs/simulation, whose main.rt.txt has the form of a row. It prints the same for the same row.
 
-The program is the one that $SIMULATION names, or the one that `rt run` or `rt ci` built in crates/simulation_rows. It prints the
-same for the same row. The head of crates/simulation_rows/stdin has the form of a row. For each row the script prints what the
-program printed, the seconds that it took, and the most memory that it held.
+The program is the one that $SIMULATION names, or else is proved and built below bench/out. For each row the script prints what the program
+printed, the seconds that it took, and the most memory that it held.
 
 usage: simulate [ROW..]     the rows below, if none is given
 """
@@ -12,10 +12,9 @@ import subprocess
 import sys
 import tempfile
 import time
-from pathlib import Path
 
-TOP = Path(__file__).resolve().parent.parent
-MADE = TOP / "crates/simulation_rows/out/simulation_rows"
+from building import build_simulation
+
 ROWS = [
     "scale mesh calm 1 100 1000 2",
     "scale mesh calm 1 1000 100 2",
@@ -45,9 +44,7 @@ def run(program, row):
 
 
 def main():
-    program = os.environ.get("SIMULATION", str(MADE))
-    if not os.access(program, os.X_OK):
-        sys.exit(f"simulate: {program} is not there: build it by 'rt run' in crates/simulation_rows")
+    program = os.environ.get("SIMULATION") or build_simulation()
     bad = [row for row in sys.argv[1:] or ROWS if not run(program, row)]
     sys.exit(f"simulate: failed: {', '.join(bad)}" if bad else 0)
 

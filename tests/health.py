@@ -52,7 +52,7 @@ CASES = TOP / "tests/prometheus-rules.test.yml"
 DASHBOARD = TOP / "deploy/grafana-dashboard.json"
 POLICY = ("default-src 'none'; script-src 'self'; style-src 'self'; connect-src 'self'; base-uri 'none'; "
           "form-action 'none'; frame-ancestors 'none'")
-# A replica has these only if it is started with --previous. The rows of crates/view_rows have them.
+# A replica has these only if it is started with --previous. The rows of tests/rows/cases/rows/view have them.
 PREVIOUS = {"fedbundle_previous_config_info", "fedbundle_previous_config_used_timestamp_seconds", "fedbundle_peer_asked_previous"}
 GREATEST = 2**64 - 1
 SLOWEST = 0.25

@@ -12,7 +12,7 @@ usage: json_view.py config CONFIG
        json_view.py explain CONFIG STATE DOMAIN <BUNDLE.json     the exit status is 1 if it is not accepted
        json_view.py polls CONFIG STATE SECONDS <POLLS
        json_view.py graph CONFIG STATE [DOMAIN]
-       json_view.py rows <crates/view_rows/stdin     what the program of rows prints of these
+       json_view.py rows <tests/rows/cases/rows/view     what the program of rows prints of these
 """
 import hashlib
 import json
@@ -204,7 +204,7 @@ def label(document):
     return f"{document.domain}\\nsequence {sequence}\\n{document.id[:8]}"
 
 
-# ---- rows of crates/view_rows
+# ---- the rows of tests/rows/cases/rows/view
 
 def expanded(template, texts):
     return re.sub(r"\$\{(\w+)\}", lambda found: "\n" if found[1] == "lf" else texts[found[1]], template)

@@ -2,8 +2,8 @@
 """Refuses each allocation inside each call of the library in turn, alone and with all later ones, and has each read and
 each write of a call over devices fail in turn.
 
-The program of crates/calls_rows makes the calls, with its own rows and those of the other row programs as their data.
-inject.c is preloaded; the program tells it where a call begins and ends, and which allocation inside it to refuse. What
+The part `calls` of tests/rows/programs/rows makes the calls, with its own rows and those of the other parts and row programs as
+their data. It is proved and built as a program of its own, since memory is refused under a program as it is used. inject.c is preloaded; the program tells it where a call begins and ends, and which allocation inside it to refuse. What
 is wanted:
 - a call whose allocation is refused returns its own error for that, or what it returns else;
 - after that error a replica holds what it held, byte for byte, and the same call again returns what it returns else;
@@ -16,14 +16,15 @@ is wanted:
 - a receipt's line that is canonical is read directly, and not by the tree of a JSON value;
 - a wrong body, `leak`, which is out of memory once it has taken a receipt, is found: what the replica holds is not what
   it held.
-The program is the one that $CALLS names, or else `rt run` proves and builds it.
+The program is the one that $CALLS names. Else it is proved and built below tests/rows/out, where it stays: ten minutes, and with no
+library proved before an hour and more. `.ci/run` does neither; tests/rows/play.py has the devices fail there.
 
 It needs python3, cc and nm, and rt where the program is not built.
 
-usage: calls [all [CRATE..]]   each allocation and each place at which a device fails, over the rows of crates/calls_rows, and
-    for a minute also over those of receipt_rows, closure_rows and exchange_rows, of which it says how many parts it tried; with
-    `all` over all of these, and every seventh allocation and six places over the rows of floor_rows and command_rows, or over
-    those of the named crates alone, which takes long: each part that ends is told on standard error.
+usage: calls [all [ROWS..]]   each allocation and each place at which a device fails, over the rows `calls`, and for a minute also over
+    the rows `receipt`, `closure` and `exchange`, of which it says how many parts it tried; with `all` over all of these, and every
+    seventh allocation and six places over the rows of floor_rows and command_rows, or over the named ones alone, which takes long:
+    each part that ends is told on standard error.
 
     A row that makes many allocations, as one of 4,096 records does, is cut into shares of some 100 of them, so that no part takes
     long: each try builds a replica again. Of a row that makes more than 10,000, 1,000 are refused, evenly spread, and the last:
@@ -32,11 +33,10 @@ usage: calls [all [CRATE..]]   each allocation and each place at which a device 
 import base64
 import hashlib
 import os
-import re
 import subprocess
 import sys
 import time
-from collections import Counter, defaultdict
+from collections import Counter
 from concurrent.futures import ThreadPoolExecutor
 from dataclasses import dataclass, replace
 from pathlib import Path
@@ -44,16 +44,16 @@ from pathlib import Path
 sys.dont_write_bytecode = True
 sys.path.insert(0, str(Path(__file__).resolve().parents[1] / "lib"))
 from harness import TOP, build_library, shown, stop, temporary  # noqa: E402
+from refused_calls import HEAD, Judge, tries  # noqa: E402
+from scratch import crate_lines, files_of, lay_out, libraries  # noqa: E402
 
-CRATE = TOP / "crates/calls_rows"
-OWN_ROWS = CRATE / "stdin"
-WHOLE_ROWS = [TOP / "crates" / crate / "stdin" for crate in ["receipt_rows", "closure_rows", "exchange_rows"]]
-OTHER_ROWS = [TOP / "crates" / crate / "stdin" for crate in ["floor_rows", "command_rows"]]
+ROWS = TOP / "tests/rows"
+OWN_ROWS = ROWS / "cases/rows/calls"
+WHOLE_ROWS = {name: ROWS / "cases/rows" / name for name in ["receipt", "closure", "exchange"]}
+OTHER_ROWS = {name: TOP / "crates" / name / "stdin" for name in ["floor_rows", "command_rows"]}
 # A script of the own rows is tried in so many parts, one of the others in more, since each part is to end within a minute.
 PARTS, SHORT_PARTS = 8, 64
 SECONDS, SHORT = 3_600, 60
-# Lines that say something else to the program of calls_rows than to the row program that they are of.
-OTHER_VERBS = re.compile(r"tries |reserve \d")
 # Every how many allocations one is refused, and at how many places of a text a device fails.
 OWN, WHOLE, OTHERS = (1, 1_000), (1, 6), (7, 6)
 # From how many allocations on a row is cut into shares, each of so many at most; and of how many at most each one is refused, and
@@ -62,136 +62,21 @@ OWN, WHOLE, OTHERS = (1, 1_000), (1, 6), (7, 6)
 SHARED, SHARE, MOST_ALLOCATIONS, SAMPLE = 500, 100, 10_000, 1_000
 CHANGING = ("take", "merge", "observe", "distrust", "leak", "replica", "swap")
 CHAIN = 1_000
-# What a call returns when memory runs out. The others ask for none.
-NO_MEMORY = {
-    "take": ["G4 NoMemory"],
-    "merge": ["G4 NoMemory"],
-    "reserve": ["no memory"],
-    "observe": ["O6 Take G4 NoMemory"],
-    "absorb": ["S10 NoMemory"],
-    "snapshot": ["S10 NoMemory"],
-    "have": ["S10 NoMemory"],
-    "conflicts": ["no memory"],
-    "explain": ["no memory"],
-    "report": ["V2 NoMemory"],
-    "config": ["C9 NoMemory"],
-    "document": ["B8 NoMemory"],
-    "receipt": ["L3 NoMemory"],
-    "question": ["S10 NoMemory"],
-    "answers": ["S10 NoMemory"],
-    "world": ["no memory"],
-}
-WITHOUT_MEMORY = ["take_within_room", "take_all_within_room", "distrust", "answer"]
-# What the calls are in the library, where they have another name there.
-NAMES = {
-    "snapshot": "read_snapshot",
-    "config": "Config::read",
-    "document": "Document::read",
-    "receipt": "Receipt::read_line",
-    "question": "read_have",
-    "answers": "read_give",
-    "world": "run_world",
-    "report": "write_report",
-    "reserve": "try_reserve",
-    "serve": "serve_one",
-}
-OVER_DEVICES = ["snapshot", "write_snapshot", "serve", "pull", "run_report", "run_report_complaints"]
 # The configured document of the own rows.
 SEED = b'{"keys":[{"e":"AQAB","kty":"RSA","n":"AQAB","use":"x509-svid","x5c":["YWJj"]}],"spiffe_sequence":1}'
-# A row of `absorb` whose receipts are all held: it does without the memory that it is refused.
-BRINGS_NOTHING = "absorb one_domain both_receipts "
-# A wrong body, and what is printed where a call left half a change.
-LEAK = "leak"
-TRACE = ", with a trace: "
-# What is printed of a row for which no call can be made.
-NO_CALL = "no call is made: its text is refused before"
-
-HEAD = re.compile(r"  (\w+) over (no closure|rounds|the exchange|the index): (?:(\d+) allocations: )?(.*)")
-DEVICES = re.compile(r"  devices of (\w+) over (rounds|the exchange|the index|its own): .*")
-TRIED = re.compile(r"  (once|lasting) (\d+) to (\d+), (\d+) tried: (.*)")
-FAILED = re.compile(r"  (reads of . bytes?|whole reads|writes|writes of 1 byte) (\d+) to (\d+), (\d+) tried: (.*)")
-
-
-class Judge:
-    """What was tried of each call, and what was wrong."""
-
-    def __init__(self):
-        # Of each call, the rows and the closures over which it is made.
-        self.rows = defaultdict(set)
-        self.tried, self.refused, self.wrong = Counter(), Counter(), Counter()
-        self.leaks = set()
-        self.faults = []
-
-    def fault(self, call, what):
-        self.wrong[call] += 1
-        self.faults.append(f"{call}: {what}")
-
-    def read(self, script, text):
-        row, call, over, is_of_devices = "", "", "", False
-        for line in text.splitlines():
-            if not line.startswith("  "):
-                row = f"{script}: {shown(line)}"
-            elif found := HEAD.fullmatch(line):
-                call, over, is_of_devices = found[1], found[2], False
-                self.head(call, over, found[3], row)
-            elif found := DEVICES.fullmatch(line):
-                call, is_of_devices = f"devices of {found[1]}", True
-            elif call == LEAK and (found := TRIED.fullmatch(line)):
-                self.leaks |= {(over, found[1])} if found[5].startswith("G4 NoMemory" + TRACE) else set()
-            elif found := (FAILED if is_of_devices else TRIED).fullmatch(line):
-                self.count(call, is_of_devices, found, row)
-            elif line.strip() != NO_CALL:
-                self.fault(call or "rows", f"{row} prints {shown(line)}")
-
-    def head(self, call, over, allocations, row):
-        self.rows[call].add((row, over))
-        if allocations is None:
-            self.fault(call, f"{row}: nothing counts allocations")
-        elif call in WITHOUT_MEMORY and allocations != "0":
-            self.fault(call, f"{row}: asks {allocations} times for memory")
-
-    def count(self, call, is_of_devices, found, row):
-        tried, outcome = int(found[4]), found[5]
-        self.tried[call] += tried
-        if is_of_devices:
-            same, refusals = "as over devices that never fail", ["the error of the device"]
-        else:
-            same, refusals = "as without a refusal", NO_MEMORY.get(call, [])
-            if call == "absorb" and BRINGS_NOTHING in row:
-                refusals = []
-        if outcome in refusals:
-            self.refused[call] += tried
-        elif outcome != same:
-            self.fault(call, f"{row}: {found[1]} {found[2]} to {found[3]}: {outcome}")
-
-    def see_all(self):
-        """Calls that nothing was tried of, or that never failed, are wrong too."""
-        for call in [*NO_MEMORY, *(f"devices of {call}" for call in OVER_DEVICES)]:
-            if not self.refused[call]:
-                self.fault(call, "is never refused")
-        for call in WITHOUT_MEMORY:
-            if not self.rows[call]:
-                self.fault(call, "is never made")
-        for over in ["rounds", "the exchange", "the index"]:
-            for how in ["once", "lasting"]:
-                if (over, how) not in self.leaks:
-                    self.fault(LEAK, f"is not found over {over}, refused {how}")
-
-    def table(self):
-        for call in [*NO_MEMORY, *WITHOUT_MEMORY, *(f"devices of {call}" for call in OVER_DEVICES)]:
-            name = " ".join(NAMES.get(word, word) for word in call.split())
-            made = f"{len(self.rows[call])} rows, " if self.rows[call] else ""
-            yield f"{name}: {made}{self.tried[call]} refusals, {self.refused[call]} errors; {self.wrong[call]} wrong"
-
-
 def find_program():
     named = os.environ.get("CALLS")
     if named:
         return str(Path(named).resolve())
-    done = subprocess.run(["rt", "run"], cwd=CRATE, input=OWN_ROWS.read_bytes(), capture_output=True)
+    programs = ROWS / "programs"
+    used = libraries(crate_lines(programs / "crates.txt")["calls"])
+    own = {name: path for name, path in files_of(programs / "rows").items() if name.startswith("calls")}
+    folder = lay_out(ROWS / "out", "calls", used, {**files_of(programs / "calls"), **own})
+    print("proving and building the program of calls", file=sys.stderr)
+    done = subprocess.run(["rt", "run"], cwd=folder, input=OWN_ROWS.read_bytes(), capture_output=True)
     if done.returncode != 0:
         stop((done.stdout + done.stderr)[-4_000:].decode(errors="replace"))
-    return str(CRATE / "out" / CRATE.name)
+    return str(folder / "out/calls")
 
 
 def link(step, voucher, key):
@@ -247,8 +132,7 @@ class Rows:
 
 def printed(program, library, rows, part, parts, seconds=SECONDS):
     """What the program prints of a part of the rows."""
-    text = f"tries {part} {parts} {rows.how[0]} {rows.how[1]} {rows.offset}\n" + "".join(
-        line for line in rows.lines if not OTHER_VERBS.match(line))
+    text = tries(rows.lines, part, parts, *rows.how, rows.offset)
     if rows.script == OWN_ROWS:
         text += chain_rows()
     seen = subprocess.run(
@@ -299,7 +183,7 @@ def made_in_time(program, library, rows, part, parts):
 def read_directly(program, library):
     """How many allocations it takes to read a canonical line, and the same line with a space after it."""
     texts = "".join(line for line in OWN_ROWS.read_text().splitlines(keepends=True) if line.startswith("text "))
-    rows = f"tries 1 1 1 1\n{texts}receipt = ${{usual_receipt}}\nreceipt = ${{usual_receipt}} \n"
+    rows = f"tries 1 1 1 1 0\n{texts}receipt = ${{usual_receipt}}\nreceipt = ${{usual_receipt}} \n"
     seen = subprocess.run([program], input=rows.encode(), capture_output=True, env={"LD_PRELOAD": library})
     return [int(found[3]) for line in seen.stdout.decode().splitlines() if (found := HEAD.fullmatch(line))]
 
@@ -310,7 +194,7 @@ def tasks_of(scripts, parts):
 
 def scripts_of(names):
     """The rows over which each allocation is refused, and those over which a part is."""
-    wanted = lambda scripts: [script for script in scripts if not names or script.parent.name in names]  # noqa: E731
+    wanted = lambda scripts: [path for name, path in scripts.items() if not names or name in names]  # noqa: E731
     return wanted(WHOLE_ROWS), wanted(OTHER_ROWS)
 
 
@@ -318,7 +202,7 @@ def main():
     is_all = sys.argv[1:2] == ["all"]
     whole_rows, other_rows = scripts_of(sys.argv[2:])
     program = find_program()
-    judge = Judge()
+    judge = Judge(refuses_memory=True)
     with temporary() as folder, ThreadPoolExecutor(os.cpu_count()) as pool:
         library = build_library(folder, program)
         own = tasks_of([Rows.of(OWN_ROWS, OWN)], PARTS)

@@ -3,6 +3,7 @@
 //!
 //! A file's name is the name of a text; if no text has the name, the file is not there.
 use crate::devices::{AMPLE_ROOM, Devices};
+use crate::requests::changes;
 use crate::shown_forms::{
     canon, domain_of, explain, graph_held, list_held, polls, print_config, report_held, usage,
 };
@@ -51,14 +52,6 @@ impl Case<'_> {
     }
 }
 
-/// A subcommand, and the texts of its options after those of the configuration and the state.
-#[derive(Clone, Copy)]
-struct Asked<'a> {
-    name: CommandName,
-    given: &'a [Option<&'a str>],
-    is_verbose: bool,
-}
-
 /// Carries out what the arguments ask for, over the devices.
 pub(crate) fn carry_out<C: Closure>(case: &Case<'_>, devices: &mut Devices) {
     if let Err(error) = read_and_do::<C>(case, devices) {
@@ -89,10 +82,7 @@ fn do_words<C: Closure>(
 ) -> Result<(), CommandError> {
     match read_words(case.alloc, words) {
         Ok(call) => do_call::<C>(case, &call, devices),
-        Err(WordsError::Usage) => {
-            print_out(b"fedbundle: usage\n", 2, devices);
-            Ok(())
-        }
+        Err(WordsError::Usage) => usage(devices),
         Err(WordsError::NoMemory) => Err(CommandError::NoMemory),
         Err(WordsError::Words(_)) => {
             print_out(b"words that are not taken\n", 2, devices);
@@ -106,55 +96,54 @@ fn do_call<C: Closure>(
     call: &Call<'_>,
     devices: &mut Devices,
 ) -> Result<(), CommandError> {
-    match (call.name, call.texts.as_slice()) {
-        (CommandName::Canon, [Some(domain), form, ..]) => canon(case, domain, *form, devices),
-        (CommandName::Serve, [_, _, _, Some(sessions), ..]) if read_sessions(sessions).is_none() =>
-            {
-                print_out(b"fedbundle: usage\n", 2, devices);
-                Ok(())
-            }
-        (name, [Some(config), rest @ ..]) => {
-            let asked = Asked {
-                name,
-                given: rest,
-                is_verbose: is_flag_given(given(call, OptionName::Verbose)),
-            };
-            do_under::<C>(case, asked, config, devices)
-        }
-        _ => Err(CommandError::Full),
+    match call.name {
+        CommandName::Canon => canon(case, call, devices),
+        CommandName::Serve if has_bad_sessions(call) => usage(devices),
+        _ => do_under::<C>(case, call, devices),
+    }
+}
+
+/// The text of an option that the command wants, and so has.
+pub(crate) fn text_of<'a>(call: &Call<'a>, name: OptionName) -> Result<&'a str, CommandError> {
+    given(call, name).ok_or(CommandError::Full)
+}
+
+fn has_bad_sessions(call: &Call<'_>) -> bool {
+    match given(call, OptionName::Sessions) {
+        Some(sessions) => read_sessions(sessions).is_none(),
+        None => false,
     }
 }
 
 fn do_under<C: Closure>(
     case: &Case<'_>,
-    asked: Asked<'_>,
-    config: &str,
+    call: &Call<'_>,
     devices: &mut Devices,
 ) -> Result<(), CommandError> {
-    let Some(config) = case.script.text(config) else {
+    let Some(config) = case.script.text(text_of(call, OptionName::Config)?) else {
         return Err(CommandError::Io);
     };
     let config = Config::read(case.alloc, config)?;
-    do_under_config::<C>(case, asked, &config, devices)
+    do_under_config::<C>(case, call, &config, devices)
 }
 
 fn do_under_config<C: Closure>(
     case: &Case<'_>,
-    asked: Asked<'_>,
+    call: &Call<'_>,
     config: &Config,
     devices: &mut Devices,
 ) -> Result<(), CommandError> {
-    match (asked.name, asked.given) {
-        (CommandName::Config, [None, form, ..]) => print_config(case, config, *form, devices),
-        (CommandName::Config, [Some(with), form, ..]) => {
-            compare_configs(case, config, with, *form, devices)
+    let form = given(call, OptionName::Format);
+    match (call.name, given(call, OptionName::State)) {
+        (CommandName::Config, _) => match given(call, OptionName::With) {
+            None => print_config(case, config, form, devices),
+            Some(with) => compare_configs(case, config, with, form, devices),
+        },
+        (CommandName::Report, None) => report::<C>(case, config, form, devices),
+        (_, Some(state)) => {
+            do_over_file::<C>(case, call, config, case.script.text(state), devices)
         }
-        (CommandName::Report, [None, form, ..]) => report::<C>(case, config, *form, devices),
-        (_, [Some(state), given @ ..]) => {
-            let file = case.script.text(state);
-            do_over_file::<C>(case, Asked { given, ..asked }, config, file, devices)
-        }
-        _ => Err(CommandError::Full),
+        (_, None) => Err(CommandError::Full),
     }
 }
 
@@ -244,7 +233,7 @@ fn report_json_over<C: Closure>(
 // The replica of the state file; one that is not there holds nothing.
 fn do_over_file<C: Closure>(
     case: &Case<'_>,
-    asked: Asked<'_>,
+    call: &Call<'_>,
     config: &Config,
     file: Option<&[u8]>,
     devices: &mut Devices,
@@ -253,20 +242,20 @@ fn do_over_file<C: Closure>(
         Some(text) => read_snapshot(case.alloc, config, &mut FromRead::new(text))?,
         None => C::new(case.alloc, config)?,
     };
-    do_and_save(case, asked, &mut closure, file, devices)
+    do_and_save(case, call, &mut closure, file, devices)
 }
 
 fn do_and_save<C: Closure>(
     case: &Case<'_>,
-    asked: Asked<'_>,
+    call: &Call<'_>,
     closure: &mut C,
     file: Option<&[u8]>,
     devices: &mut Devices,
 ) -> Result<(), CommandError> {
     let before = snapshot(case.alloc, closure)?;
-    let done = do_asked(case, asked, closure, devices);
+    let done = do_asked(case, call, closure, devices);
     write_snapshot(case.alloc, closure, &mut devices.state)?;
-    let known = if is_saved(asked, done.is_ok()) {
+    let known = if is_saved(call, done.is_ok()) {
         file
     } else {
         Some(before.as_bytes())
@@ -275,74 +264,59 @@ fn do_and_save<C: Closure>(
     done
 }
 
-fn snapshot<C: Closure>(alloc: Global, closure: &C) -> Result<MemSink, CommandError> {
+pub(crate) fn snapshot<C: Closure>(alloc: Global, closure: &C) -> Result<MemSink, CommandError> {
     let mut text = MemSink::new(alloc, AMPLE_ROOM)?;
     write_snapshot(alloc, closure, &mut text)?;
     Ok(text)
 }
 
 // Whether the program writes the state file.
-fn is_saved(asked: Asked<'_>, is_ok: bool) -> bool {
-    match asked.name {
-        CommandName::Pull => true,
-        CommandName::Observe | CommandName::Merge => is_ok,
-        CommandName::Distrust => is_ok && asked.given.get(3) != Some(&Some("true")),
-        _ => false,
-    }
+fn is_saved(call: &Call<'_>, is_ok: bool) -> bool {
+    call.name == CommandName::Pull || (is_ok && changes(call))
 }
 
 fn do_asked<C: Closure>(
     case: &Case<'_>,
-    asked: Asked<'_>,
+    call: &Call<'_>,
     closure: &mut C,
     devices: &mut Devices,
 ) -> Result<(), CommandError> {
     let (input, output) = (&mut devices.input, &mut devices.output);
-    match (asked.name, asked.given) {
-        (CommandName::Report, [form, ..]) => report_held(case, closure, *form, devices),
-        (CommandName::List, [domain, _keys, form, ..]) => {
-            list_held(case, closure, *domain, *form, devices)
-        }
-        (CommandName::Graph, [domain, ..]) => graph_held(case, closure, *domain, devices),
-        (CommandName::Diff, [Some(with), ..]) => compare_held(case, closure, with, devices),
-        (CommandName::Status, [format, ..]) => status_of(case, closure, *format, devices),
-        (CommandName::Bundle, [Some(domain), format, ..]) => {
-            bundle(case, closure, domain, *format, devices)
-        }
-        (CommandName::Explain, [Some(domain), short, form, ..]) => {
-            explain(case, closure, domain, *short, *form, devices)
-        }
-        (CommandName::Observe, [Some(domain), Some(endpoint), Some(key), ..]) => {
-            observe(case, closure, domain, endpoint, key, devices)
-        }
-        (CommandName::Merge, _) => run_merge(case.alloc, closure, input, output),
-        (CommandName::Migrate, [to, records_only, ..]) => {
-            migrate(case, closure, *to, choice_of(*records_only), devices)
-        }
-        (CommandName::Reseed, [allowed, floors, ..]) => {
-            reseed_held(case, closure, *allowed, floors_of(*floors), devices)
-        }
-        (CommandName::Polls, [Some(now), form, ..]) => polls(case, closure, now, *form, devices),
-        (CommandName::Distrust, [Some(domain), Some(key), _public_key, dry_run, ..]) => {
-            let record = record_of(case.alloc, domain, key)?;
-            distrust(
-                case,
-                closure,
-                &record,
-                shown_of(*dry_run, asked.is_verbose),
-                devices,
-            )
-        }
-        (CommandName::Serve, _) => serve(case, closure, devices),
-        (CommandName::Pull, _) => {
-            run_pull(case.alloc, closure, input, &mut devices.sent, output)
-        }
+    match call.name {
+        CommandName::Observe => observe(case, call, closure, devices),
+        CommandName::Merge => run_merge(case.alloc, closure, input, output),
+        CommandName::Distrust => distrust(case, call, closure, devices),
+        CommandName::Pull => run_pull(case.alloc, closure, input, &mut devices.sent, output),
+        _ => look(case, call, closure, devices),
+    }
+}
+
+// The commands that leave what is held as it is.
+fn look<C: Closure>(
+    case: &Case<'_>,
+    call: &Call<'_>,
+    closure: &C,
+    devices: &mut Devices,
+) -> Result<(), CommandError> {
+    let form = given(call, OptionName::Format);
+    let domain = given(call, OptionName::Domain);
+    match call.name {
+        CommandName::Report => report_held(case, closure, form, devices),
+        CommandName::List => list_held(case, closure, domain, form, devices),
+        CommandName::Graph => graph_held(case, closure, domain, devices),
+        CommandName::Diff => compare_held(case, closure, text_of(call, OptionName::With)?, devices),
+        CommandName::Status => status_of(case, closure, form, devices),
+        CommandName::Bundle => bundle(case, call, closure, devices),
+        CommandName::Explain => explain(case, call, closure, devices),
+        CommandName::Migrate => migrate(case, call, closure, devices),
+        CommandName::Reseed => reseed_held(case, call, closure, devices),
+        CommandName::Polls => polls(case, call, closure, devices),
+        CommandName::Serve => serve(case, closure, devices),
         _ => Err(CommandError::Full),
     }
 }
 
-// The status of what the state file holds.
-// A warning makes the exit status 1.
+// The status of what the state file holds. A warning makes the exit status 1.
 fn status_of<C: Closure>(
     case: &Case<'_>,
     closure: &C,
@@ -350,8 +324,7 @@ fn status_of<C: Closure>(
     devices: &mut Devices,
 ) -> Result<(), CommandError> {
     let Ok(format) = read_status_format(format) else {
-        print_out(b"fedbundle: usage\n", 2, devices);
-        return Ok(());
+        return usage(devices);
     };
     let limits = WarnLimits {
         moment: 0,
@@ -395,12 +368,12 @@ fn choice_of(records_only: Option<&str>) -> Choice {
 // Without another configuration what is held is still under its own.
 fn migrate<C: Closure>(
     case: &Case<'_>,
+    call: &Call<'_>,
     closure: &C,
-    to: Option<&str>,
-    choice: Choice,
     devices: &mut Devices,
 ) -> Result<(), CommandError> {
-    let Some(name) = to else {
+    let choice = choice_of(given(call, OptionName::RecordsOnly));
+    let Some(name) = given(call, OptionName::To) else {
         return migrate_to(case, closure, closure.config(), choice, devices);
     };
     let Some(text) = case.script.text(name) else {
@@ -440,12 +413,12 @@ fn floors_of(text: Option<&str>) -> FloorChoice {
 // A domain that is refused makes the exit status 1.
 fn reseed_held<C: Closure>(
     case: &Case<'_>,
+    call: &Call<'_>,
     closure: &C,
-    allowed: Option<&str>,
-    floors: FloorChoice,
     devices: &mut Devices,
 ) -> Result<(), CommandError> {
-    let allowed = domain_of(case, allowed)?;
+    let floors = floors_of(given(call, OptionName::Floors));
+    let allowed = domain_of(case, given(call, OptionName::Allow))?;
     match reseed(case.alloc, closure, allowed.as_ref(), floors)? {
         Reseeded::Seeded(new) => {
             write_all(&mut devices.output, new.text.as_slice())?;
@@ -468,13 +441,12 @@ fn reseed_held<C: Closure>(
 
 fn bundle<C: Closure>(
     case: &Case<'_>,
+    call: &Call<'_>,
     closure: &C,
-    domain: &str,
-    format: Option<&str>,
     devices: &mut Devices,
 ) -> Result<(), CommandError> {
-    let domain = TrustDomain::read(case.alloc, domain)?;
-    let is_printed = if format == Some("pem") {
+    let domain = TrustDomain::read(case.alloc, text_of(call, OptionName::Domain)?)?;
+    let is_printed = if given(call, OptionName::Format) == Some("pem") {
         run_bundle_pem(case.alloc, closure, &domain, &mut devices.output)?
     } else {
         run_bundle(closure, &domain, &mut devices.output)?
@@ -487,30 +459,17 @@ fn bundle<C: Closure>(
 
 fn observe<C: Closure>(
     case: &Case<'_>,
+    call: &Call<'_>,
     closure: &mut C,
-    domain: &str,
-    endpoint: &str,
-    key: &str,
     devices: &mut Devices,
 ) -> Result<(), CommandError> {
-    let domain = TrustDomain::read(case.alloc, domain)?;
-    observe_of(case, closure, &domain, endpoint, key, devices)
-}
-
-fn observe_of<C: Closure>(
-    case: &Case<'_>,
-    closure: &mut C,
-    domain: &TrustDomain,
-    endpoint: &str,
-    key: &str,
-    devices: &mut Devices,
-) -> Result<(), CommandError> {
+    let domain = TrustDomain::read(case.alloc, text_of(call, OptionName::Domain)?)?;
     let verdict = Verdict {
-        endpoint: SpiffeId::read(case.alloc, endpoint)?,
-        key: key_of(key),
+        endpoint: SpiffeId::read(case.alloc, text_of(call, OptionName::Endpoint)?)?,
+        key: key_of(text_of(call, OptionName::Key)?),
     };
     let (input, output) = (&mut devices.input, &mut devices.output);
-    run_observe(case.alloc, closure, domain, &verdict, input, output)
+    run_observe(case.alloc, closure, &domain, &verdict, input, output)
 }
 
 // A key of zeros if the text is not a key.
@@ -523,17 +482,17 @@ fn key_of(text: &str) -> KeyId {
 // With the flag for more, what changes is printed on standard error, as far as that takes it.
 fn distrust<C: Closure>(
     case: &Case<'_>,
+    call: &Call<'_>,
     closure: &mut C,
-    record: &Distrust,
-    shown: ShownDistrust,
     devices: &mut Devices,
 ) -> Result<(), CommandError> {
-    match shown {
+    let record = record_of(case.alloc, call)?;
+    match shown_of(call) {
         ShownDistrust::Only => {
-            return show_distrust(case.alloc, closure, record, &mut devices.output);
+            return show_distrust(case.alloc, closure, &record, &mut devices.output);
         }
         ShownDistrust::Before => {
-            let _ = show_distrust(case.alloc, closure, record, &mut devices.errors);
+            let _ = show_distrust(case.alloc, closure, &record, &mut devices.errors);
         }
         ShownDistrust::Not => {}
     }
@@ -548,17 +507,19 @@ enum ShownDistrust {
     Not,
 }
 
-fn shown_of(dry_run: Option<&str>, is_verbose: bool) -> ShownDistrust {
-    if is_flag_given(dry_run) {
+fn shown_of(call: &Call<'_>) -> ShownDistrust {
+    if is_flag_given(given(call, OptionName::DryRun)) {
         ShownDistrust::Only
-    } else if is_verbose {
+    } else if is_flag_given(given(call, OptionName::Verbose)) {
         ShownDistrust::Before
     } else {
         ShownDistrust::Not
     }
 }
 
-fn record_of(alloc: Global, domain: &str, key: &str) -> Result<Distrust, CommandError> {
+fn record_of(alloc: Global, call: &Call<'_>) -> Result<Distrust, CommandError> {
+    let domain = text_of(call, OptionName::Domain)?;
+    let key = text_of(call, OptionName::Key)?;
     Ok(Distrust {
         domain: TrustDomain::read(alloc, domain)?,
         key: key_of(key),

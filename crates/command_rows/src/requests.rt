@@ -1,9 +1,9 @@
 //! The same arguments as a request to a running replica, which has the configuration and the state
 //! itself. What is held afterwards is read back from the state and the lines of the journal.
-use crate::commands::Case;
-use crate::devices::{AMPLE_ROOM, Devices};
+use crate::commands::{Case, snapshot};
+use crate::devices::Devices;
 use crate::words::split_words;
-use byte_lines::{FromRead, MemSink, write_all};
+use byte_lines::{FromRead, write_all};
 use closure_core::Closure;
 use fed_config::Config;
 use fedbundle::{Call, CommandError, CommandName, OptionName, given, is_flag_given, read_words};
@@ -164,7 +164,8 @@ fn reply_of<C: Closure>(
     }
 }
 
-fn changes(call: &Call<'_>) -> bool {
+/// Whether the command changes what is held, if it ends without an error.
+pub(crate) fn changes(call: &Call<'_>) -> bool {
     match call.name {
         CommandName::Observe | CommandName::Merge => true,
         CommandName::Distrust => !is_flag_given(given(call, OptionName::DryRun)),
@@ -192,10 +193,4 @@ fn with_journal<C: Closure>(running: Running<'_>, reply: &Reply) -> Result<C, Co
     begin_journal(running.alloc, running.config, &mut journal)?;
     journal.extend_from_slice(reply.journal.as_slice())?;
     Ok(read_journal(running.alloc, held, &mut FromRead::new(journal.as_slice()))?)
-}
-
-fn snapshot<C: Closure>(alloc: Global, closure: &C) -> Result<MemSink, CommandError> {
-    let mut text = MemSink::new(alloc, AMPLE_ROOM)?;
-    write_snapshot(alloc, closure, &mut text)?;
-    Ok(text)
 }

@@ -1,13 +1,13 @@
 //! The commands that write what they show in one of two forms.
-use crate::commands::{Case, print_out};
+use crate::commands::{Case, print_out, text_of};
 use crate::devices::Devices;
 use bundle_view::write_report;
 use closure_core::Closure;
 use config_view::{write_config, write_config_json};
 use fed_config::Config;
 use fedbundle::{
-    CommandError, OutputForm, RunError, read_explanation_form, read_output_form, run_canon,
-    run_explain, run_polls_in,
+    Call, CommandError, OptionName, OutputForm, RunError, given, read_explanation_form,
+    read_output_form, run_canon, run_explain, run_polls_in,
 };
 use jiff::Timestamp;
 use json_reports::write_report_json;
@@ -18,14 +18,13 @@ use spiffe_name::TrustDomain;
 
 pub(crate) fn canon(
     case: &Case<'_>,
-    domain: &str,
-    form: Option<&str>,
+    call: &Call<'_>,
     devices: &mut Devices,
 ) -> Result<(), CommandError> {
-    let Ok(form) = read_output_form(form) else {
+    let Ok(form) = read_output_form(given(call, OptionName::FileFormat)) else {
         return usage(devices);
     };
-    let domain = TrustDomain::read(case.alloc, domain)?;
+    let domain = TrustDomain::read(case.alloc, text_of(call, OptionName::Domain)?)?;
     run_canon(
         case.alloc,
         &domain,
@@ -108,13 +107,15 @@ pub(crate) fn domain_of(
 
 pub(crate) fn explain<C: Closure>(
     case: &Case<'_>,
+    call: &Call<'_>,
     closure: &C,
-    domain: &str,
-    short: Option<&str>,
-    form: Option<&str>,
     devices: &mut Devices,
 ) -> Result<(), CommandError> {
-    let domain = TrustDomain::read(case.alloc, domain)?;
+    let domain = TrustDomain::read(case.alloc, text_of(call, OptionName::Domain)?)?;
+    let (short, form) = (
+        given(call, OptionName::Short),
+        given(call, OptionName::Format),
+    );
     let Ok(form) = read_explanation_form(short, form) else {
         return usage(devices);
     };
@@ -127,16 +128,16 @@ pub(crate) fn explain<C: Closure>(
 
 pub(crate) fn polls<C: Closure>(
     case: &Case<'_>,
+    call: &Call<'_>,
     closure: &C,
-    now: &str,
-    form: Option<&str>,
     devices: &mut Devices,
 ) -> Result<(), CommandError> {
-    let form = match read_output_form(form) {
+    let form = match read_output_form(given(call, OptionName::Format)) {
         Ok(OutputForm::Text) => PollsForm::Lines,
         Ok(OutputForm::Json) => PollsForm::Json,
         Err(_) => return usage(devices),
     };
+    let now = text_of(call, OptionName::Now)?;
     let now = read_seconds(now.as_bytes()).unwrap_or(i64::MAX);
     let (input, output) = (&mut devices.input, &mut devices.output);
     match Timestamp::from_second(now) {
