@@ -687,6 +687,31 @@ def spire_changes(folder: Path) -> None:
     want(seen == (0, ["b.test: given, sequence 8"], wanted), "one at this socket wanted", seen)
 
 
+def spire_by_root(folder: Path) -> None:
+    """What it writes belongs to who owned what was there, or the folder above."""
+    own = os.geteuid(), os.getegid()
+    first, later = ((65534, 65533), (65532, 65531)) if own[0] == 0 else (own, own)
+    spire = Spire(folder, "a.test")
+    os.chown(folder, *first)
+    spire.bundle("a.test", 1, "k")
+    spire.run()
+    paths = [spire.given / name for name in ("lock", "a.test.json", "a.test.gone")]
+    seen = {access(path) for path in paths} | {(*access(spire.given)[:2], 0o600)}
+    want(seen == {(*first, 0o600)}, "the owner of the folder above wanted", seen)
+    for path in paths:
+        os.chown(path, *later)
+        path.chmod(0o640)
+    spire.bundle("a.test", 2, "l")
+    want(spire.run()[1] == ["a.test: given, sequence 2"], "a change wanted", spire.given)
+    seen = {access(path) for path in paths}
+    want(seen == {(*later, 0o640)}, "owner and mode as before wanted", seen)
+
+
+def access(path: Path) -> tuple[int, int, int]:
+    found = path.stat()
+    return found.st_uid, found.st_gid, stat.S_IMODE(found.st_mode)
+
+
 def spire_refuses(folder: Path) -> None:
     spire = Spire(folder, "a.test", "b.test")
     spire.bundle("a.test", 1)
@@ -1192,6 +1217,7 @@ CASES: list[tuple[str, Callable[[Path], None]]] = [
     ("stunnel follows a name that moves", moving_names),
     ("three replicas agree behind mutual TLS", three_behind_tls),
     ("spire gets what changed", spire_changes),
+    ("spire, run by root, leaves nothing that its user cannot read", spire_by_root),
     ("spire refuses a bundle", spire_refuses),
     ("spire gets no bundle that is not there", spire_without_bundle),
     ("spire and odd names of domains", spire_names),
