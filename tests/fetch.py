@@ -951,6 +951,12 @@ def abroad(room: Room) -> None:
     room.relate(server.server_port, "d.test", "spiffe://d.test/d")
     none = "d.test has no current bundle, so nothing vouches for the endpoint"
     room.fetch("--once", "d.test").wants(1, f"d.test: failed: {none}")
+    # With this, as the units have it, fedbundle says more below its line.
+    os.environ["FEDBUNDLE_VERBOSE"] = "1"
+    try:
+        room.fetch("--once", "d.test").wants(1, f"d.test: failed: {none}")
+    finally:
+        del os.environ["FEDBUNDLE_VERBOSE"]
     room.seed("d.test", bundle(1))
     none = "the current bundle of d.test has no X.509 authority"
     room.fetch("--once", "d.test").wants(1, f"d.test: failed: {none}")
