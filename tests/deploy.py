@@ -153,6 +153,8 @@ def restarts(folder: Path) -> None:
     want(steps > 1 and 5 < most <= 300, "a wait that grows wanted", said)
     refused = {int(one) for one in said["RestartPreventExitStatus"].split()}
     want(refused == {1, 2}, "status 1 and 2 wanted", refused)
+    signals = said.get("RestartForceExitStatus", "").split()
+    want({"SIGHUP", "SIGINT", "SIGTERM"} <= set(signals), "a new start after each signal wanted", signals)
     for what, status in ends_of_replica(folder):
         again = "no new start" if status in refused else "a new start"
         wanted = "a new start" if what.endswith("failed") else "no new start"
@@ -216,7 +218,82 @@ def command(unit: str, instance: str = "") -> list[str]:
     text = (DEPLOY / unit).read_text().replace("\\\n", " ")
     started = re.findall(r"^ExecStart=(.*)$", text, re.M)
     want(len(started) == 1, f"one command in {unit} wanted", started)
-    return shlex.split(started[0].replace("%I", instance))[1:]
+    options = options_of(unit)
+    words = shlex.split(started[0].replace("%I", instance))[1:]
+    named = [word for word in words if word.startswith("$")]
+    want(len(named) == 1, f"one name for all options of {unit} wanted", named)
+    return [one for word in words for one in (options.get(word[1:], []) if word in named else [word])]
+
+
+def options_of(unit: str) -> dict[str, list[str]]:
+    """The options that a unit has without a file, by the names that the file may set."""
+    found = re.findall(r'^Environment="(\w+_OPTIONS)=(.*)"$', (DEPLOY / unit).read_text(), re.M)
+    return {name: shlex.split(value) for name, value in found}
+
+
+# What the units themselves give to their programs, and the file does not.
+GIVEN = {"replica": {"config", "previous", "state", "socket", "read-socket", "new", "listen-anywhere", "verbose"},
+         "serve": {"config", "state", "verbose"}, "pull": {"config", "state", "peer", "wait", "verbose"},
+         "fedbundle-fetch": {"config", "state", "polls", "program", "once"},
+         "fedbundle-spire": {"config", "state", "given", "program", "all", "allow"},
+         "polls": {"at", "now", "config", "state", "format", "most-receipts", "most-records", "verbose"}}
+OPTIONS = {"REPLICA": ("fedbundle-replica.service", ["replica"]), "FETCH": ("fedbundle-fetch.service", ["fedbundle-fetch"]),
+           "SPIRE": ("fedbundle-spire.service", ["fedbundle-spire"]), "WATCH": ("fedbundle-watch.service", ["polls"]),
+           "SERVE": ("fedbundle-serve.service", ["serve"]), "PULL": ("fedbundle-pull@.service", ["serve", "pull"])}
+
+
+def defaults(folder: Path) -> None:
+    """The file of options shows what holds without it, and explains each option that there is. Each unit reads it."""
+    text = (DEPLOY / "fedbundle.default").read_text()
+    said = re.findall(r'^#(\w+)_OPTIONS="(.*)"$', text, re.M)
+    want({name for name, _ in said} == set(OPTIONS), "a line for each unit", said)
+    for name, value in said:
+        unit = OPTIONS[name][0]
+        want(options_of(unit).get(f"{name}_OPTIONS", []) == shlex.split(value), f"what holds without the file in {unit}", value)
+    for unit in DEPLOY.glob("*.service"):
+        lines = unit.read_text().split("\n")
+        want("EnvironmentFile=-/etc/default/fedbundle" in lines, "the file of options", unit.name)
+        want("Environment=FEDBUNDLE_VERBOSE=1" in lines, "the line with the file that is wrong", unit.name)
+    explained = explained_options(text)
+    for name in {"SERVE": "", **OPTIONS}:
+        known = set().union(*(options_by_help(word) - GIVEN[word] for word in OPTIONS[name][1]))
+        seen = explained["SERVE" if name == "PULL" else name]
+        want(seen == known or (name == "SERVE" and seen > known), f"the options of {OPTIONS[name][0]}", sorted(seen ^ known))
+
+
+def explained_options(text: str) -> dict[str, set[str]]:
+    """The options of which the file tells, by the name of the first line that it shows below them."""
+    found = {}
+    for part in text.split("# ---- ")[1:]:
+        if shown := re.search(r"^#(\w+)_OPTIONS=", part, re.M):
+            before = re.findall(r"^# --.*$", part[:shown.start()], re.M)
+            found[shown[1]] = {one for line in before for one in re.findall(r"--([\w-]+)", line.split("   ")[0])}
+    return found
+
+
+def options_by_help(word: str) -> set[str]:
+    """The options of a command or a program, as its help says."""
+    words = [DEPLOY / word] if word.startswith("fedbundle-") else [find_program(), word]
+    return set(re.findall(r"^ +(?:-\w, )?--([\w-]+)", run(*words, "--help")[1], re.M)) - {"help"}
+
+
+def no_commands_again(_folder: Path) -> None:
+    """No drop-in or setting of a page repeats a command or names a path of a program."""
+    for page in [TOP / "README.md", *(TOP / "docs").glob("*.md")]:
+        blocks = re.findall(r"^ *```ini\n(.*?)^ *```", page.read_text(), re.M | re.S)
+        bad = [block for block in blocks if "ExecStart" in block or "/bin/fedbundle" in block]
+        want(not bad, f"no command in a drop-in of {page.name}", bad)
+
+
+def ends_without_noise(_folder: Path) -> None:
+    """A look at a replica that has ended says nothing of its own."""
+    text = (DEPLOY / "fedbundle-replica.service").read_text().replace("\\\n", " ")
+    line = re.search(r"^ExecStartPost=(.*)$", text, re.M)[1].replace("/usr/local/bin/fedbundle", "false")
+    gone = subprocess.Popen(["true"])
+    gone.wait()
+    for pid in (str(gone.pid), ""):
+        ran = subprocess.run(shlex.split(line), env={"PATH": search_path(), "MAINPID": pid}, capture_output=True, timeout=30)
+        want((ran.returncode, ran.stdout, ran.stderr) == (0, b"", b""), "no line", ran)
 
 
 def commands(folder: Path) -> None:
@@ -686,6 +763,31 @@ def spire_changes(folder: Path) -> None:
     seen = spire.run("--all", "--own", "a.test", "--socket", "/run/api.sock")
     wanted = [f"{calls[1]} -socketPath /run/api.sock"]
     want(seen == (0, ["b.test: given, sequence 8"], wanted), "one at this socket wanted", seen)
+
+
+def spire_by_root(folder: Path) -> None:
+    """What it writes belongs to who owned what was there, or the folder above."""
+    own = os.geteuid(), os.getegid()
+    first, later = ((65534, 65533), (65532, 65531)) if own[0] == 0 else (own, own)
+    spire = Spire(folder, "a.test")
+    os.chown(folder, *first)
+    spire.bundle("a.test", 1, "k")
+    spire.run()
+    paths = [spire.given / name for name in ("lock", "a.test.json", "a.test.gone")]
+    seen = {access(path) for path in paths} | {(*access(spire.given)[:2], 0o600)}
+    want(seen == {(*first, 0o600)}, "the owner of the folder above wanted", seen)
+    for path in paths:
+        os.chown(path, *later)
+        path.chmod(0o640)
+    spire.bundle("a.test", 2, "l")
+    want(spire.run()[1] == ["a.test: given, sequence 2"], "a change wanted", spire.given)
+    seen = {access(path) for path in paths}
+    want(seen == {(*later, 0o640)}, "owner and mode as before wanted", seen)
+
+
+def access(path: Path) -> tuple[int, int, int]:
+    found = path.stat()
+    return found.st_uid, found.st_gid, stat.S_IMODE(found.st_mode)
 
 
 def spire_refuses(folder: Path) -> None:
@@ -1186,6 +1288,9 @@ CASES: list[tuple[str, Callable[[Path], None]]] = [
     ("units start again what failed, and nothing that is refused", restarts),
     ("the user is made", user),
     ("the folder is made", folder_of_state),
+    ("the file of options shows and explains each", defaults),
+    ("no page has a drop-in with a command", no_commands_again),
+    ("a look at a replica that has ended says nothing", ends_without_noise),
     ("the commands of the units exchange a receipt", commands),
     ("the command of a replica's unit exchanges a receipt", replicas),
     ("stunnel lets peers through", right_certificates),
@@ -1193,6 +1298,7 @@ CASES: list[tuple[str, Callable[[Path], None]]] = [
     ("stunnel follows a name that moves", moving_names),
     ("three replicas agree behind mutual TLS", three_behind_tls),
     ("spire gets what changed", spire_changes),
+    ("spire, run by root, leaves nothing that its user cannot read", spire_by_root),
     ("spire refuses a bundle", spire_refuses),
     ("spire gets no bundle that is not there", spire_without_bundle),
     ("spire and odd names of domains", spire_names),

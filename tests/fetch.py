@@ -398,6 +398,38 @@ def good(room: Room) -> None:
          "polls that fedbundle takes wanted", room.polls())
 
 
+@case("a run by root leaves nothing that the folder's owner cannot read")
+def by_root(room: Room) -> None:
+    names = "state.polls", "state.polls.lock", "state.polls.keys"
+    # Another user cannot give files away: then the owner is the same, and the mode alone is seen.
+    own = os.geteuid(), os.getegid()
+    first, later = ((65534, 65533), (65532, 65531)) if own[0] == 0 else (own, own)
+    room.one(room.leaf_a, serves(bundle(2, room.a, room.b)))
+    os.chown(room.folder, *first)
+    want(room.fetch("--once", "b.test").status == 0, "a good fetch wanted", names)
+    want(access(room, names) == {(*first, 0o600)}, "the owner wanted", access(room, names))
+    for name in names:
+        os.chown(room.folder / name, *later)
+        os.chmod(room.folder / name, 0o640)
+    before, written = files(room, names), int(time.time())
+    until(lambda: time.time() >= written + 1, "another second of the poll")
+    room.one(room.leaf_b, serves(bundle(3, room.b)))
+    want(room.fetch("--once", "b.test").status == 0, "a good fetch wanted", names)
+    kept = [one == two for one, two in zip(before, files(room, names))]
+    want(kept == [False, True, False], "polls and keys in new files wanted", kept)
+    want(access(room, names) == {(*later, 0o640)}, "what there was wanted", access(room, names))
+
+
+def files(room: Room, names: tuple[str, ...]) -> list[int]:
+    return [(room.folder / name).stat().st_ino for name in names]
+
+
+def access(room: Room, names: tuple[str, ...]) -> set[tuple[int, int, int]]:
+    """The owners, groups and modes of these files."""
+    found = [(room.folder / name).stat() for name in names]
+    return {(one.st_uid, one.st_gid, one.st_mode & 0o777) for one in found}
+
+
 @case("an unchanged bundle, written in another way")
 def unchanged(room: Room) -> None:
     text = json.dumps(dict(reversed(bundle(1, room.a).items())), indent=4).encode()
@@ -919,6 +951,12 @@ def abroad(room: Room) -> None:
     room.relate(server.server_port, "d.test", "spiffe://d.test/d")
     none = "d.test has no current bundle, so nothing vouches for the endpoint"
     room.fetch("--once", "d.test").wants(1, f"d.test: failed: {none}")
+    # With this, as the units have it, fedbundle says more below its line.
+    os.environ["FEDBUNDLE_VERBOSE"] = "1"
+    try:
+        room.fetch("--once", "d.test").wants(1, f"d.test: failed: {none}")
+    finally:
+        del os.environ["FEDBUNDLE_VERBOSE"]
     room.seed("d.test", bundle(1))
     none = "the current bundle of d.test has no X.509 authority"
     room.fetch("--once", "d.test").wants(1, f"d.test: failed: {none}")

@@ -5,7 +5,8 @@ The commands are those of the page, and what the page shows is what they have to
 begin with `# ` for root and with `$ ` for the user fedbundle, both in /var/lib/fedbundle. The lines below a command have
 to come in this order, and others may come between them; `<..>` means a word, `..` whatever is left of a line, and
 `(status 1)` for the exit status, which is 0 if nothing is said. A command that only looks is repeated for a while until
-it prints what it has to. An `ini` block is a drop-in of fedbundle-replica.service. Each block of a runbook has to be
+it prints what it has to. An `ini` block has lines of
+/etc/default/fedbundle. Each block of a runbook has to be
 followed, and each runbook of the page has to be played.
 
 A machine is a copy of this one whose changes are thrown away, with the programs and units of deploy/. tests/lib/systemctl
@@ -156,23 +157,17 @@ class Replica(Machine):
             subprocess.run(["chroot", self.root, *words], check=True, capture_output=True)
         self.configure(json.dumps(world.config))
         if number != 1:
-            self.drop_in(self.exec_start())
+            self.set(self.options())
 
-    def exec_start(self, *more):
-        """The ExecStart of a replica with its own addresses, and more peers. The replicas of these tests have addresses
-        of their own on one loopback, and no stunnel."""
+    def options(self, *more):
+        """The options of a replica with its own addresses, and more peers. The replicas of these tests have addresses of
+        their own on one loopback, and no stunnel."""
         peers = ",".join(f"127.0.0.1:{8470 + one}" for one in sorted({1, 2, 3, *more} - {self.number}))
-        text = self.path(f"/usr/local/lib/systemd/system/{UNIT}").read_text()
-        started = re.search(r"^ExecStart=(?:.*\\\n)*.*\n", text, re.M)[0]
-        started = started.replace("127.0.0.1:8472,127.0.0.1:8473", peers)
-        started = started.replace("--listen 127.0.0.1:8471", f"--listen 127.0.0.1:{8470 + self.number}")
-        return f"[Service]\nExecStart=\n{started}"
+        return f'REPLICA_OPTIONS="--listen 127.0.0.1:{8470 + self.number} --peers {peers}"\n'
 
-    def drop_in(self, text):
-        """Puts a drop-in of the replica's unit in place, as `systemctl edit` does."""
-        folder = self.path(f"/etc/systemd/system/{UNIT}.d")
-        folder.mkdir(parents=True, exist_ok=True)
-        (folder / "override.conf").write_text(text)
+    def set(self, text):
+        """Writes the file of the units' options."""
+        self.path("/etc/default/fedbundle").write_text(text)
 
     def give(self, name, text):
         """Puts a file into the replica's folder."""
@@ -189,7 +184,7 @@ class Replica(Machine):
         """The status of a line of a shell, and what it printed on both streams."""
         if not by_root:
             command = f"runuser -u fedbundle -- bash -c {shlex.quote(f'umask 077; {command}')}"
-        ran = subprocess.run(self.words(f"exec 2>&1; {command}", home), stdout=subprocess.PIPE, text=True, timeout=1200,
+        ran = subprocess.run(self.words(f"exec 2>&1; unset FEDBUNDLE; {command}", home), stdout=subprocess.PIPE, text=True, timeout=1200,
                              stdin=subprocess.DEVNULL)
         return ran.returncode, ran.stdout
 
@@ -268,7 +263,7 @@ class World:
         want(bool(self.left), "one more block of the page wanted", "there is none")
         kind, text = self.left.pop(0)
         if kind == "ini":
-            on.drop_in(text)
+            on.set(text)
             return
         for command in commands(text):
             self.obey(on, command)
@@ -369,12 +364,16 @@ def start_anew(world, document, *replicas):
 
 
 def switch(world, *replicas):
-    """Follows step 4 of "A domain is locked out" on each replica. The first one has `config.new`."""
+    """Follows step 4 of "A domain is locked out" on each replica. The first one has `config.new`. A timer is started only
+    where it is enabled, as that of the pusher at all but the first."""
     text = replicas[0].path(f"{HOME}/config.new").read_text()
     for one in replicas:
+        one.run(f"systemctl {'disable' if one is replicas[0] else 'enable'} fedbundle-spire.timer")
         one.give("config.new", text)
         world.borrow("A domain is locked out", 3, one)
         until(lambda: one.report().startswith("config "), f"replica {one.name}")
+        timer = one.run("systemctl is-active fedbundle-spire.timer")[1].strip()
+        want(timer == ("inactive" if one is replicas[0] else "active"), "a timer only where it is enabled wanted", timer)
 
 
 @runbook("A sequence number went back, or ran away")
@@ -423,7 +422,8 @@ def put_back(world):
     until(lambda: one.sequence() == 1, "sequence 1 of the file that was put there")
     one.run(f"systemctl stop {UNIT} && rm state state.journal")
     one.run(f"systemctl start {UNIT}")
-    until(lambda: one.run(f"journalctl -u {UNIT} -n 1")[1] == "fedbundle: no state\n", "a replica without a state that ends")
+    shown = "fedbundle: no state\n  --state \"state\" is not there: `new` writes one that holds nothing\n"
+    until(lambda: one.run(f"journalctl -u {UNIT} -t fedbundle -n 2")[1] == shown, "a replica without a state that ends")
 
 
 @runbook("A replica is lost")
@@ -446,13 +446,17 @@ def added(world):
     one = world.replica("one")
     four = Replica(world, "four", 4)
     world.replicas.append(four)
-    four.drop_in(four.exec_start(4))
+    four.set(four.options(4))
     four.start()
     told = one.run("fedbundle status --at /run/fedbundle/socket")[1]
     want("127.0.0.1:8474" not in told, "no such peer wanted", told)
     for _ in range(3):
         world.follow(one)
     same_reports(one, four)
+    # Options that are refused leave the replica as it is.
+    one.set('REPLICA_OPTIONS="--peers nowhere"\n')
+    status, told = one.run(f"systemctl reload {UNIT}")
+    want(status == 1 and one.report() == four.report(), "a reload that is refused, and the replica as it was, wanted", told)
 
 
 @runbook("A replica is removed")
@@ -461,8 +465,8 @@ def removed(world):
     same_reports(one, two)
     world.follow(two)
     want(two.report() == "fedbundle: no replica\n", "no replica wanted", two.report())
-    one.drop_in(one.exec_start().replace("127.0.0.1:8472,", ""))
-    one.run(f"systemctl restart {UNIT}")
+    one.set(one.options().replace("127.0.0.1:8472,", ""))
+    one.run(f"systemctl reload {UNIT}")
     until(lambda: one.report().startswith("config "), "a replica")
     told = one.run("fedbundle status --at /run/fedbundle/socket")[1]
     want("127.0.0.1:8472" not in told and one.sequence() == 2, "no such peer, and what it gave, wanted", told)

@@ -137,6 +137,10 @@ class Running:
     def answers(self):
         return self.run(f"fedbundle status {AT}")[1].startswith("config ")
 
+    def is_active(self):
+        """Whether the replica answers, and its unit no longer waits for that."""
+        return self.answers() and self.said(UNIT, "ActiveState") == "active"
+
     def end(self):
         if self.first:
             os.kill(int(self.first), signal.SIGKILL)
@@ -150,6 +154,13 @@ class Running:
 
 
 # The cases. Each goes on from the one before.
+
+
+def put(machine, path, text):
+    """Writes a file of the machine."""
+    at = Path(f"/proc/{machine.first}/root{path}")
+    at.parent.mkdir(parents=True, exist_ok=True)
+    at.write_text(text)
 
 
 def loaded(machine):
@@ -166,7 +177,12 @@ def starts(machine):
     machine.run("chown fedbundle: config.json; chmod 640 config.json")
     machine.run(f"systemctl start {UNIT}")
     until(lambda: machine.said(UNIT, "ActiveState") == "failed", "a unit that has no state, and fails")
-    want("fedbundle: no state" in machine.log(UNIT), "why", machine.log(UNIT))
+    first = machine.run(f"journalctl --no-pager -o cat -u {UNIT} -t fedbundle -n 2")[1].splitlines()
+    want(first == ["fedbundle: no state", '  --state "state" is not there: `new` writes one that holds nothing'],
+         "the code and the file, and nothing of systemd", first)
+    # The look at the replica that has ended may come a moment later, and has nothing to say.
+    until(lambda: machine.said(UNIT, "SubState") == "failed", "an end of the unit")
+    want("No such process" not in machine.log(UNIT), "no other fault", machine.log(UNIT))
     new = machine.run("runuser -u fedbundle -- fedbundle new --config config.json --state state")
     want(new == (0, ""), "a state that holds nothing", new)
     status, told = machine.run(f"systemctl start {UNIT}")
@@ -186,27 +202,108 @@ def killed(machine):
     want(len(moments) == 2 and 4 < moments[1] - moments[0] < 15, "a wait of five seconds", log)
 
 
-def watched(machine):
-    """A replica that does not answer is started again; one that answers is not, and one that nobody started is not started."""
-    before = machine.said(UNIT, "MainPID")
-    status, told = machine.run("systemctl start fedbundle-watch.service")
-    want((status, machine.said(UNIT, "MainPID")) == (0, before), "a replica that is left alone", told)
-    machine.run("mkdir -p /etc/systemd/system/fedbundle-watch.service.d; printf '[Service]\\nEnvironment=WAIT=1\\n'"
-                " > /etc/systemd/system/fedbundle-watch.service.d/wait.conf; systemctl daemon-reload")
-    machine.run(f"kill -STOP {before}; systemctl start fedbundle-watch.service")
-    log = machine.log("fedbundle-watch.service")
-    want("fedbundle: no reply" in log, "a look that has no reply", log)
-    until(lambda: machine.said(UNIT, "MainPID") not in (before, "0") and machine.answers(), "a new start", 60)
-    machine.run(f"systemctl stop {UNIT}; systemctl start fedbundle-watch.service")
-    log = machine.log("fedbundle-watch.service")
-    want("fedbundle: no replica" in log, "a look without a replica", log)
-    time.sleep(2)
-    want(machine.said(UNIT, "MainPID") == "0", "no start", machine.said(UNIT, "ActiveState"))
+def signalled(machine):
+    """A replica that a signal ended is started again, though systemd takes an end by one of these for a good one."""
+    for name in ("HUP", "INT", "TERM"):
+        before = machine.said(UNIT, "MainPID")
+        want(int(before) > 1, "a process", before)
+        machine.run(f"kill -{name} {before}")
+        until(lambda: machine.said(UNIT, "MainPID") not in (before, "0") and machine.is_active(), f"a new start after {name}", 20)
+    machine.run(f"systemctl stop {UNIT}")
+    time.sleep(7)
+    seen = machine.said(UNIT, "ActiveState")
+    want(seen == "inactive", "no start of one that was stopped", seen)
     status, told = machine.run(f"systemctl start {UNIT}")
     want(status == 0 and machine.answers(), "a replica that answers once it is started", told)
 
 
+def reloaded(machine):
+    """A reload has the new options, and leaves the replica alone if they or the configuration are refused."""
+    before = machine.said(UNIT, "MainPID")
+    put(machine, "/etc/default/fedbundle", 'REPLICA_OPTIONS="--listen 127.0.0.1:8471 --health 127.0.0.1:9463 --every 5"\n')
+    began = time.monotonic()
+    status, told = machine.run(f"systemctl reload {UNIT}")
+    took = time.monotonic() - began
+    want(status == 0 and took < 4, "a reload without a wait for the next start", (status, took, told, machine.log(UNIT)))
+    want(machine.said(UNIT, "MainPID") not in (before, "0") and machine.answers(), "a replica that answers at the end", told)
+    words = machine.run(f"tr '\\0' ' ' < /proc/{machine.said(UNIT, 'MainPID')}/cmdline")[1]
+    want("--health 127.0.0.1:9463 --every 5" in words and "--peers" not in words, "the new options", words)
+    want(machine.run("curl -sf http://127.0.0.1:9463/ready")[0] == 0, "an address that the unit allows", machine.log(UNIT))
+    before = machine.said(UNIT, "MainPID")
+    for options, line in (("--nonsense", "unexpected argument '--nonsense'"), ("--listen nowhere", "fedbundle: bad address")):
+        put(machine, "/etc/default/fedbundle", f'REPLICA_OPTIONS="{options}"\n')
+        refused_at(machine, before, line)
+    put(machine, "/etc/default/fedbundle", "")
+    config = machine.run("cat config.json")[1]
+    machine.run("echo nonsense > config.json")
+    refused_at(machine, before, "fedbundle: C1 NotJson")
+    put(machine, f"{HOME}/config.json", config)
+    status, told = machine.run(f"systemctl reload {UNIT}")
+    want(status == 0 and machine.answers(), "a reload without a file of options", told)
+
+
+def refused_at(machine, before, line):
+    """A reload that is refused with this line, while the same replica goes on."""
+    status, told = machine.run(f"systemctl reload {UNIT}")
+    seen = machine.said(UNIT, "MainPID")
+    want((status, seen) == (1, before) and machine.answers(), "the same replica", (status, before, seen, told))
+    want(line in machine.log(UNIT), "the reason", machine.log(UNIT))
+
+
+def watched(machine):
+    """A replica that does not answer is started again, and so is one that is enabled and ended. One that answers is left alone,
+    and one that was stopped too. The timer stops and starts with it."""
+    before = machine.said(UNIT, "MainPID")
+    status, told = machine.run("systemctl start fedbundle-watch.service")
+    want((status, machine.said(UNIT, "MainPID")) == (0, before), "a replica that is left alone", told)
+    put(machine, "/etc/default/fedbundle", "WATCH_OPTIONS='--wait 1'\n")
+    machine.run(f"kill -STOP {before}; systemctl start fedbundle-watch.service")
+    log = machine.log("fedbundle-watch.service")
+    want("fedbundle: no reply" in log, "a look that has no reply", log)
+    until(lambda: machine.said(UNIT, "MainPID") not in (before, "0") and machine.is_active(), "a new start", 60)
+    ended(machine)
+    machine.run("systemctl start fedbundle-watch.service")
+    log = machine.log("fedbundle-watch.service")
+    want("fedbundle: no replica" in log, "a look without a replica", log)
+    time.sleep(2)
+    want(machine.said(UNIT, "MainPID") == "0", "no start of one that is not enabled", machine.said(UNIT, "ActiveState"))
+    machine.run(f"systemctl enable {UNIT} fedbundle-watch.timer; systemctl start {UNIT}")
+    want(machine.said("fedbundle-watch.timer", "ActiveState") == "active", "a timer that starts with the replica", "none")
+    ended(machine)
+    machine.run("systemctl start fedbundle-watch.service")
+    until(machine.is_active, "a start of one that is enabled and ended")
+    stopped_by_systemd(machine)
+
+
+def ended(machine):
+    """Ends the replica without systemd."""
+    machine.run(f"fedbundle stop {AT}")
+    until(lambda: machine.said(UNIT, "ActiveState") == "inactive", "an end of the replica")
+
+
+def stopped_by_systemd(machine):
+    """What `systemctl stop` ended stays so, though the watch is at work meanwhile: the timer and a look that waits end too."""
+    put(machine, "/etc/default/fedbundle", "WATCH_OPTIONS='--wait 60'\n")
+    machine.run(f"kill -STOP {machine.said(UNIT, 'MainPID')}; systemctl --no-block start fedbundle-watch.service")
+    until(lambda: machine.said("fedbundle-watch.service", "ActiveState") == "activating", "a look that waits")
+    machine.run(f"systemctl stop {UNIT}")
+    states = [machine.said(f"fedbundle-watch.{kind}", "ActiveState") for kind in ("timer", "service")]
+    want(states[0] == "inactive" and states[1] in ("inactive", "failed"), "no watch of what was stopped", states)
+    time.sleep(3)
+    want(machine.said(UNIT, "ActiveState") == "inactive", "no start of one that was stopped", machine.log(UNIT))
+    machine.run(f"systemctl disable {UNIT} fedbundle-watch.timer; systemctl stop fedbundle-watch.timer; rm /etc/default/fedbundle")
+    status, told = machine.run(f"systemctl start {UNIT}")
+    want(status == 0 and machine.answers(), "a replica that answers once it is started", told)
+    state = machine.said("fedbundle-watch.timer", "ActiveState")
+    want(state == "inactive", "no start of a timer that is not enabled", state)
+
+
 def fetches(machine):
+    """The unit fetches, also after a run by root, whose files its user can read."""
+    by_root = f"fedbundle-fetch --config config.json --state state {AT} --once a.example"
+    status, told = machine.run(by_root)
+    want(status == 1 and "has no address" in told, "a fetch that fails, since nobody answers", told)
+    machine.run("sed -i d state.polls")
     status, told = machine.run("systemctl start fedbundle-fetch.service")
     log, ended = machine.log("fedbundle-fetch.service"), machine.said("fedbundle-fetch.service", "ExecMainStatus")
     want((status, ended) == (1, "1"), "a fetch that fails, since nobody answers", (told, log))
@@ -284,7 +381,9 @@ CASES = [
     ("all units are loaded", loaded),
     ("a replica starts", starts),
     ("a replica that was killed starts again after five seconds", killed),
-    ("a replica that does not answer is started again", watched),
+    ("a replica that another signal ended starts again", signalled),
+    ("a reload has new options, and refuses wrong ones", reloaded),
+    ("a replica that does not answer, or is enabled and ended, is started", watched),
     ("the fetcher runs", fetches),
     ("the pusher runs, and writes into its own folder alone", pushes),
     ("a replica whose state is refused is not started again", refused),
