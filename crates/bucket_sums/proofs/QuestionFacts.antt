@@ -1,15 +1,17 @@
 -- Pieces of a question.
-use Rattle.std.proofs.Common.{◌≡◌, ◌≢◌, ◌∙◌, ℕ, ◌<◌, inl, inr, Bool, true, false, List, [], ◌∷◌, ◌++◌, length, take, drop, get_or}
+use Rattle.std.proofs.Common.{◌≡◌, ◌≢◌, ◌∙◌, ℕ, ◌+◌, ◌<◌, inl, inr, Bool, true, false, List, [], ◌∷◌, ◌++◌, length, take, drop, get_or}
 use Rattle.std.proofs.Common.{refl, sym, ap, subst, arith, append_assoc, append-nil, length-append, take-append-drop}
 use Rattle.std.specs.Prelude.{Option, Some, None}
 use Rattle.std.specs.List.{AllByRecursion}
-use Rattle.std.proofs.lemmas.List.{take_all}
+use Rattle.std.proofs.lemmas.List.{length-take, take_all}
 use Rattle.std.proofs.lemmas.Grind.{flat_map-append}
 use Rattle.fed_config.specs.Configuration.{Configuration}
 use Rattle.replica_core.specs.declared.error.SyncError.{SyncError}
 use Rattle.replica_texts.specs.Snapshots.{ended, text_of_lines}
 use Rattle.replica_texts.specs.SoleLines.{written_header}
 use Rattle.replica_sync.specs.Pieces.{EndsLine, Continues, kept_part, piece_run}
+use Rattle.replica_sync.specs.PullSessions.{EndsInFeed}
+use Rattle.replica_sync.proofs.PullStepFacts.{feed_last}
 use Rattle.bucket_sums.specs.Lines.{IsSumLine, differences, differs, part_count}
 use Rattle.bucket_sums.specs.Questions.{RefusesText, StopsAtLine, headed, longest_line}
 use Rattle.bucket_sums.specs.Serving.{HasQuestionPart}
@@ -30,6 +32,14 @@ ended_text old piece text used parts =
     ap (λ (l : List ℕ). old ++ l) (sym (take-append-drop used piece))
     ∙ sym (append_assoc old (take used piece) (drop used piece))
     ∙ ap (λ (l : List ℕ). l ++ drop used piece) parts ∙ append_assoc text (10 ∷ []) (drop used piece)
+
+-- The bytes of a piece that end a line end in its line feed.
+pub line_feed : (old piece text : List ℕ) (used : ℕ) → EndsLine (piece_run longest_line old piece) used text → EndsInFeed (take used piece)
+line_feed old piece text used ends =
+    let size = length-take used piece in
+    let some = ends.some in
+    let within = ends.within in
+    feed_last old (take used piece) text (omega (arith, size, some, within)) ends.parts
 
 -- A line that ended and is refused is an error of the question.
 pub line_fails : (config : Configuration) (serving : SumsServing) (piece : List ℕ) (used : ℕ) (text : List ℕ) (e : SyncError)

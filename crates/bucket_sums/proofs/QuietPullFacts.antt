@@ -10,14 +10,15 @@ use Rattle.replica_core.specs.declared.error.SyncError.TheVariants.{NoMemory}
 use Rattle.replica_sync.specs.Pieces.{kept_part}
 use Rattle.replica_sync.specs.PulledPieces.{AreAlone, PulledPiece, bytes_pulled, bytes_read, pieces_of}
 use Rattle.replica_sync.specs.Plans.{answered_of}
-use Rattle.replica_sync.specs.PullSessions.{HasPulledAbout, PullsLines, PullsPieces, count_of_pulling, due_have, fault_of_pulling, kept_answer}
+use Rattle.replica_sync.specs.PullSessions.{HasPulledAbout, PullsLines, PullsPieces, count_of_pulling, due_have}
+use Rattle.replica_sync.specs.PullSessions.{fault_of_pulling, kept_answer}
 use Rattle.replica_sync.specs.declared.answer_lines.AnswerLines.{AnswerLines}
 use Rattle.replica_sync.specs.declared.piece_pulling.Pulling.{Pulling}
 use Rattle.replica_sync.proofs.PulledPieceFacts.{bytes_more, takes_quiet}
 use Rattle.replica_sync.proofs.PullStepFacts.{pulled_still, taken_same}
 use Rattle.bucket_sums.specs.Asking.{HasAnswerLines, HasTakenAnswer, IsLineOfMarks, TakesAnswer, fault_of_answer, marks_answered}
 use Rattle.bucket_sums.specs.Questions.{StopsAtLine, sums_question}
-use Rattle.bucket_sums.specs.QuietPulls.{AsksMarked, IsAskingSums, PullsFrom, StopsMarks, due_of_stage, due_question}
+use Rattle.bucket_sums.specs.QuietPulls.{AsksMarked, EndsHolding, IsAskingSums, PullsFrom, StopsMarks, due_of_stage, due_question}
 use Rattle.bucket_sums.specs.Sessions.{buckets_asked}
 use Rattle.bucket_sums.specs.Sums.{sums_of}
 use Rattle.bucket_sums.specs.Inside.QuietPullSteps.{StepsQuietly}
@@ -39,6 +40,10 @@ quiet_piece bytes m = record { bytes = bytes; old = m; new = m }
 last_held : (start m : Meaning) (came : List PulledPiece) (c : PulledPiece) → AreAlone start (came ++ c ∷ []) m → c.new ≡ m
 last_held start m [] c h = sym h.1
 last_held start m (d ∷ came) c h = last_held d.new m came c h.1
+
+pub ends_alone : (start m held : Meaning) (came : List PulledPiece) → EndsHolding came held → AreAlone start came m → held ≡ m
+ends_alone start m held came ends alone =
+    sym ends.was ∙ last_held start m ends.before ends.last (subst (λ (l : List PulledPiece). AreAlone start l m) ends.order alone)
 
 -- One piece is the bytes, and leaves what is held.
 pub one_piece : (bytes : List ℕ) (m : Meaning) → bytes_pulled (quiet_piece bytes m ∷ []) ≡ bytes
@@ -212,7 +217,7 @@ marks_end config old new pulling due m start came bytes written marks on own hel
       bytes = bytes_more came (quiet_piece bytes m) ∙ answer.bytes;
       then = m;
       own = held;
-      was = λ k alone. last_held start k came (quiet_piece bytes m) alone;
+      was = record { before = came; last = quiet_piece bytes m; order = refl; was = refl };
       after = [];
       parts = sym (append-nil written) ∙ ap (λ (l : List ℕ). written ++ l) (sym idle) ∙ asks.asks
           ∙ sym (append-nil (sums_question start.config (sums_of (state_of start))));

@@ -18,6 +18,7 @@ use Rattle.replica_sync.specs.ServedPieces.{Came, HasServedPieces, came_taken, d
 use Rattle.replica_sync.specs.AnsweredFrom.{answered_from}
 use Rattle.replica_sync.specs.declared.answer_records.AnswerRecords.TheVariants.{All}
 use Rattle.replica_sync.specs.declared.line_part.LinePart.{LinePart}
+use Rattle.replica_sync.proofs.ServedPieceFacts.{kept_plain}
 use Rattle.replica_sync.specs.declared.piece_serving.Serving.{Serving}
 use Rattle.bucket_sums.specs.Lines.{part_count}
 use Rattle.bucket_sums.specs.Questions.{IsPlain, longest_line, sums_answer}
@@ -102,7 +103,8 @@ pub opening_asks : (config : Configuration) (part : LinePart) (question : SumsSe
     → records_answered then ≡ All → IsOpening part haves due came written
     → IsAsking config question then due (came ++ record { bytes = take used piece; held = m } ∷ []) written
 opening_asks config part question haves then due m came piece used written ends takes own sound serves ready idle all h =
-    opens_question config question then due m came (kept_part part) piece used written ends h.bytes h.none h.none_due takes own sound serves ready idle all
+    opens_question config question then due m came (kept_part part) piece used written ends
+    (kept_plain part.has_ended part.line.items part.unbroken) h.bytes h.none h.none_due takes own sound serves ready idle all
 
 -- The first line is another one.
 pub opening_haves : (config : Configuration) (part : LinePart) (haves then : Serving) (due : List ℕ) (m : Meaning) (came : List Came)
