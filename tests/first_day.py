@@ -3,7 +3,8 @@
 
 A machine is a copy of this one, in which all changes are thrown away: an overlay over its root, and a change of root. Both
 have one network, so the second reaches the first over loopback. The foreign domain is a TLS server of tests/fetch.py. The
-commands are those of the page, block by block, and are counted. The first ones make and install the package.
+commands are those of the page, block by block, and are counted. The first ones make and install the package. Then one of
+the machines follows the first block of "With systemd", to which the page leads, but for what starts units: no systemd runs.
 
 It needs root, Linux with overlayfs, Debian 12 with dpkg-deb, apt-get and systemd, python3 and openssl. The program is the
 one in the archive of dist/.
@@ -34,9 +35,9 @@ def fetch_tests():
     return made
 
 
-def blocks():
-    """The commands of each block of the section."""
-    section = PAGE.read_text().split("## The first day\n")[1].split("\n## ")[0]
+def blocks(title):
+    """The commands of each block of a section."""
+    section = PAGE.read_text().split(f"\n{title}\n")[1].split("\n## ")[0].split("\n### ")[0]
     return [block.strip().split("\n") for block in re.findall(r"```sh\n(.*?)```", section, re.S)]
 
 
@@ -59,7 +60,7 @@ def follow(folder):
         # The manual's index would be rebuilt, which takes half a minute.
         (machine.root / "var/lib/man-db/auto-update").unlink(missing_ok=True)
     began = time.monotonic()
-    each, first, second, looks = blocks()
+    each, first, second, looks = blocks("## The first day")
     for machine in (one, two):
         for command in each:
             machine.run(command)
@@ -77,6 +78,13 @@ def follow(folder):
     print(reports[0][0], end="")
     count = 2 * len(each) + len(first) + len(second) + 2 * len(looks)
     print(f"{count} commands in {took:.0f} s: two replicas hold the same, and the bundle that was fetched is current")
+    one.run("mkdir -p /etc/stunnel", quiet=True)
+    for command in blocks("### With systemd")[0]:
+        if not command.startswith("systemctl "):
+            one.run(command)
+    if one.run(looks[0]) != reports[0][0]:
+        sys.exit("after the next section of the page another report")
+    print("the next section goes on from there")
 
 
 def main():

@@ -5,11 +5,14 @@
   archive with a changed byte is refused. Each file of the archive is in one of the packages, with the bytes that it had, or
   those that the head of tools/package.py names.
 - lintian: it finds no error. What it warns of is printed.
+- pages: a package of the texts and scripts that are here has the pages, so that the links of docs/OPERATING.md to others
+  lead somewhere, and the file of options as a conffile.
 - life: in a copy of this machine in which systemd runs, a package of an earlier number is installed, the replica, the
   fetcher and its timer are started, and a bundle is observed. An upgrade starts the replica again with the new program, and
-  it reports the same; of one that is stopped the files stay, byte for byte. After `remove` nothing runs and the state is
-  there; `purge` names what it removes. There was no earlier release: the earlier package has this release's files, and a
-  byte more at the end of its program.
+  it reports the same; of one that is stopped the files stay, byte for byte. Options are changed and a package is rolled back
+  as docs/OPERATING.md says. After `remove` nothing runs and the state is there; `purge` names what it removes. The earlier
+  package has the released files, and a byte more at the end of its program; the later one has the texts, scripts and units
+  that are here, with the released program.
 - library: a program in C is compiled in the copy by what pkg-config says, with the shared and with the static library.
 
 tests/first_day.py installs the package too, and follows the page with it.
@@ -70,8 +73,8 @@ def packages_of(folder, archive=None, words=(), **environment):
 
 # ---- the packages as files
 
-def archive_like(folder, change):
-    """An archive like the released one, after a change of its members, with its sums next to it."""
+def archive_like(folder, change, more=()):
+    """An archive like the released one, after a change of its members and with more of them, with its sums next to it."""
     folder.mkdir(parents=True)
     tool, made = tool_of("package"), io.BytesIO()
     with tarfile.open(tool.ARCHIVE, mode="r:xz") as old, tarfile.open(fileobj=made, mode="w") as new:
@@ -80,10 +83,31 @@ def archive_like(folder, change):
             content = change(entry.name, content)
             entry.size = len(content)
             new.addfile(entry, io.BytesIO(content))
+        for name, content in more:
+            entry = tarfile.TarInfo(name)
+            entry.size, entry.mode = len(content), 0o644
+            new.addfile(entry, io.BytesIO(content))
     path = folder / tool.ARCHIVE.name
-    path.write_bytes(lzma.compress(made.getvalue(), preset=1))
+    path.write_bytes(lzma.compress(made.getvalue(), preset=0))
     (folder / "SHA256SUMS").write_text(f"{hashlib.sha256(path.read_bytes()).hexdigest()}  {path.name}\n")
     return path
+
+
+def texts_here():
+    """What is not compiled, as tools/release.py would put it into an archive of the sources here, by its name there."""
+    pages = [TOP / "README.md", TOP / "bench/RESULTS.md", *(path for path in (TOP / "docs").rglob("*") if path.suffix in (".md", ".png", ".svg"))]
+    found = {f"share/doc/fedbundle/{path.relative_to(TOP)}": path.read_bytes() for path in pages}
+    found["share/doc/fedbundle/fedbundle.default"] = (TOP / "deploy/fedbundle.default").read_bytes()
+    found.update({place: content for place, (content, _) in tool_of("release").plain_files().items()})
+    return {tool_of("package").ROOT + place: content for place, content in found.items()}
+
+
+def archive_here(folder):
+    """An archive with the released programs and libraries, and the texts, scripts and units that are here."""
+    texts = texts_here()
+    with tarfile.open(tool_of("package").ARCHIVE, mode="r:xz") as old:
+        more = sorted(set(texts) - set(old.getnames()))
+    return archive_like(folder, lambda name, content: texts.get(name, content), [(name, texts[name]) for name in more])
 
 
 def files_of(package):
@@ -137,10 +161,24 @@ def made(room):
     check(found == ["include/fedbundle.h"], f"of an archive with another header that is found: {found}")
 
 
+def pages(room):
+    package = packages_of(room / "packages", archive_here(room / "archive"))["fedbundle"]
+    there, folder = files_of(package), "usr/share/doc/fedbundle"
+    check({f"{folder}/docs/OPERATING.md", f"{folder}/docs/page.png", f"{folder}/README.md"} <= set(there), "the package has the pages and a picture of the page of health")
+    check("\n## Runbooks\n" in there.get(f"{folder}/docs/OPERATING.md", (b"", 0))[0].decode(), "and the runbooks")
+    links = re.findall(r"\]\(([^)#:]+\.(?:md|png|svg))[#)]", there[f"{folder}/docs/OPERATING.md"][0].decode())
+    lost = [link for link in links if os.path.normpath(f"{folder}/docs/{link}") not in there]
+    check(links and not lost, f"each of its {len(links)} links to a page or a picture leads to one of the package {lost or ''}")
+    control = subprocess.run(["dpkg-deb", "--info", package, "conffiles"], capture_output=True, text=True).stdout
+    check(control == "/etc/default/fedbundle\n", f"the options are a conffile: {control.strip()}")
+    default = there.get("etc/default/fedbundle", (b"", 0))[0]
+    check(default == (TOP / "deploy/fedbundle.default").read_bytes(), "with the text that is here")
+
+
 def lintian(room):
     if not has("lintian"):
         raise Lacking(why_not("lintian"))
-    packages = packages_of(room / "packages")
+    packages = packages_of(room / "packages", archive_here(room / "archive"))
     ran = subprocess.run(["lintian", "--fail-on", "error", *packages.values()], capture_output=True, text=True)
     print("".join(f"  {line}\n" for line in ran.stdout.splitlines()), end="")
     check(ran.returncode == 0, "lintian finds no error")
@@ -197,7 +235,7 @@ def begin(machine, package):
     check(states == ["inactive"] * 2, "nothing runs after the first installation")
     machine.run(f"install -o fedbundle -g fedbundle -m 640 examples/config.json {STATE}/config.json")
     machine.run(f"{AS_USER} fedbundle new --config {STATE}/config.json --state {STATE}/state")
-    machine.run("systemctl enable --now fedbundle-replica.service fedbundle-fetch.timer")
+    machine.run("systemctl enable --now fedbundle-replica.service fedbundle-fetch.timer fedbundle-watch.timer")
     until(lambda: property_of(machine, "fedbundle-replica.service", "ActiveState") == "active", "the replica's unit is active")
     until(lambda: not machine.attempt(f"{AS_USER} fedbundle status --at /run/fedbundle/socket").stderr, "the replica answers")
     # The endpoints of the examples are not there: that the fetcher says so is all that is wanted.
@@ -228,10 +266,51 @@ def upgrade(machine, package):
     check(property_of(machine, "fedbundle-fetch.timer", "ActiveState") == "active", "the timer is active")
 
 
+def section_blocks(kind, title):
+    """The blocks of this kind below a title of docs/OPERATING.md."""
+    text = (TOP / "docs/OPERATING.md").read_text().split(f"\n{title}\n")[1].split("\n## ")[0].split("\n### ")[0]
+    return re.findall(rf"^```{kind}\n(.*?)^```", text, re.M | re.S)
+
+
+def options(machine, package):
+    """Options are changed as the page of health says, and no upgrade takes the change back."""
+    line = section_blocks("ini", "## Health, metrics and a page")[0]
+    machine.run(f"printf %s {shlex.quote(line)} >/etc/default/fedbundle", quiet=True)
+    before = property_of(machine, "fedbundle-replica.service", "MainPID")
+    ran = machine.attempt("systemctl reload fedbundle-replica.service")
+    check(ran.returncode == 0, f"a reload ends well {ran.stderr.strip()}")
+    pid = property_of(machine, "fedbundle-replica.service", "MainPID")
+    words = machine.attempt(f"tr '\\0' ' ' </proc/{pid}/cmdline").stdout
+    check(pid not in ("0", before) and words.startswith("/usr/bin/fedbundle replica "), f"and a new replica of the package runs: {words[:26]}")
+    told = machine.attempt("curl -sf http://127.0.0.1:9463/live").stdout
+    check(told == "live\n", f"health answers at the address of the page {told.strip()}")
+    install(machine, package)
+    kept = machine.run("cat /etc/default/fedbundle", quiet=True)
+    check(kept == line, "an upgrade leaves the options")
+    wants = machine.attempt("readlink /etc/systemd/system/fedbundle-replica.service.wants/fedbundle-watch.timer").stdout.strip()
+    check(wants.endswith("/fedbundle-watch.timer"), "the watch that was enabled before begins with the replica")
+    until(lambda: not machine.attempt(f"{AS_USER} fedbundle status --at /run/fedbundle/socket").stderr, "the replica answers")
+
+
+def rolled_back(machine, old, new):
+    """The commands of the page for a rollback by package."""
+    before, lines = report(machine), section_blocks("sh", "### Rollback")[0].splitlines()
+    for line in lines:
+        machine.run(f"cd {old.parent} && {line.replace('VERSION', EARLIER)}")
+    version = machine.run("dpkg-query --show --showformat '${Version}' fedbundle", quiet=True)
+    check(version == EARLIER, f"the package is {version} again")
+    pid = property_of(machine, "fedbundle-replica.service", "MainPID")
+    wanted = hashlib.sha256(files_of(old)["usr/bin/fedbundle"][0]).hexdigest()
+    check(program_of(machine, pid) == wanted, "the earlier program runs")
+    until(lambda: not machine.attempt(f"{AS_USER} fedbundle status --at /run/fedbundle/socket").stderr, "it answers")
+    check(report(machine) == before, "it reports what was held before")
+    install(machine, new)
+
+
 def stopped(machine, old, new):
     """An upgrade of a replica that is stopped, with a journal that has a receipt."""
     observe(machine)
-    machine.run("systemctl stop fedbundle-replica.service fedbundle-fetch.timer")
+    machine.run("systemctl stop fedbundle-replica.service fedbundle-fetch.timer fedbundle-watch.timer")
     before = sums(machine)
     for package in (old, new):
         install(machine, package)
@@ -262,7 +341,7 @@ def purge(machine):
 
 
 def life(room):
-    old, new = earlier(room), packages_of(room / "packages")["fedbundle"]
+    old, new = earlier(room), packages_of(room / "packages", archive_here(room / "archive"))["fedbundle"]
     machine = Booted(room / "machine", "one", os.environ.get("FEDBUNDLE_ROOT", "/"))
     try:
         # The manual's index would be rebuilt at each installation, which takes half a minute.
@@ -274,6 +353,8 @@ def life(room):
         print(machine.run("systemctl --version | head -n 1; cat /etc/debian_version", quiet=True).replace("\n", ", Debian ", 1), end="")
         begin(machine, old)
         upgrade(machine, new)
+        options(machine, new)
+        rolled_back(machine, old, new)
         stopped(machine, old, new)
         remove(machine)
         purge(machine)
@@ -304,7 +385,7 @@ def library(room):
         machine.close()
 
 
-PARTS = {"made": made, "lintian": lintian, "life": life, "library": library}
+PARTS = {"made": made, "pages": pages, "lintian": lintian, "life": life, "library": library}
 
 
 def main():

@@ -1,8 +1,10 @@
 #!/usr/bin/env python3
 """Starts the units of deploy/ by a systemd of its own, on a copy of this machine whose changes are thrown away.
 
-It shows that each unit runs in its sandbox, that a replica which was killed or whose disk was full starts again by
-itself, and that one whose state is refused does not. A script stands in for spire-server, and no foreign domain answers.
+It shows that each unit runs in its sandbox; that a replica which was killed, which a signal ended or whose disk was full
+starts again by itself, and that one whose state is refused or that somebody stopped does not; that a reload has new
+options and refuses wrong ones; and that what root wrote does not keep the unit of the fetcher from its work. A script
+stands in for spire-server, and no foreign domain answers.
 
 It needs root with mounts, overlayfs and cgroup2, and systemd with nsenter and unshare.
 The program is the one that $FEDBUNDLE names, or else the one that ./fedbundle runs.

@@ -6,6 +6,7 @@ tools/debian/. The archive is laid out as below /usr/local, and a package as bel
 - units name /usr/bin in the place of /usr/local/bin; the path of spire-server stays
 - scripts begin with #!/usr/bin/python3, the Python that the package depends on
 - the file for pkg-config names /usr and the folder of the machine's libraries
+The units' options, fedbundle.default, become the conffile /etc/default/fedbundle.
 
 Each file has the time of $SOURCE_DATE_EPOCH, or else of the release's day in CHANGELOG.md. Two runs give the same bytes.
 
@@ -43,6 +44,7 @@ PLACES = [
     ("lib/sysusers.d/", PROGRAM, "usr/lib/sysusers.d/"),
     ("lib/tmpfiles.d/", PROGRAM, "usr/lib/tmpfiles.d/"),
     ("share/bash-completion/completions/", PROGRAM, "usr/share/bash-completion/completions/"),
+    ("share/doc/fedbundle/fedbundle.default", PROGRAM, "etc/default/fedbundle"),
     ("share/doc/fedbundle/", PROGRAM, "usr/share/doc/fedbundle/"),
     ("share/man/man1/", PROGRAM, "usr/share/man/man1/"),
     ("share/zsh/site-functions/", PROGRAM, "usr/share/zsh/vendor-completions/"),
@@ -164,8 +166,12 @@ def control_of(name, files, version):
     size = sum(-(-len(content) // 1024) for content, _ in files.values())
     text = (TEXTS / f"{name}.control").read_text()
     text = text.format(version=version, maintainer=MAINTAINER, size=size, libc=libc_of(files))
-    sums = "".join(f"{hashlib.md5(files[place][0]).hexdigest()}  {place}\n" for place in sorted(files))
+    # What somebody may have changed, and no upgrade replaces then.
+    kept = [place for place in sorted(files) if place.startswith("etc/")]
+    sums = "".join(f"{hashlib.md5(files[place][0]).hexdigest()}  {place}\n" for place in sorted(set(files) - set(kept)))
     made = {"control": (text.encode(), 0o644), "md5sums": (sums.encode(), 0o644)}
+    if kept:
+        made["conffiles"] = "".join(f"/{place}\n" for place in kept).encode(), 0o644
     for path in sorted(TEXTS.glob(f"{name}.*")):
         part = path.name.removeprefix(f"{name}.")
         if part in ("postinst", "prerm", "postrm"):
