@@ -2,6 +2,7 @@
 use crate::failure::Failure;
 use crate::masks::{has, size};
 use crate::model::{Held, Sight};
+use crate::phase::Under;
 use crate::universe::Universe;
 use closure_core::Closure;
 use spiffe_name::TrustDomain;
@@ -10,6 +11,7 @@ use spiffe_name::TrustDomain;
 pub(crate) fn compare<C: Closure>(
     universe: &Universe,
     closure: &C,
+    under: Under,
     held: Held,
     sight: Sight,
 ) -> Option<Failure> {
@@ -17,9 +19,9 @@ pub(crate) fn compare<C: Closure>(
         Some(Failure::Receipts)
     } else if !has_records(universe, closure, held.records) {
         Some(Failure::Records)
-    } else if !accepts(universe, closure, held.accepted(universe, sight)) {
+    } else if !accepts(universe, closure, held.accepted(universe, under, sight)) {
         Some(Failure::Accepted)
-    } else if closure.pending_count() != held.pending(universe, sight) {
+    } else if closure.pending_count() != held.pending(universe, under, sight) {
         Some(Failure::Pending)
     } else {
         None

@@ -9,6 +9,10 @@ pub(crate) enum Failure {
     Fault(SyncError),
     /// A receipt or a record was refused.
     Refused,
+    /// One was taken that is not of the configuration.
+    Unfit,
+    /// What is held under another number of configurations.
+    Sides,
     /// Other receipts are held.
     Receipts,
     /// Other records are held.
@@ -34,6 +38,8 @@ impl fmt::Display for Failure {
         match self {
             Failure::Fault(fault) => write!(f, "fault {fault}"),
             Failure::Refused => f.write_str("refused"),
+            Failure::Unfit => f.write_str("taken though it does not fit"),
+            Failure::Sides => f.write_str("other configurations"),
             Failure::Receipts => f.write_str("other receipts"),
             Failure::Records => f.write_str("other records"),
             Failure::Accepted => f.write_str("other documents accepted"),

@@ -1,11 +1,13 @@
 //! Many replicas, second by second.
 use crate::chance::Chance;
 use crate::corpus::Corpus;
-use crate::replica::Replica;
+use crate::replica::{Configs, Replica};
 use crate::session::Session;
 use crate::stop::Stop;
 use crate::topology::Topology;
 use closure_core::Closure;
+use peer_talks::{AskedWay, SessionStart};
+use side_by_side::Side;
 use std::alloc::Global;
 
 /// How many seconds after the beginning of a session the next one begins.
@@ -23,6 +25,8 @@ const WHOLE: usize = 1 << 30;
 /// What a simulation is about.
 #[derive(Clone, Copy, Debug)]
 pub(crate) struct Setting {
+    /// How sessions begin.
+    pub(crate) start: SessionStart,
     pub(crate) topology: Topology,
     pub(crate) replicas: usize,
     /// Whether sessions fail, replicas are killed, and the net splits.
@@ -123,7 +127,7 @@ impl<C: Closure> Fleet<C> {
             let place = self.chance.below(self.setting.replicas);
             let copy = receipt.try_clone(self.alloc)?.keep_id();
             if let Some(replica) = self.replicas.as_mut_slice().get_mut(place)
-                && replica.closure.take(copy).is_err()
+                && replica.held.sides.next.take(copy).is_err()
             {
                 return Err(Stop::Text);
             }
@@ -137,7 +141,9 @@ impl<C: Closure> Fleet<C> {
             let place = self.chance.below(self.setting.replicas);
             if let Some(replica) = self.replicas.as_mut_slice().get_mut(place)
                 && replica
-                    .closure
+                    .held
+                    .sides
+                    .next
                     .distrust(&record.domain, record.key)
                     .is_err()
             {
@@ -157,7 +163,7 @@ impl<C: Closure> Fleet<C> {
     }
 
     /// Lets a second pass.
-    pub(crate) fn pass(&mut self, now: usize) -> Result<(), Stop> {
+    pub(crate) fn pass(&mut self, corpus: &Corpus, now: usize) -> Result<(), Stop> {
         for line in self.lines.as_mut_slice() {
             let mut second = Second {
                 alloc: self.alloc,
@@ -170,20 +176,19 @@ impl<C: Closure> Fleet<C> {
             second.pass(line, self.replicas.as_mut_slice())?;
         }
         if self.setting.is_rough {
-            self.strike(now)?;
+            self.strike(corpus, now)?;
         }
-        self.sync();
-        Ok(())
+        self.sync()
     }
 
     // Kills a replica now and then, and once sets one back.
-    fn strike(&mut self, now: usize) -> Result<(), Stop> {
+    fn strike(&mut self, corpus: &Corpus, now: usize) -> Result<(), Stop> {
         let victim = self.chance.below(self.setting.replicas);
         if now == SET_BACK || self.chance.percent(10) {
             self.lines_end(victim);
             self.counts.kills = self.counts.kills.saturating_add(1);
             if let Some(replica) = self.replicas.as_mut_slice().get_mut(victim) {
-                return restart(self.alloc, replica, now == SET_BACK);
+                return restart(self.alloc, corpus, replica, now == SET_BACK);
             }
         }
         Ok(())
@@ -197,16 +202,17 @@ impl<C: Closure> Fleet<C> {
         }
     }
 
-    fn sync(&mut self) {
+    fn sync(&mut self) -> Result<(), Stop> {
         for replica in self.replicas.as_mut_slice() {
-            replica.sync();
+            replica.sync(self.alloc)?;
         }
+        Ok(())
     }
 
     /// Whether each replica holds this many receipts and records.
     pub(crate) fn all_hold(&self, receipts: usize, records: usize) -> bool {
         for replica in self.replicas.as_slice() {
-            let closure = &replica.closure;
+            let closure = replica.closure();
             if closure.receipt_count() != receipts || closure.distrusts().count() != records {
                 return false;
             }
@@ -217,14 +223,19 @@ impl<C: Closure> Fleet<C> {
 
 fn restart<C: Closure>(
     alloc: Global,
+    corpus: &Corpus,
     replica: &mut Replica<C>,
     is_set_back: bool,
 ) -> Result<(), Stop> {
+    let configs = Configs {
+        first: &corpus.config,
+        second: &corpus.config,
+    };
     if is_set_back {
-        replica.set_back(alloc)
+        replica.set_back(alloc, configs)
     } else {
         let synced = replica.synced();
-        replica.restart(alloc, synced)
+        replica.restart(alloc, configs, synced)
     }
 }
 
@@ -265,7 +276,11 @@ impl Second<'_> {
     }
 
     // Begins a session if one is due.
-    fn begin<C: Closure>(&mut self, line: &mut Line, replicas: &[Replica<C>]) -> Result<(), Stop> {
+    fn begin<C: Closure>(
+        &mut self,
+        line: &mut Line,
+        replicas: &mut [Replica<C>],
+    ) -> Result<(), Stop> {
         if line.session.is_some() || line.due > self.now {
             return Ok(());
         }
@@ -274,8 +289,12 @@ impl Second<'_> {
             self.counts.failed = self.counts.failed.saturating_add(1);
             return Ok(());
         }
-        if let Some(asker) = replicas.get(line.asker) {
-            line.session = Some(Session::open(self.alloc, &asker.closure)?);
+        let way = AskedWay {
+            start: self.setting.start,
+            side: Side::Next,
+        };
+        if let Some(asker) = replicas.get_mut(line.asker) {
+            line.session = Some(Session::open(self.alloc, &mut asker.held, way)?);
         }
         Ok(())
     }
@@ -301,12 +320,11 @@ impl Second<'_> {
             if session.is_over() {
                 return Ok(());
             }
-            if let Some(answerer) = replicas.get(line.answerer) {
-                session.ask(self.alloc, &answerer.closure, WHOLE)?;
+            if let Some(answerer) = replicas.get_mut(line.answerer) {
+                session.ask(self.alloc, &mut answerer.held, WHOLE)?;
             }
             if let Some(asker) = replicas.get_mut(line.asker) {
-                let (closure, journal) = (&mut asker.closure, &mut asker.journal);
-                session.answer(self.alloc, closure, WHOLE, true, journal)?;
+                session.answer(self.alloc, &mut asker.held, WHOLE)?;
             }
         }
         Ok(())

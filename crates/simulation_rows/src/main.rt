@@ -16,6 +16,7 @@ mod fleet;
 mod masks;
 mod member;
 mod model;
+mod phase;
 mod pipe;
 mod play;
 mod replica;

@@ -1,6 +1,7 @@
 //! What a replica holds and accepts, computed by hand over sets of numbers. It shares no code with
 //! what is simulated.
 use crate::masks::{has, only};
+use crate::phase::Under;
 use crate::universe::{Facts, Universe};
 
 /// What a replica holds: the numbers of receipts and of records.
@@ -21,6 +22,10 @@ pub(crate) enum Sight {
     NoLoss,
     /// That an answer has records.
     NoRecords,
+    /// That after sums only the first answer has records, and only if they differ.
+    AllRecords,
+    /// That what comes under one configuration is offered to the other one.
+    OneSide,
 }
 
 impl Held {
@@ -40,10 +45,18 @@ impl Held {
         }
     }
 
-    /// The documents that are accepted: the least set that has the seeds, and the document of each
-    /// held receipt for which a document of the set vouches.
-    pub(crate) fn accepted(self, universe: &Universe, sight: Sight) -> u64 {
-        let mut accepted = universe.seeds;
+    /// What both hold.
+    pub(crate) fn within(self, other: Held) -> Held {
+        Held {
+            receipts: self.receipts & other.receipts,
+            records: self.records & other.records,
+        }
+    }
+
+    /// The documents that are accepted: the least set that has the configuration's seeds, and the
+    /// document of each held receipt for which a document of the set vouches.
+    pub(crate) fn accepted(self, universe: &Universe, under: Under, sight: Sight) -> u64 {
+        let mut accepted = universe.rules(under).seeds;
         for _ in 0..universe.documents.len() {
             accepted = self.round(universe, sight, accepted);
         }
@@ -69,8 +82,8 @@ impl Held {
     }
 
     /// How many held receipts have no accepted voucher.
-    pub(crate) fn pending(self, universe: &Universe, sight: Sight) -> usize {
-        let accepted = self.accepted(universe, sight);
+    pub(crate) fn pending(self, universe: &Universe, under: Under, sight: Sight) -> usize {
+        let accepted = self.accepted(universe, under, sight);
         let mut count: usize = 0;
         for (number, facts) in universe.facts.as_slice().iter().enumerate() {
             if has(self.receipts, number) && !self.vouches(facts, sight, accepted) {

@@ -9,6 +9,7 @@ use crate::stop::Stop;
 use crate::topology::Topology;
 use crate::universe::make_universe;
 use crate::world::Stage;
+use peer_talks::SessionStart;
 use std::alloc::{AllocError, Global};
 use trust_closure::ExchangeClosure;
 
@@ -38,7 +39,7 @@ fn print_search(alloc: Global, words: &str, answer: &mut String) -> Result<(), S
     }
 }
 
-// `scale TOPOLOGY calm SEED REPLICAS DOMAINS LENGTH`, or `rough` in place of `calm`
+// `scale START TOPOLOGY calm SEED REPLICAS DOMAINS LENGTH`, or `rough` in place of `calm`
 fn print_fleet(alloc: Global, words: &str, answer: &mut String) -> Result<(), Stop> {
     let corpus = make_named(alloc, words)?;
     print_scale::<ExchangeClosure>(alloc, read_setting(words, &corpus)?, &corpus, answer)
@@ -51,16 +52,17 @@ fn print_same(alloc: Global, words: &str, answer: &mut String) -> Result<(), Sto
 }
 
 fn make_named(alloc: Global, words: &str) -> Result<Corpus, Stop> {
-    make_corpus(alloc, size(words, 4)?, size(words, 5)?)
+    make_corpus(alloc, size(words, 5)?, size(words, 6)?)
 }
 
 fn read_setting(words: &str, corpus: &Corpus) -> Result<Setting, Stop> {
     let receipts = corpus.receipts.len();
     Ok(Setting {
-        topology: Topology::named(word(words, 0)?)?,
-        is_rough: word(words, 1)? == "rough",
-        seed: number(words, 2)?,
-        replicas: size(words, 3)?,
+        start: start(word(words, 0)?)?,
+        topology: Topology::named(word(words, 1)?)?,
+        is_rough: word(words, 2)? == "rough",
+        seed: number(words, 3)?,
+        replicas: size(words, 4)?,
         room: receipts.saturating_mul(800).saturating_add(65_536),
     })
 }
@@ -98,6 +100,16 @@ fn sight(word: &str) -> Result<Sight, Stop> {
         "no-distrust" => Ok(Sight::NoDistrust),
         "no-loss" => Ok(Sight::NoLoss),
         "no-records" => Ok(Sight::NoRecords),
+        "all-records" => Ok(Sight::AllRecords),
+        "one-side" => Ok(Sight::OneSide),
+        _ => Err(Stop::Word),
+    }
+}
+
+fn start(word: &str) -> Result<SessionStart, Stop> {
+    match word {
+        "sums" => Ok(SessionStart::Sums),
+        "haves" => Ok(SessionStart::Haves),
         _ => Err(Stop::Word),
     }
 }

@@ -61,7 +61,7 @@ fn run<C: Closure>(fleet: &mut Fleet<C>, corpus: &Corpus) -> Result<usize, Stop>
         if fleet.all_hold(receipts, records) {
             return Ok(now);
         }
-        fleet.pass(now)?;
+        fleet.pass(corpus, now)?;
     }
     Ok(MOST_SECONDS)
 }
@@ -117,7 +117,7 @@ fn count_same<C: Closure>(
     let report = report_of(alloc, &plain, room)?;
     let mut same: usize = 0;
     for replica in fleet.replicas.as_slice() {
-        if report_of(alloc, &replica.closure, room)? == report {
+        if report_of(alloc, replica.closure(), room)? == report {
             same = same.saturating_add(1);
         }
     }
@@ -147,7 +147,7 @@ fn distrust_all<C: Closure>(corpus: &Corpus, closure: &mut C) -> Result<(), Stop
 // How many bytes the snapshot of the first replica has.
 fn snapshot_bytes<C: Closure>(alloc: Global, fleet: &Fleet<C>, room: usize) -> Result<usize, Stop> {
     match fleet.replicas.as_slice() {
-        [first, ..] => Ok(snapshot_of(alloc, &first.closure, room)?.len()),
+        [first, ..] => Ok(snapshot_of(alloc, first.closure(), room)?.len()),
         [] => Ok(0),
     }
 }

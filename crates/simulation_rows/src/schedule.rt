@@ -2,10 +2,15 @@
 use crate::chance::Chance;
 use crate::step::Step;
 use crate::universe::Universe;
+use peer_talks::{AskedWay, SessionStart};
+use side_by_side::Side;
 use std::alloc::{AllocError, Global};
 
 /// How many steps a schedule has.
 const STEPS: usize = 24;
+
+/// More bytes than a message of a schedule has.
+pub(crate) const WHOLE: usize = 65_536;
 
 /// A schedule for this many replicas.
 pub(crate) fn schedule(
@@ -24,16 +29,17 @@ pub(crate) fn schedule(
 fn step(chance: &mut Chance, universe: &Universe, replicas: usize) -> Step {
     let replica = chance.below(replicas);
     match chance.below(100) {
-        0..35 => {
+        0..33 => {
             let receipt = chance.below(universe.receipts.len());
             Step::Take { replica, receipt }
         }
-        35..41 => {
+        33..39 => {
             let record = chance.below(universe.records.len());
             Step::Distrust { replica, record }
         }
-        41..75 => between(chance, replica, replicas),
-        75..82 => Step::Sync { replica },
+        39..74 => between(chance, replica, replicas),
+        74..78 => Step::Change { replica },
+        78..82 => Step::Sync { replica },
         82..89 => {
             let torn = if chance.percent(40) {
                 0
@@ -60,7 +66,14 @@ fn step(chance: &mut Chance, universe: &Universe, replicas: usize) -> Step {
 fn between(chance: &mut Chance, asker: usize, replicas: usize) -> Step {
     let answerer = chance.below(replicas);
     match chance.below(10) {
-        0..3 => Step::Open { asker, answerer },
+        0..3 => {
+            let way = way(chance);
+            Step::Open {
+                asker,
+                answerer,
+                way,
+            }
+        }
         3..9 => {
             let (pieces, size) = amount(chance);
             Step::Run {
@@ -74,12 +87,29 @@ fn between(chance: &mut Chance, asker: usize, replicas: usize) -> Step {
     }
 }
 
+// Mostly with sums, as a replica asks, and sometimes with haves, as it asks a peer that does not
+// know sums. If there is no previous configuration, nothing is asked under it.
+fn way(chance: &mut Chance) -> AskedWay {
+    AskedWay {
+        start: if chance.percent(70) {
+            SessionStart::Sums
+        } else {
+            SessionStart::Haves
+        },
+        side: if chance.percent(75) {
+            Side::Next
+        } else {
+            Side::Previous
+        },
+    }
+}
+
 // Mostly whole messages of the first buckets, and sometimes small pieces or all of a session.
 fn amount(chance: &mut Chance) -> (usize, usize) {
-    let whole = if chance.percent(50) { 65_536 } else { 65_535 };
     match chance.below(100) {
-        0..75 => (chance.below(40), whole),
-        75..95 => (chance.below(60), chance.below(500).saturating_add(1)),
-        _ => (400, whole),
+        0..70 => (chance.below(40), WHOLE),
+        70..82 => (chance.below(60), chance.below(500).saturating_add(1)),
+        82..95 => (chance.below(20), chance.below(9_000).saturating_add(1)),
+        _ => (400, WHOLE),
     }
 }

@@ -1,4 +1,6 @@
 //! The steps of a schedule.
+use crate::phase::ShownWay;
+use peer_talks::AskedWay;
 use std::fmt;
 
 /// Something that happens to replicas. A step that cannot happen, such as a session with itself or
@@ -15,10 +17,11 @@ pub(crate) enum Step {
         replica: usize,
         record: usize,
     },
-    /// A replica connects to another one.
+    /// A replica connects to another one, and asks in this way.
     Open {
         asker: usize,
         answerer: usize,
+        way: AskedWay,
     },
     /// Bytes of a session move: this many pieces of at most this size in each direction.
     Run {
@@ -54,6 +57,11 @@ pub(crate) enum Step {
     SetBack {
         replica: usize,
     },
+    /// A replica is stopped, and starts again with both configurations, or after that with only the
+    /// second one.
+    Change {
+        replica: usize,
+    },
     /// Sessions between replicas of the set and others are cut, and none begins. The empty set ends
     /// a split.
     Split {
@@ -66,7 +74,14 @@ impl fmt::Display for Step {
         match self {
             Step::Take { replica, receipt } => write!(f, "take {replica} {receipt}"),
             Step::Distrust { replica, record } => write!(f, "distrust {replica} {record}"),
-            Step::Open { asker, answerer } => write!(f, "open {asker} {answerer}"),
+            Step::Open {
+                asker,
+                answerer,
+                way,
+            } => {
+                let way = ShownWay(*way);
+                write!(f, "open {asker} {answerer} {way}")
+            }
             Step::Run {
                 asker,
                 answerer,
@@ -79,6 +94,7 @@ impl fmt::Display for Step {
             Step::Fold { replica } => write!(f, "fold {replica}"),
             Step::Save { replica } => write!(f, "save {replica}"),
             Step::SetBack { replica } => write!(f, "set back {replica}"),
+            Step::Change { replica } => write!(f, "change {replica}"),
             Step::Split { side } => write!(f, "split {side}"),
         }
     }

@@ -2,6 +2,7 @@
 use bundle_doc::DocError;
 use bundle_view::ReportError;
 use fed_config::ConfigError;
+use peer_talks::Ending;
 use receipt_core::LineError;
 use replica_sync::SyncError;
 use spiffe_name::NameError;
@@ -21,6 +22,8 @@ pub(crate) enum Stop {
     NoMemory,
     /// A call failed that has no reason to.
     Refused(SyncError),
+    /// A session ended in a way that has no reason.
+    Ending,
 }
 
 impl fmt::Display for Stop {
@@ -31,6 +34,7 @@ impl fmt::Display for Stop {
             Stop::Text => f.write_str("a generated text is refused"),
             Stop::NoMemory => f.write_str("out of memory"),
             Stop::Refused(fault) => write!(f, "refused: {fault}"),
+            Stop::Ending => f.write_str("an odd end of a session"),
         }
     }
 }
@@ -80,5 +84,14 @@ impl From<ReportError> for Stop {
 impl From<SyncError> for Stop {
     fn from(fault: SyncError) -> Stop {
         Stop::Refused(fault)
+    }
+}
+
+impl From<Ending> for Stop {
+    fn from(ending: Ending) -> Stop {
+        match ending {
+            Ending::Fault(fault) => Stop::Refused(fault),
+            _ => Stop::Ending,
+        }
     }
 }

@@ -105,6 +105,7 @@ pub(crate) fn record(alloc: Global, line: &str) -> Result<Distrust, Stop> {
 pub(crate) struct ConfigText {
     relationships: String,
     seeds: String,
+    floors: String,
 }
 
 impl ConfigText {
@@ -113,6 +114,7 @@ impl ConfigText {
         ConfigText {
             relationships: String::new(alloc),
             seeds: String::new(alloc),
+            floors: String::new(alloc),
         }
     }
 
@@ -143,9 +145,23 @@ impl ConfigText {
         write!(seeds, "{{\"bundle\":{seed},\"domain\":\"{name}\"}}")
     }
 
+    /// The documents of the domain that count have this sequence number at least. There is one
+    /// such domain at most.
+    pub(crate) fn add_floor(
+        &mut self,
+        alloc: Global,
+        domain: usize,
+        sequence: usize,
+    ) -> Result<(), AllocError> {
+        let name = domain_name(alloc, domain)?;
+        let floors = &mut self.floors;
+        write!(floors, "\"floors\":{{\"{name}\":{sequence}}},")
+    }
+
     /// The text.
     pub(crate) fn text(&self, alloc: Global) -> Result<String, AllocError> {
         let (relationships, seeds) = (self.relationships.as_str(), self.seeds.as_str());
-        format!(in alloc; "{{\"relationships\":[{relationships}],\"seeds\":[{seeds}]}}")
+        let floors = self.floors.as_str();
+        format!(in alloc; "{{{floors}\"relationships\":[{relationships}],\"seeds\":[{seeds}]}}")
     }
 }

@@ -2,6 +2,9 @@
 //! numbers.
 use crate::chance::Chance;
 use crate::masks::only;
+use crate::model::Held;
+use crate::phase::Under;
+use crate::replica::Configs;
 use crate::stop::Stop;
 use crate::texts;
 use crate::texts::{ConfigText, Said};
@@ -12,15 +15,20 @@ use receipt_core::{Distrust, Receipt};
 use spiffe_name::TrustDomain;
 use std::alloc::{AllocError, Global};
 
-/// How many domains there are. The endpoint of the last one is of the first.
+/// How many domains there are. Under the first configuration the endpoint of the last one is of the
+/// first. The second one has only the first two, whose endpoints are of the first.
 const DOMAINS: usize = 3;
+/// The domain that only the first configuration has.
+const RETIRED: usize = DOMAINS - 1;
+/// The domain whose endpoint all have under the second configuration.
+const SECOND_ENDPOINT: usize = 0;
 /// How many documents a domain has. The last one has the sequence number of the one before.
 const DOCUMENTS: usize = 5;
 /// How many keys a domain has. Each document has two that follow each other.
 const KEYS: usize = 6;
 /// How many receipts are drawn in addition to those that a fetcher would make. One in sixteen is
 /// kept.
-const DRAWN: usize = 224;
+const DRAWN: usize = 320;
 /// The most receipts.
 const MOST_RECEIPTS: usize = 40;
 /// All receipts are in the buckets below this one, so a session need not be long to bring some.
@@ -46,6 +54,18 @@ pub(crate) struct Facts {
     pub(crate) voucher: Option<usize>,
     /// The record that distrusts the key in the endpoint's domain.
     pub(crate) record: usize,
+    fits_first: bool,
+    fits_second: bool,
+}
+
+/// What a configuration says.
+#[derive(Drop)]
+pub(crate) struct Rules {
+    pub(crate) config: Config,
+    /// The numbers of the configured documents.
+    pub(crate) seeds: u64,
+    /// What fits it.
+    fitting: Held,
 }
 
 // A receipt's line, and what is known of it, in the order of the lines.
@@ -58,11 +78,10 @@ struct Planned {
 /// All that a schedule can meet. Receipts and records have the numbers of their places.
 #[derive(Drop)]
 pub(crate) struct Universe {
-    pub(crate) config: Config,
+    first: Rules,
+    second: Rules,
     /// The documents of each domain in turn.
     pub(crate) documents: Vec<Shown>,
-    /// The numbers of the configured documents.
-    pub(crate) seeds: u64,
     /// In the order of their lines, each once.
     pub(crate) receipts: Vec<Receipt>,
     pub(crate) facts: Vec<Facts>,
@@ -72,6 +91,25 @@ pub(crate) struct Universe {
 }
 
 impl Universe {
+    pub(crate) fn rules(&self, under: Under) -> &Rules {
+        match under {
+            Under::First => &self.first,
+            Under::Second => &self.second,
+        }
+    }
+
+    /// What of this fits the configuration.
+    pub(crate) fn fitting(&self, under: Under, held: Held) -> Held {
+        held.within(self.rules(under).fitting)
+    }
+
+    pub(crate) fn configs(&self) -> Configs<'_> {
+        Configs {
+            first: &self.first.config,
+            second: &self.second.config,
+        }
+    }
+
     /// The receipts of a bucket.
     pub(crate) fn bucket(&self, bucket: usize) -> u64 {
         let mut set = 0;
@@ -99,13 +137,19 @@ pub(crate) fn make_universe(alloc: Global, seed: u64) -> Result<Universe, Stop> 
     let mut planned = maker.planned(&mut Chance::new(seed))?;
     planned.sort()?;
     let receipts = read_receipts(alloc, planned.as_slice())?;
+    let records = read_records(alloc, records.as_slice())?;
     Ok(Universe {
         buckets: buckets(alloc, receipts.as_slice())?,
-        config: config(alloc, documents.as_slice())?,
-        seeds: seeds(),
+        first: first_rules(alloc, documents.as_slice(), planned.as_slice())?,
+        second: second_rules(
+            alloc,
+            documents.as_slice(),
+            planned.as_slice(),
+            records.as_slice(),
+        )?,
         receipts,
         facts: facts_of(alloc, planned.as_slice())?,
-        records: read_records(alloc, records.as_slice())?,
+        records,
         documents,
     })
 }
@@ -232,21 +276,68 @@ fn endpoint_of(domain: usize) -> usize {
     if domain == DOMAINS - 1 { 0 } else { domain }
 }
 
-fn config(alloc: Global, documents: &[Shown]) -> Result<Config, Stop> {
+fn first_rules(alloc: Global, documents: &[Shown], planned: &[Planned]) -> Result<Rules, Stop> {
     let mut text = ConfigText::new(alloc);
-    for domain in 0..DOMAINS {
-        let seed = documents.get(document_number(domain, 0)).ok_or(Stop::Text)?;
-        text.add(alloc, domain, endpoint_of(domain), seed.text.as_str())?;
-    }
-    Ok(Config::read(alloc, text.text(alloc)?.as_bytes())?)
-}
-
-fn seeds() -> u64 {
     let mut seeds = 0;
     for domain in 0..DOMAINS {
-        seeds |= only(document_number(domain, 0));
+        let seed = document_number(domain, 0);
+        let shown = documents.get(seed).ok_or(Stop::Text)?;
+        text.add(alloc, domain, endpoint_of(domain), shown.text.as_str())?;
+        seeds |= only(seed);
     }
-    seeds
+    let mut receipts = 0;
+    for (number, one) in planned.iter().enumerate() {
+        if one.facts.fits_first {
+            receipts |= only(number);
+        }
+    }
+    Ok(Rules {
+        config: Config::read(alloc, text.text(alloc)?.as_bytes())?,
+        seeds,
+        fitting: Held {
+            receipts,
+            records: u64::MAX,
+        },
+    })
+}
+
+// The seed of the first domain is its second document, whose sequence number is the floor too.
+fn second_rules(
+    alloc: Global,
+    documents: &[Shown],
+    planned: &[Planned],
+    records: &[Distrust],
+) -> Result<Rules, Stop> {
+    let mut text = ConfigText::new(alloc);
+    let mut seeds = 0;
+    for domain in 0..RETIRED {
+        let seed = document_number(domain, if domain == 0 { 1 } else { 0 });
+        let shown = documents.get(seed).ok_or(Stop::Text)?;
+        text.add(alloc, domain, SECOND_ENDPOINT, shown.text.as_str())?;
+        seeds |= only(seed);
+    }
+    text.add_floor(alloc, 0, sequence_of(1))?;
+    Ok(Rules {
+        config: Config::read(alloc, text.text(alloc)?.as_bytes())?,
+        seeds,
+        fitting: second_fitting(alloc, planned, records)?,
+    })
+}
+
+fn second_fitting(alloc: Global, planned: &[Planned], records: &[Distrust]) -> Result<Held, Stop> {
+    let mut fitting = Held::nothing();
+    for (number, one) in planned.iter().enumerate() {
+        if one.facts.fits_second {
+            fitting.receipts |= only(number);
+        }
+    }
+    let retired = texts::trust_domain(alloc, RETIRED)?;
+    for (number, record) in records.iter().enumerate() {
+        if record.domain != retired {
+            fitting.records |= only(number);
+        }
+    }
+    Ok(fitting)
 }
 
 // Each key in each domain.
@@ -327,7 +418,11 @@ impl Maker<'_> {
 
     fn push_usual(&self, document: usize, planned: &mut Vec<Planned>) -> Result<(), Stop> {
         match usual_voucher(document) {
-            Some(voucher) => self.push(document, Some(voucher), usual_key(voucher), planned),
+            Some(voucher) => {
+                let endpoint = endpoint_of(document / DOCUMENTS);
+                let made = (document, endpoint);
+                self.push(made, Some(voucher), usual_key(voucher), planned)
+            }
             None => Ok(()),
         }
     }
@@ -335,40 +430,53 @@ impl Maker<'_> {
     // Any document under any other one, or under one that nobody has, with any key near its own.
     fn push_odd(&self, chance: &mut Chance, planned: &mut Vec<Planned>) -> Result<(), Stop> {
         let document = chance.below(DOMAINS * DOCUMENTS);
+        let endpoint = if chance.percent(50) {
+            endpoint_of(document / DOCUMENTS)
+        } else {
+            SECOND_ENDPOINT
+        };
+        let made = (document, endpoint);
         if chance.percent(15) {
-            return self.push(document, None, chance.below(DOMAINS * KEYS), planned);
+            return self.push(made, None, chance.below(DOMAINS * KEYS), planned);
         }
         let domain = if chance.percent(80) {
-            endpoint_of(document / DOCUMENTS)
+            endpoint
         } else {
             chance.below(DOMAINS)
         };
         let voucher = document_number(domain, chance.below(DOCUMENTS));
         let key = first_key(voucher).saturating_add(chance.below(3));
-        self.push(document, Some(voucher), key, planned)
+        self.push(made, Some(voucher), key, planned)
     }
 
+    // Plans the receipt of a document that the endpoint of a domain served.
     fn push(
         &self,
-        document: usize,
+        made: (usize, usize),
         voucher: Option<usize>,
         key: usize,
         planned: &mut Vec<Planned>,
     ) -> Result<(), Stop> {
         let key = key.min(DOMAINS * KEYS - 1);
-        let line = self.line(document, voucher, key)?;
+        let line = self.line(made, voucher, key)?;
         if planned.len() >= MOST_RECEIPTS || has_line(planned.as_slice(), line.as_str()) {
             return Ok(());
         }
         if !is_near_line(self.alloc, line.as_str())? {
             return Ok(());
         }
-        let facts = self.facts(document, voucher, key)?;
+        let facts = self.facts(made, voucher, key)?;
         planned.push(Planned { line, facts })?;
         Ok(())
     }
 
-    fn line(&self, document: usize, voucher: Option<usize>, key: usize) -> Result<String, Stop> {
+    fn line(
+        &self,
+        made: (usize, usize),
+        voucher: Option<usize>,
+        key: usize,
+    ) -> Result<String, Stop> {
+        let (document, endpoint) = made;
         let domain = document / DOCUMENTS;
         let document = self.documents.get(document).ok_or(Stop::Text)?;
         Ok(texts::receipt_text(
@@ -376,7 +484,7 @@ impl Maker<'_> {
             Said {
                 document: document.text.as_str(),
                 domain,
-                endpoint: endpoint_of(domain),
+                endpoint,
                 key: *self.keys.get(key).ok_or(Stop::Text)?,
                 voucher: self.voucher_id(voucher)?,
             },
@@ -390,12 +498,21 @@ impl Maker<'_> {
         }
     }
 
-    fn facts(&self, document: usize, voucher: Option<usize>, key: usize) -> Result<Facts, Stop> {
-        let endpoint = endpoint_of(document / DOCUMENTS);
+    fn facts(
+        &self,
+        made: (usize, usize),
+        voucher: Option<usize>,
+        key: usize,
+    ) -> Result<Facts, Stop> {
+        let (document, endpoint) = made;
+        let domain = document / DOCUMENTS;
+        let is_below_floor = document == document_number(0, 0);
         Ok(Facts {
             document,
             voucher: able_voucher(voucher, endpoint, key),
             record: self.record(endpoint, key)?,
+            fits_first: endpoint == endpoint_of(domain),
+            fits_second: domain < RETIRED && endpoint == SECOND_ENDPOINT && !is_below_floor,
         })
     }
 

@@ -4,12 +4,14 @@ use crate::failure::Failure;
 use crate::masks::has;
 use crate::member::{Member, Outcome};
 use crate::model::{Held, Sight};
+use crate::phase::Under;
 use crate::session::Session;
 use crate::step::Step;
 use crate::stop::Stop;
 use crate::universe::Universe;
 use closure_core::Closure;
-use std::alloc::Global;
+use peer_talks::AskedWay;
+use std::alloc::{AllocError, Global};
 
 /// What does not change while a schedule is played.
 #[derive(Clone, Copy)]
@@ -24,6 +26,7 @@ pub(crate) struct Stage<'a> {
 struct Link {
     asker: usize,
     answerer: usize,
+    under: Under,
     session: Session,
     exchange: Exchange,
 }
@@ -54,7 +57,11 @@ impl<C: Closure> World<C> {
     /// Lets a step happen.
     pub(crate) fn perform(&mut self, stage: Stage<'_>, step: Step) -> Outcome {
         match step {
-            Step::Open { asker, answerer } => self.open(stage, asker, answerer),
+            Step::Open {
+                asker,
+                answerer,
+                way,
+            } => { self.open(stage, (asker, answerer), way) }
             Step::Run {
                 asker,
                 answerer,
@@ -89,25 +96,28 @@ impl<C: Closure> World<C> {
         }
     }
 
-    fn open(&mut self, stage: Stage<'_>, asker: usize, answerer: usize) -> Outcome {
+    fn open(&mut self, stage: Stage<'_>, ends: (usize, usize), way: AskedWay) -> Outcome {
+        let (asker, answerer) = ends;
         let is_split = has(self.side, asker) != has(self.side, answerer);
         if asker == answerer || is_split || self.place(asker, answerer).is_some() {
             return Ok(None);
         }
-        match self.members.as_slice().get(asker) {
-            Some(member) => {
-                let session = Session::open(stage.alloc, &member.replica.closure)?;
-                let exchange = Exchange::new(member.disk.held);
-                self.links.push(Link {
-                    asker,
-                    answerer,
-                    session,
-                    exchange,
-                })?;
-                Ok(None)
-            }
-            None => Ok(None),
-        }
+        let Some(member) = self.members.as_mut_slice().get_mut(asker) else {
+            return Ok(None);
+        };
+        let Some(under) = member.disk.phase.under(way.side) else {
+            return Ok(None);
+        };
+        let held = member.disk.under(under).unwrap_or(Held::nothing());
+        let session = Session::open(stage.alloc, &mut member.replica.held, way)?;
+        self.links.push(Link {
+            asker,
+            answerer,
+            under,
+            session,
+            exchange: Exchange::new(way.start, held),
+        })?;
+        Ok(None)
     }
 
     fn place(&self, asker: usize, answerer: usize) -> Option<usize> {
@@ -133,18 +143,29 @@ impl<C: Closure> World<C> {
             return Ok(None);
         };
         let outcome = run_link(stage, link, self.members.as_mut_slice(), pieces, size)?;
-        if link.session.is_over() {
+        if link.is_done() {
             self.links
                 .retain(|link| link.asker != ends.0 || link.answerer != ends.1);
         }
         Ok(outcome)
     }
 
-    /// What all replicas together hold, by the model.
-    pub(crate) fn held(&self) -> Held {
+    /// The replicas that have the configuration.
+    pub(crate) fn places(&self, alloc: Global, under: Under) -> Result<Vec<usize>, AllocError> {
+        let mut places = Vec::new(alloc);
+        for (place, member) in self.members.as_slice().iter().enumerate() {
+            if member.disk.under(under).is_some() {
+                places.push(place)?;
+            }
+        }
+        Ok(places)
+    }
+
+    /// What all replicas that have the configuration hold together, by the model.
+    pub(crate) fn held(&self, under: Under) -> Held {
         let mut held = Held::nothing();
         for member in self.members.as_slice() {
-            held = held.with(member.disk.held);
+            held = held.with(member.disk.under(under).unwrap_or(Held::nothing()));
         }
         held
     }
@@ -159,31 +180,33 @@ fn replica_of(step: Step) -> usize {
         | Step::Kill { replica, .. }
         | Step::Fold { replica }
         | Step::Save { replica }
-        | Step::SetBack { replica } => replica,
+        | Step::SetBack { replica }
+        | Step::Change { replica } => replica,
         _ => usize::MAX,
     }
 }
 
 fn ends_process(step: Step) -> bool {
-    matches!(step, Step::Kill { .. } | Step::SetBack { .. })
+    matches!(
+        step,
+        Step::Kill { .. } | Step::SetBack { .. } | Step::Change { .. }
+    )
 }
 
 fn perform_on<C: Closure>(stage: Stage<'_>, member: &mut Member<C>, step: Step) -> Outcome {
     let performed = match step {
-        Step::Take { receipt, .. } => member.take(stage.alloc, stage.universe, receipt),
-        Step::Distrust { record, .. } => member.distrust(stage.alloc, stage.universe, record),
-        Step::Kill { torn, .. } => member.kill(stage.alloc, torn, stage.sight),
-        Step::Fold { .. } => member.fold(stage.alloc),
+        Step::Take { receipt, .. } => member.take(stage, receipt),
+        Step::Distrust { record, .. } => member.distrust(stage, record),
+        Step::Kill { torn, .. } => member.kill(stage, torn),
+        Step::Fold { .. } => member.fold(stage),
         Step::Save { .. } => member.save(stage.alloc),
-        Step::SetBack { .. } => member.set_back(stage.alloc),
-        _ => {
-            member.replica.sync();
-            Ok(None)
-        }
+        Step::SetBack { .. } => member.set_back(stage),
+        Step::Change { .. } => member.change(stage),
+        _ => member.sync(stage),
     };
     match performed? {
         Some(failure) => Ok(Some(failure)),
-        None => Ok(member.compare(stage.universe, stage.sight)),
+        None => Ok(member.compare(stage)),
     }
 }
 
@@ -196,7 +219,7 @@ fn run_link<C: Closure>(
     size: usize,
 ) -> Outcome {
     for _ in 0..pieces {
-        if link.session.is_over() {
+        if link.is_done() {
             break;
         }
         if let Some(failure) = move_piece(stage, link, members, size)? {
@@ -207,7 +230,7 @@ fn run_link<C: Closure>(
         return Ok(Some(Failure::End));
     }
     match members.get(link.asker) {
-        Some(asker) => Ok(asker.compare(stage.universe, stage.sight)),
+        Some(asker) => Ok(asker.compare(stage)),
         None => Ok(None),
     }
 }
@@ -218,40 +241,68 @@ fn move_piece<C: Closure>(
     members: &mut [Member<C>],
     size: usize,
 ) -> Outcome {
-    let Some(answerer) = members.get(link.answerer) else {
-        return Ok(None);
-    };
-    let lines = link
-        .session
-        .ask(stage.alloc, &answerer.replica.closure, size)?;
-    if lines > 1
-        || (lines == 1
-            && !link
-                .exchange
-                .ask(stage.universe, answerer.disk.held, stage.sight))
-    {
-        return Ok(Some(Failure::Line));
+    if let Some(answerer) = members.get_mut(link.answerer) {
+        let held = answerer.disk.under(link.under);
+        let lines = link
+            .session
+            .ask(stage.alloc, &mut answerer.replica.held, size)?;
+        if let Some(failure) = link.take_questions(stage, held, lines) {
+            return Ok(Some(failure));
+        }
     }
-    let Some(asker) = members.get_mut(link.asker) else {
-        return Ok(None);
-    };
-    let lines = asker.answer(stage.alloc, &mut link.session, size)?;
-    take_lines(stage, &mut link.exchange, asker, lines)
+    match members.get_mut(link.asker) {
+        Some(asker) => {
+            let lines = link
+                .session
+                .answer(stage.alloc, &mut asker.replica.held, size)?;
+            link.take_answers(stage, asker, lines)
+        }
+        None => Ok(None),
+    }
 }
 
-// The model takes this many lines.
-fn take_lines<C: Closure>(
-    stage: Stage<'_>,
-    exchange: &mut Exchange,
-    asker: &mut Member<C>,
-    lines: usize,
-) -> Outcome {
-    for _ in 0..lines {
-        let Some(came) = exchange.line() else {
-            return Ok(Some(Failure::Line));
-        };
-        asker.came(stage.alloc, stage.universe, came)?;
-        exchange.next(asker.disk.held);
+impl Link {
+    // Whether no byte moves any more.
+    fn is_done(&self) -> bool {
+        self.session.is_over() || self.session.is_refused()
     }
-    Ok(None)
+
+    // The model takes this many lines of questions, which reached a replica that holds this under
+    // their configuration. One that has another configuration refuses the first line.
+    fn take_questions(
+        &mut self,
+        stage: Stage<'_>,
+        answerer: Option<Held>,
+        lines: usize,
+    ) -> Option<Failure> {
+        let is_refused = answerer.is_none() && lines > 0;
+        if self.session.is_refused() != is_refused {
+            return Some(Failure::End);
+        }
+        let held = answerer?;
+        for _ in 0..lines {
+            if !self.exchange.ask(stage.universe, held, stage.sight) {
+                return Some(Failure::Line);
+            }
+        }
+        None
+    }
+
+    // The model takes this many lines of answers.
+    fn take_answers<C: Closure>(
+        &mut self,
+        stage: Stage<'_>,
+        asker: &mut Member<C>,
+        lines: usize,
+    ) -> Outcome {
+        for _ in 0..lines {
+            let Some(came) = self.exchange.line() else {
+                return Ok(Some(Failure::Line));
+            };
+            asker.came(stage, self.under, came)?;
+            let held = asker.disk.under(self.under);
+            self.exchange.next(held.unwrap_or(Held::nothing()));
+        }
+        Ok(None)
+    }
 }
