@@ -1,5 +1,5 @@
 #!/usr/bin/env python3
-"""Says which functions take longest to prove, and how long each crate takes.
+"""Says which functions take longest to prove, and how long and how much memory each crate takes.
 
 Each crate is proved from nothing by one job, as many side by side as there are processors and memory. The prover names each
 function when it has checked it: the seconds of a processor since the one before are those of the function. So the first
@@ -40,7 +40,7 @@ def seconds_of(process):
 
 
 def time_crate(prover, name):
-    """The seconds of each function of a crate, and of the whole."""
+    """The seconds of each function of a crate; those of the whole, and the most memory that it took, in GB."""
     folder, functions, said, last = prover.crates[name].folder, [], [], 0.0
     ran = subprocess.Popen(
         [*prover.words(name), "--progress"], cwd=folder, stdin=subprocess.DEVNULL, stdout=subprocess.PIPE,
@@ -55,7 +55,7 @@ def time_crate(prover, name):
     _, status, used = os.wait4(ran.pid, 0)
     if status:
         stop(f"{name} is not proved:\n{''.join(said)[-2000:]}")
-    return functions, used.ru_utime + used.ru_stime
+    return functions, used.ru_utime + used.ru_stime, used.ru_maxrss / 1e6
 
 
 def main():
@@ -74,14 +74,14 @@ def main():
     names = sorted(names, key=lambda name: -prover.crates[name].count(rb"\n"))
     with ThreadPoolExecutor(lanes()) as pool:
         times = dict(zip(names, pool.map(lambda name: time_crate(prover, name), names)))
-    functions = sorted(((time, path) for found, _ in times.values() for time, path in found), reverse=True)
+    functions = sorted(((time, path) for found, _, _ in times.values() for time, path in found), reverse=True)
     print("seconds  function")
     for time, path in functions[:most]:
         print(f"{time:7.1f}  {path}")
-    whole = sum(time for _, time in times.values())
-    print(f"\nthese take {sum(time for time, _ in functions[:most]):.0f} s of {whole:.0f} s\n\nseconds  functions  crate")
-    for name, (found, time) in sorted(times.items(), key=lambda item: -item[1][1]):
-        print(f"{time:7.1f}  {len(found):9}  {name}")
+    whole = sum(time for _, time, _ in times.values())
+    print(f"\nthese take {sum(time for time, _ in functions[:most]):.0f} s of {whole:.0f} s\n\nseconds   GB  functions  crate")
+    for name, (found, time, memory) in sorted(times.items(), key=lambda item: -item[1][1]):
+        print(f"{time:7.1f}  {memory:3.1f}  {len(found):9}  {name}")
 
 
 if __name__ == "__main__":

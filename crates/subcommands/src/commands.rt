@@ -14,10 +14,12 @@ mod serve;
 mod state_readers;
 mod state_writers;
 
+use closure_core::Closure;
 use command_exits::Exit;
 use command_line::{Call, CommandName, OptionName, given, is_flag_given};
 use command_streams::options::config_of;
 use fed_config::Config;
+use trust_closure::{ExchangeClosure, IndexedClosure};
 
 /// Carries out the command, which is any but `replica`, with files and streams of this process.
 /// Returns the exit status: 0, or 1 if an input was refused and the rest is done.
@@ -27,24 +29,28 @@ use fed_config::Config;
 pub fn carry_out_here(rt: &HostRuntime, call: &Call<'_>) -> Result<u8, Exit> {
     match call.name {
         CommandName::Canon => canon::run(rt, call),
-        CommandName::Serve => serve::run(rt, call),
-        _ => carry_out_under(rt, &config_of(rt, call)?, call),
+        CommandName::Serve => serve::run::<ExchangeClosure>(rt, call),
+        CommandName::Pull => pull::run::<ExchangeClosure>(rt, &config_of(rt, call)?, call),
+        _ => carry_out_over::<IndexedClosure>(rt, &config_of(rt, call)?, call),
     }
 }
 
-fn carry_out_under(rt: &HostRuntime, config: &Config, call: &Call<'_>) -> Result<u8, Exit> {
+fn carry_out_over<C: Closure>(
+    rt: &HostRuntime,
+    config: &Config,
+    call: &Call<'_>,
+) -> Result<u8, Exit> {
     match call.name {
         CommandName::Config => config::run(rt, config, call),
-        CommandName::New => new::run(rt, config, call),
-        CommandName::Observe => observe::run(rt, config, call),
-        CommandName::Merge => merge::run(rt, config, call),
-        CommandName::Pull => pull::run(rt, config, call),
+        CommandName::New => new::run::<C>(rt, config, call),
+        CommandName::Observe => observe::run::<C>(rt, config, call),
+        CommandName::Merge => merge::run::<C>(rt, config, call),
         CommandName::Report if given(call, OptionName::OptionalState).is_none() => {
-            report::report_lines(rt, config, call)
+            report::report_lines::<C>(rt, config, call)
         }
         CommandName::Distrust if !is_flag_given(given(call, OptionName::DryRun)) => {
-            distrust::run(rt, config, call)
+            distrust::run::<C>(rt, config, call)
         }
-        _ => state_readers::show(rt, config, call),
+        _ => state_readers::show::<C>(rt, config, call),
     }
 }

@@ -1,5 +1,6 @@
 //! The state file as the commands use it: its lock, which is waited for within a limit, what it
 //! holds, and how much may be added to that.
+use closure_core::Closure;
 use command_exits::{CommandError, Exit, Step};
 use command_line::{
     Call, CommandName, Manner, OptionName, given, is_flag_given, manner_of, wanted,
@@ -12,7 +13,6 @@ use state_files::{
 use std::io::Write;
 use std::time::Duration;
 use std::{mem, thread};
-use trust_closure::Closure;
 
 /// How long a command waits before it tries again to take the lock, and how often it does so in a
 /// second.

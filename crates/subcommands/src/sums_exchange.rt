@@ -7,7 +7,6 @@ use replica_core::SyncError;
 use replica_sync::read_first_line;
 use std::alloc::Global;
 use std::io::{Read, Write};
-use trust_closure::ExchangeClosure;
 
 /// The most bytes that the first line of a question may have, without its line feed.
 const LONGEST_FIRST_LINE: usize = 512;
@@ -21,9 +20,9 @@ const LONGEST_FIRST_LINE: usize = 512;
 /// - [`SyncError::Truncated`]: the question ends too early,
 /// - [`SyncError::Io`]: the reader or the writer failed,
 /// - [`SyncError::NoMemory`]: memory ran out.
-pub(crate) fn answer_sums<R: Read, W: Write>(
+pub(crate) fn answer_sums<C: Closure, R: Read, W: Write>(
     alloc: Global,
-    closure: &ExchangeClosure,
+    closure: &C,
     sums: &mut KeptSums,
     reader: &mut PeekedReader<R>,
     writer: &mut W,
@@ -52,9 +51,9 @@ fn first_line_length<R: Read>(reader: &mut PeekedReader<R>) -> Result<usize, Syn
     Ok(0)
 }
 
-fn answer_question<R: Read, W: Write>(
+fn answer_question<C: Closure, R: Read, W: Write>(
     alloc: Global,
-    closure: &ExchangeClosure,
+    closure: &C,
     sums: &mut KeptSums,
     reader: &mut PeekedReader<R>,
     writer: &mut W,

@@ -1,21 +1,21 @@
 //! `diff`: what only one of two state files holds, printed.
 use crate::state_access::{StateAccess, leave, load, state_access_of};
+use closure_core::Closure;
 use command_exits::Exit;
 use command_line::{Call, OptionName, wanted};
 use command_streams::output;
 use fed_config::Config;
 use fedbundle::run_diff;
-use trust_closure::IndexedClosure;
 
 /// Prints what only one of two state files holds. If they hold different things, the exit status is
 /// 1.
-pub(crate) fn run(
+pub(crate) fn run<C: Closure>(
     rt: &HostRuntime,
     config: &Config,
-    closure: &IndexedClosure,
+    closure: &C,
     call: &Call<'_>,
 ) -> Result<u8, Exit> {
-    let other = load(
+    let other: C = load(
         rt,
         config,
         StateAccess {

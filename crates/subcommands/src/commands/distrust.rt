@@ -12,17 +12,20 @@ use key_view::{keys_with, same_keys_text};
 use receipt_core::Distrust;
 use spiffe_name::TrustDomain;
 use std::alloc::{AllocError, Global};
-use trust_closure::IndexedClosure;
 
 /// Takes the records of distrust that the options say.
-pub(crate) fn run(rt: &HostRuntime, config: &Config, call: &Call<'_>) -> Result<u8, Exit> {
-    change(rt, config, call, Coming::Record)
+pub(crate) fn run<C: Closure>(
+    rt: &HostRuntime,
+    config: &Config,
+    call: &Call<'_>,
+) -> Result<u8, Exit> {
+    change::<C>(rt, config, call, &Coming::Record)
 }
 
 /// Makes the records.
-pub(crate) fn make(
+pub(crate) fn make<C: Closure>(
     rt: &HostRuntime,
-    closure: &mut IndexedClosure,
+    closure: &mut C,
     call: &Call<'_>,
 ) -> Result<(), Exit> {
     let records = records_of(rt, closure, call)?;
@@ -41,9 +44,9 @@ pub(crate) fn make(
 }
 
 /// Says which records were made, if the options do not name the key.
-pub(crate) fn print_out(
+pub(crate) fn print_out<C: Closure>(
     rt: &HostRuntime,
-    closure: &IndexedClosure,
+    closure: &C,
     call: &Call<'_>,
 ) -> Result<(), Exit> {
     if given(call, OptionName::PublicKey).is_some() {
@@ -62,12 +65,8 @@ fn print_key(rt: &HostRuntime, key: &KeyId) -> Result<(), Exit> {
 
 /// Prints what each record would change, and then which keys of the domain would have the public
 /// key of a distrusted one.
-pub(crate) fn show(
-    rt: &HostRuntime,
-    closure: &IndexedClosure,
-    call: &Call<'_>,
-) -> Result<u8, Exit> {
-    let mut after = IndexedClosure::new(rt.alloc(), closure.config())?;
+pub(crate) fn show<C: Closure>(rt: &HostRuntime, closure: &C, call: &Call<'_>) -> Result<u8, Exit> {
+    let mut after = C::new(rt.alloc(), closure.config())?;
     after.merge(closure).map_err(CommandError::from)?;
     for record in records_of(rt, closure, call)? {
         show_distrust(rt.alloc(), closure, &record, &mut output(rt))?;
@@ -78,9 +77,9 @@ pub(crate) fn show(
 }
 
 // The records that the options say: by a key, or by the public key of known ones.
-fn records_of(
+fn records_of<C: Closure>(
     rt: &HostRuntime,
-    closure: &IndexedClosure,
+    closure: &C,
     call: &Call<'_>,
 ) -> Result<Vec<Distrust>, Exit> {
     match given(call, OptionName::PublicKey) {
@@ -112,9 +111,9 @@ fn records_for(
     Ok(records)
 }
 
-fn print_same_keys<W: Sink>(
+fn print_same_keys<C: Closure, W: Sink>(
     rt: &HostRuntime,
-    closure: &IndexedClosure,
+    closure: &C,
     call: &Call<'_>,
     sink: &mut W,
 ) -> Result<(), Exit> {

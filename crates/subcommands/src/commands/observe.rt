@@ -2,18 +2,22 @@
 use crate::commands::state_writers::{Coming, change};
 use bundle_doc::MAX_DOCUMENT_BYTES;
 use byte_lines::{FromRead, read_up_to};
+use closure_core::Closure;
 use command_exits::{CommandError, Exit};
 use command_faults::status_of_bundle;
 use command_line::{Call, OptionName, wanted};
 use command_streams::{input, output};
 use fed_config::Config;
 use fedbundle::{read_domain, read_verdict, run_observe};
-use trust_closure::IndexedClosure;
 
 /// Takes the bundle that standard input has.
-pub(crate) fn run(rt: &HostRuntime, config: &Config, call: &Call<'_>) -> Result<u8, Exit> {
+pub(crate) fn run<C: Closure>(
+    rt: &HostRuntime,
+    config: &Config,
+    call: &Call<'_>,
+) -> Result<u8, Exit> {
     let bytes = read_bundle(rt);
-    let done = change(rt, config, call, Coming::Bundle(&bytes));
+    let done = change::<C>(rt, config, call, &Coming::Bundle(&bytes));
     match &bytes {
         Ok(bytes) => Ok(status_of_bundle(rt, call, done, bytes.as_slice())),
         Err(_) => done,
@@ -26,9 +30,9 @@ pub(crate) fn read_bundle(rt: &HostRuntime) -> Result<Vec<u8>, CommandError> {
 }
 
 /// Takes the bundle of these bytes, or reports why they were not read.
-pub(crate) fn take_bundle(
+pub(crate) fn take_bundle<C: Closure>(
     rt: &HostRuntime,
-    closure: &mut IndexedClosure,
+    closure: &mut C,
     call: &Call<'_>,
     bytes: &Result<Vec<u8>, CommandError>,
 ) -> Result<(), Exit> {

@@ -7,6 +7,7 @@ use crate::limited_reader::LimitedReader;
 use crate::state_access::{StateAccess, leave, load, lock, room_left, save, state_access_of};
 use bucket_sums::{KeptSums, QuietPulling, pull_quietly};
 use byte_lines::{FromRead, FromWrite};
+use closure_core::Closure;
 use command_exits::{CommandError, Exit, Step};
 use command_faults::status_of;
 use command_line::{Call, OptionName, given, is_flag_given, wanted};
@@ -18,12 +19,11 @@ use replica_core::SyncError;
 use replica_sync::PullFault;
 use state_files::{SeenState, has_journal, see_state};
 use std::io::Read;
-use trust_closure::{Closure, ExchangeClosure};
 
 /// What is held when a session begins, and the file that it is of.
 #[derive(Drop)]
-struct Begun {
-    closure: ExchangeClosure,
+struct Begun<C> {
+    closure: C,
     file: SeenState,
 }
 
@@ -39,9 +39,13 @@ enum SumsSession {
 /// Takes what the replica at the address has, and writes the state, also if the session ends with
 /// an error. Without a connection the state file is unchanged. The state is locked while it is
 /// loaded and while it is written, and not while the other replica answers.
-pub(crate) fn run(rt: &HostRuntime, config: &Config, call: &Call<'_>) -> Result<u8, Exit> {
+pub(crate) fn run<C: Closure>(
+    rt: &HostRuntime,
+    config: &Config,
+    call: &Call<'_>,
+) -> Result<u8, Exit> {
     let state = state_access_of(call)?;
-    let mut begun = begin(rt, config, state)?;
+    let mut begun: Begun<C> = begin(rt, config, state)?;
     let pulled = pull_from(rt, call, &mut begun.closure, room_left(rt, state))?;
     let saved = end_saving(rt, config, state, &begun);
     leave(begun);
@@ -50,10 +54,10 @@ pub(crate) fn run(rt: &HostRuntime, config: &Config, call: &Call<'_>) -> Result<
 
 // How the session ended, or why there was no connection. A peer that was asked for sums, and may
 // not know them, is asked without them, on another connection.
-fn pull_from(
+fn pull_from<C: Closure>(
     rt: &HostRuntime,
     call: &Call<'_>,
-    closure: &mut ExchangeClosure,
+    closure: &mut C,
     most_bytes: u64,
 ) -> Result<Result<(), Exit>, Exit> {
     let address = options::known_address(wanted(call, OptionName::Peer)?)?;
@@ -70,7 +74,11 @@ fn pull_from(
     }
 }
 
-fn begin(rt: &HostRuntime, config: &Config, state: StateAccess<'_>) -> Result<Begun, Exit> {
+fn begin<C: Closure>(
+    rt: &HostRuntime,
+    config: &Config,
+    state: StateAccess<'_>,
+) -> Result<Begun<C>, Exit> {
     let _lock = lock(rt, state)?;
     let closure = load(rt, config, state)?;
     match see_state(rt, state.path) {
@@ -81,9 +89,9 @@ fn begin(rt: &HostRuntime, config: &Config, state: StateAccess<'_>) -> Result<Be
 
 // The connection is closed at the end. A peer that answers one connection after another then
 // takes the next one.
-fn pull_with_sums(
+fn pull_with_sums<C: Closure>(
     rt: &HostRuntime,
-    closure: &mut ExchangeClosure,
+    closure: &mut C,
     connection: Connection,
     most_bytes: u64,
 ) -> SumsSession {
@@ -107,9 +115,9 @@ fn pull_with_sums(
     }
 }
 
-fn pull_quietly_on<R: Read>(
+fn pull_quietly_on<C: Closure, R: Read>(
     rt: &HostRuntime,
-    closure: &mut ExchangeClosure,
+    closure: &mut C,
     session: &mut QuietPulling,
     answers: &mut R,
     connection: &Connection,
@@ -130,9 +138,9 @@ fn pull_error(why: SyncError, taken: u64) -> CommandError {
     CommandError::Pull(PullFault { why, taken })
 }
 
-fn pull_with_haves(
+fn pull_with_haves<C: Closure>(
     rt: &HostRuntime,
-    closure: &mut ExchangeClosure,
+    closure: &mut C,
     connection: &Connection,
     most_bytes: u64,
 ) -> Result<(), Exit> {
@@ -141,9 +149,9 @@ fn pull_with_haves(
     end_session(pulled, answers.has_passed())
 }
 
-fn pull_haves_on<R: Read>(
+fn pull_haves_on<C: Closure, R: Read>(
     rt: &HostRuntime,
-    closure: &mut ExchangeClosure,
+    closure: &mut C,
     answers: &mut R,
     connection: &Connection,
 ) -> Result<(), CommandError> {
@@ -188,11 +196,11 @@ fn end_pull(
 
 // If another command has written the state meanwhile, or there is a journal, what was pulled is
 // joined to that.
-fn end_saving(
+fn end_saving<C: Closure>(
     rt: &HostRuntime,
     config: &Config,
     state: StateAccess<'_>,
-    begun: &Begun,
+    begun: &Begun<C>,
 ) -> Result<(), Exit> {
     let _lock = lock(rt, state)?;
     if is_as_begun(rt, &begun.file, state.path)? {
@@ -212,13 +220,13 @@ fn is_as_begun(rt: &HostRuntime, file: &SeenState, path: &str) -> Result<bool, E
     }
 }
 
-fn join(
+fn join<C: Closure>(
     rt: &HostRuntime,
     config: &Config,
     state: StateAccess<'_>,
-    pulled: &ExchangeClosure,
+    pulled: &C,
 ) -> Result<(), Exit> {
-    let mut held: ExchangeClosure = load(rt, config, state)?;
+    let mut held: C = load(rt, config, state)?;
     match held.merge(pulled) {
         Ok(_) => save(rt, &held, state.path),
         Err(why) => Err(Exit::Refused(CommandError::Take(why))),

@@ -6,6 +6,7 @@ use crate::state_access::{load, state_access_of};
 use crate::sums_exchange::answer_sums;
 use bucket_sums::KeptSums;
 use byte_lines::{FromRead, FromWrite};
+use closure_core::Closure;
 use command_exits::{CommandError, Exit};
 use command_line::{Call, OptionName, wanted};
 use command_streams::options::config_of;
@@ -17,7 +18,6 @@ use fedbundle::{run_serve, write_served};
 use progress_line::{LongWork, WatchedWriter, WorkProgress};
 use std::io::Write;
 use std::net::{SocketAddr, TcpListener};
-use trust_closure::ExchangeClosure;
 
 /// How many sessions are served, and whether each is spoken of.
 #[derive(Clone, Copy)]
@@ -28,16 +28,21 @@ struct Service {
 
 /// Serves the number of sessions that the arguments say. The error of a session is reported at its
 /// end, and the greatest exit status of all is returned.
-pub(crate) fn run(rt: &HostRuntime, call: &Call<'_>) -> Result<u8, Exit> {
+pub(crate) fn run<C: Closure>(rt: &HostRuntime, call: &Call<'_>) -> Result<u8, Exit> {
     let sessions = options::session_count(wanted(call, OptionName::Sessions)?)?;
     let config = config_of(rt, call)?;
-    serve(rt, &config, call, sessions)
+    serve::<C>(rt, &config, call, sessions)
 }
 
 // Serves this many sessions, one after another, with what the state file holds at the start.
-fn serve(rt: &HostRuntime, config: &Config, call: &Call<'_>, sessions: u32) -> Result<u8, Exit> {
+fn serve<C: Closure>(
+    rt: &HostRuntime,
+    config: &Config,
+    call: &Call<'_>,
+    sessions: u32,
+) -> Result<u8, Exit> {
     let state = state_access_of(call)?;
-    let closure = load(rt, config, state)?;
+    let closure: C = load(rt, config, state)?;
     let service = Service {
         sessions,
         is_verbose: state.manner.is_verbose,
@@ -45,9 +50,9 @@ fn serve(rt: &HostRuntime, config: &Config, call: &Call<'_>, sessions: u32) -> R
     serve_at(rt, &closure, wanted(call, OptionName::Listen)?, service)
 }
 
-fn serve_at(
+fn serve_at<C: Closure>(
     rt: &HostRuntime,
-    closure: &ExchangeClosure,
+    closure: &C,
     address: &str,
     service: Service,
 ) -> Result<u8, Exit> {
@@ -60,9 +65,9 @@ fn serve_at(
     Ok(serve_all(rt, closure, &listener, service))
 }
 
-fn serve_all(
+fn serve_all<C: Closure>(
     rt: &HostRuntime,
-    closure: &ExchangeClosure,
+    closure: &C,
     listener: &TcpListener,
     service: Service,
 ) -> u8 {
@@ -76,9 +81,9 @@ fn serve_all(
     status_of(rt, written.map_err(Exit::Refused)).max(worst)
 }
 
-fn serve_next(
+fn serve_next<C: Closure>(
     rt: &HostRuntime,
-    closure: &ExchangeClosure,
+    closure: &C,
     sums: &mut KeptSums,
     listener: &TcpListener,
     is_verbose: bool,
@@ -94,9 +99,9 @@ fn serve_next(
     Ok(())
 }
 
-fn serve_on(
+fn serve_on<C: Closure>(
     rt: &HostRuntime,
-    closure: &ExchangeClosure,
+    closure: &C,
     sums: &mut KeptSums,
     connection: &Connection,
 ) -> Result<u64, CommandError> {

@@ -3,6 +3,7 @@
 use crate::commands::{diff, distrust};
 use crate::state_access::{leave, load, state_access_of};
 use byte_lines::{FromWrite, Source};
+use closure_core::Closure;
 use command_exits::Exit;
 use command_line::{Call, CommandName, OptionName, given};
 use command_streams::{input, line_errors, options, output_progress_mode};
@@ -10,20 +11,23 @@ use fed_config::Config;
 use fedbundle::{Shown, run_shown};
 use progress_line::{LongWork, ProgressMode, WatchedWriter, WorkProgress};
 use std::rt::Clock;
-use trust_closure::IndexedClosure;
 
 /// Shows what the command asks for, of what the state file holds.
-pub(crate) fn show(rt: &HostRuntime, config: &Config, call: &Call<'_>) -> Result<u8, Exit> {
-    let closure = load(rt, config, state_access_of(call)?)?;
+pub(crate) fn show<C: Closure>(
+    rt: &HostRuntime,
+    config: &Config,
+    call: &Call<'_>,
+) -> Result<u8, Exit> {
+    let closure: C = load(rt, config, state_access_of(call)?)?;
     let shown = show_of(rt, config, &closure, call);
     leave(closure);
     shown
 }
 
-fn show_of(
+fn show_of<C: Closure>(
     rt: &HostRuntime,
     config: &Config,
-    closure: &IndexedClosure,
+    closure: &C,
     call: &Call<'_>,
 ) -> Result<u8, Exit> {
     match call.name {
@@ -35,20 +39,16 @@ fn show_of(
 
 // The commands that a running replica has, too. A file that the arguments name is read in place of
 // standard input.
-fn show_as_replica(
-    rt: &HostRuntime,
-    closure: &IndexedClosure,
-    call: &Call<'_>,
-) -> Result<u8, Exit> {
+fn show_as_replica<C: Closure>(rt: &HostRuntime, closure: &C, call: &Call<'_>) -> Result<u8, Exit> {
     match given(call, OptionName::Polls).or(given(call, OptionName::To)) {
         Some(path) => show_from(rt, closure, call, &mut options::file(rt, path)?),
         None => show_from(rt, closure, call, &mut input(rt)),
     }
 }
 
-fn show_from<R: Source>(
+fn show_from<C: Closure, R: Source>(
     rt: &HostRuntime,
-    closure: &IndexedClosure,
+    closure: &C,
     call: &Call<'_>,
     source: &mut R,
 ) -> Result<u8, Exit> {

@@ -3,45 +3,45 @@
 //! options. The replica is made and given back in one place, and each command only borrows it.
 use crate::commands::{distrust, observe};
 use crate::state_access::{leave, load, lock, save, state_access_of};
+use closure_core::Closure;
 use command_exits::{CommandError, Exit};
 use command_line::Call;
 use command_streams::output_line;
 use fed_config::Config;
 use fedbundle::take_other;
-use trust_closure::IndexedClosure;
 
 /// What is added to what is held.
-#[derive(Clone, Copy)]
-pub(crate) enum Coming<'a> {
+#[derive(Drop)]
+pub(crate) enum Coming<'a, C> {
     /// The bytes of a bundle, or why there are no bytes.
     Bundle(&'a Result<Vec<u8>, CommandError>),
     /// What another replica holds, or why that is not known.
-    Replica(&'a Result<IndexedClosure, Exit>),
+    Replica(&'a Result<C, Exit>),
     /// Records of distrust, which the options say.
     Record,
 }
 
 /// Takes what comes, with the lock of the state, and writes the state.
-pub(crate) fn change(
+pub(crate) fn change<C: Closure>(
     rt: &HostRuntime,
     config: &Config,
     call: &Call<'_>,
-    coming: Coming<'_>,
+    coming: &Coming<'_, C>,
 ) -> Result<u8, Exit> {
     let state = state_access_of(call)?;
     let _lock = lock(rt, state)?;
-    let mut closure = load(rt, config, state)?;
+    let mut closure: C = load(rt, config, state)?;
     let changed = take_and_save(rt, &mut closure, state.path, call, coming);
     leave(closure);
     changed
 }
 
-fn take_and_save(
+fn take_and_save<C: Closure>(
     rt: &HostRuntime,
-    closure: &mut IndexedClosure,
+    closure: &mut C,
     path: &str,
     call: &Call<'_>,
-    coming: Coming<'_>,
+    coming: &Coming<'_, C>,
 ) -> Result<u8, Exit> {
     take(rt, closure, call, coming)?;
     save(rt, closure, path)?;
@@ -51,11 +51,11 @@ fn take_and_save(
     Ok(0)
 }
 
-fn take(
+fn take<C: Closure>(
     rt: &HostRuntime,
-    closure: &mut IndexedClosure,
+    closure: &mut C,
     call: &Call<'_>,
-    coming: Coming<'_>,
+    coming: &Coming<'_, C>,
 ) -> Result<(), Exit> {
     match coming {
         Coming::Bundle(bytes) => observe::take_bundle(rt, closure, call, bytes),
