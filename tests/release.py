@@ -381,7 +381,7 @@ def check_lacking(clone, room, version):
     shutil.rmtree(clone.out)
     clone.out.parent.chmod(0o555)
     user = [] if os.geteuid() else ["setpriv", "--reuid=65534", "--regid=65534", "--clear-groups"]
-    clone.check("cannot write anywhere", clone.run("-V", user=user), said="set XDG_CACHE_HOME")
+    clone.check("cannot write anywhere", clone.run("-V", user=user, HOME="/dev/null"), said="set XDG_CACHE_HOME")
     cache = room / "home/.cache"
     cache.mkdir(parents=True)
     cache.chmod(0o777)
