@@ -381,11 +381,9 @@ def check_lacking(clone, room, version):
     shutil.rmtree(clone.out)
     clone.out.parent.chmod(0o555)
     user = [] if os.geteuid() else ["setpriv", "--reuid=65534", "--regid=65534", "--clear-groups"]
-    home, cache = room / "home", room / "home/.cache"
-    home.mkdir(0o555)
-    clone.check("cannot write anywhere", clone.run("-V", user=user), said="set XDG_CACHE_HOME")
-    home.chmod(0o755)
-    cache.mkdir()
+    clone.check("cannot write anywhere", clone.run("-V", user=user, HOME="/dev/null"), said="set XDG_CACHE_HOME")
+    cache = room / "home/.cache"
+    cache.mkdir(parents=True)
     cache.chmod(0o777)
     ran = clone.run("-V", user=user)
     clone.check("unpacks below the user's cache", ran, version, "the sources have changed")
