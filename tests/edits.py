@@ -271,11 +271,13 @@ def gate():
     first = due[:MOST_DUE]
     faults = [f"{crate}/{edit.stem}: {why}" for crate, edit in kept if (why := stale(edit))]
     trial.run([*first, *(it for it in sample if it not in first)])
-    print(*(f"due: {crate}/{edit.stem}" for crate, edit in [*trial.due.changed, *trial.due.other]), *faults, sep="\n")
     untried = [f"{crate}/{edit.stem}" for crate, edit in trial.due.none if not trial.said.get((crate, edit.stem)) and edit.parent.name == "edits"]
-    print(*(f"{name}: it has no line, and was not tried" for name in untried), sep="\n")
-    print(f"{trial.summary()}: {len(first)} of {len(due)} that are due or have no line, and {part}; "
-          f"{len(trial.left_out)} left out, {len(trial.bad) + len(faults) + len(untried)} faults")
+    print("\n".join([
+        *(f"due: {crate}/{edit.stem}" for crate, edit in [*trial.due.changed, *trial.due.other]),
+        *faults, *(f"{name}: it has no line, and was not tried" for name in untried),
+        f"{trial.summary()}: {len(first)} of {len(due)} that are due or have no line, and {part}; "
+        f"{len(trial.left_out)} left out, {len(trial.bad) + len(faults) + len(untried)} faults",
+    ]))
     sys.exit(1 if trial.bad or faults or untried else 0)
 
 

@@ -33,7 +33,8 @@ COMMENTS = {
     ".rt": re.compile(rf"(?P<kept>{STRING})|//[^\n]*|/\*.*?\*/", re.S),
     ".antt": re.compile(rf"(?P<kept>{ANTT_STRING})|(?<!\S)--[^\n]*"),
 }
-WORD = re.compile(r"[^\W\d][\w'-]*")
+# A word that can be a bound name: `_` is none, and stands for what is inferred where nothing binds it.
+WORD = re.compile(r"(?!_\b)[^\W\d][\w'-]*")
 # The words of a Rust text, each with what stands before it.
 NAMED = re.compile(r"(::\s*|\.\s*)?\b([A-Za-z_]\w*)(?=(\s*(?:\(|::))?)")
 VISIBLE = r"(?:pub(?:\([^)]*\))? )?"
@@ -164,7 +165,7 @@ class Bound:
     def words(self, text):
         """The tokens of an equation, a type or a clause, with numbers for bound names."""
         tokens, made, at = re.findall(r'"(?:[^"\\]|\\.)*"|[(){}\[\];,]|[^\s(){}\[\];,"]+', text), [], 0
-        pending, is_in_lambda = [], False
+        is_in_lambda = False
         while at < len(tokens):
             token = tokens[at]
             head, dot, rest = token.partition(".")
