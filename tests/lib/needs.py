@@ -79,6 +79,11 @@ class Script:
         return f"{self.file} {self.words}".strip()
 
     @property
+    def has_program(self):
+        """Whether it runs the program."""
+        return self.when in (USUAL, BY_HAND) or "$FEDBUNDLE" in self.words
+
+    @property
     def key(self):
         """The name of its file in tests/passed/."""
         return f"{self.name.replace('/', '-').replace('.py', '').replace(' ', '_')}.txt"
