@@ -52,7 +52,7 @@ def build_ours(name, *crates, words=(), text=b"", top=TOP):
 def build_simulation():
     """Builds the program tests/rows/programs/simulation, and returns where it is."""
     programs = TOP / "tests/rows/programs"
-    used = libraries(crate_lines(programs / "crates.txt")["simulation"])
+    used = libraries(crate_lines(programs / "uses.txt")["simulation"])
     return build_over(used, "simulation", files_of(programs / "simulation"))
 
 

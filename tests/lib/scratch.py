@@ -8,7 +8,7 @@ ENDING = ".txt"
 
 
 def crate_lines(file):
-    """The lines of a crates.txt, by their crates' names."""
+    """The lines of a file like crates.txt, by their crates' names."""
     lines = [line for line in file.read_text().splitlines() if ":" in line and not line.startswith("#")]
     return {line.split(":")[0].split()[0]: line for line in lines}
 

@@ -110,7 +110,7 @@ def wanted_cases(program, is_all, names):
 
 def play(program, cases, room):
     """What the program printed of each case, by the case's name, and what `rt try` says of it."""
-    used = libraries(crate_lines(PROGRAMS / "crates.txt")[program])
+    used = libraries(crate_lines(PROGRAMS / "uses.txt")[program])
     folder = lay_out(room / program, program, used, files_of(PROGRAMS / program), with_built=False)
     given = room / f"{program}.cases"
     given.mkdir()

@@ -69,7 +69,7 @@ def find_program():
     if named:
         return str(Path(named).resolve())
     programs = ROWS / "programs"
-    used = libraries(crate_lines(programs / "crates.txt")["calls"])
+    used = libraries(crate_lines(programs / "uses.txt")["calls"])
     own = {name: path for name, path in files_of(programs / "rows").items() if name.startswith("calls")}
     folder = lay_out(ROWS / "out", "calls", used, {**files_of(programs / "calls"), **own})
     print("proving and building the program of calls", file=sys.stderr)

@@ -10,10 +10,17 @@ use Rattle.replica_texts.specs.SoleLines.{written_header}
 use Rattle.replica_sync.specs.Pieces.{EndsLine, kept_part, piece_run}
 use Rattle.bucket_sums.specs.Questions.{StopsAtLine, headed, longest_line}
 use Rattle.bucket_sums.specs.Asking.{HasAnswerLines, IsLineOfMarks}
+use Rattle.bucket_sums.specs.Serving.{TakesToLine}
 use Rattle.bucket_sums.specs.Inside.AnswerSteps.{FailsAnswer, RefusesLineOfAnswer, StepsAnswer, TakesAnswerWhere}
 use Rattle.bucket_sums.specs.declared.answer_part.AnswerPart.{AnswerPart}
 use Rattle.bucket_sums.specs.declared.sums_asking.SumsAsking.{SumsAsking}
-use Rattle.bucket_sums.proofs.QuestionFacts.{came_more, ended_text}
+use Rattle.bucket_sums.proofs.QuestionFacts.{came_more, ended_text, line_feed}
+
+-- A call takes all of its piece, or the bytes up to the end of a line.
+pub answer_taken : (config : Configuration) (old new : SumsAsking) (piece : List ℕ) (used : ℕ) (Ended : Type 0)
+    → StepsAnswer config old piece used new → TakesToLine Ended piece used
+answer_taken config old new piece used Ended (inl on) less = absurd (let all = on.all in omega (arith, all, less))
+answer_taken config old new piece used Ended (inr ended) less = inl (line_feed (kept_part old.part) piece ended.text used ended.ends)
 
 -- A line that ended and is refused is an error of the answer.
 pub answer_fails : (config : Configuration) (asking : SumsAsking) (piece : List ℕ) (used : ℕ) (text : List ℕ) (e : SyncError)

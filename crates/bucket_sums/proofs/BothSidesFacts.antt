@@ -32,7 +32,9 @@ use Rattle.bucket_sums.specs.RecordsOnce.{shown_once}
 use Rattle.bucket_sums.specs.Sessions.{buckets_asked}
 use Rattle.bucket_sums.specs.Sums.{HasDistinctSums, bucket_sums_from, marks_between, sums_of}
 use Rattle.bucket_sums.proofs.LawFacts.{is_digest, length-marks, length-sums, same_records}
+use Rattle.bucket_sums.proofs.QuietFacts.{ended_still}
 use Rattle.bucket_sums.proofs.QuietLawFacts.{asked_below, came_all, item_has}
+use Rattle.bucket_sums.proofs.QuietPullFacts.{ends_alone}
 use Rattle.bucket_sums.proofs.SessionFacts.{both-held, formed}
 use Rattle.bucket_sums.proofs.ShownFacts.{HasRecords, IsFirst, after_shown, own_haves, shown_bytes, shown_forms, shows_once}
 
@@ -138,20 +140,19 @@ answer_marks c config marks own left more same many e =
     ∙ append_assoc (ended (written_header config)) (ended (marks_line own)) more)) in
     (marks_back marks own (append_cancel_right (marks_line marks) (marks_line own) (10 ∷ []) cut.0), cut.1)
 
-pub answered_marks : (pulling : Pulling) (m k : Meaning) (config : Configuration) (came : List PulledPiece) (asked : List Came)
+pub compared_marks : (pulling : Pulling) (m : Meaning) (config : Configuration) (came : List PulledPiece) (asked : List Came)
     (written said rest left more : List ℕ) (differ : Bool) → config_id_of m.config ≡ config_id_of config → (marked : AsksMarked pulling m came written)
-    → AnswersQuestion config asked said differ → IsStill k asked → bytes_came asked ++ rest ≡ written
+    → (question : AnswersQuestion config asked said differ) → bytes_came asked ++ rest ≡ written
     → bytes_pulled marked.asked ++ left ≡ said ++ more
-    → AreMarksOfBoth marked.marks differ m k rest marked.after left more
-answered_marks pulling m k config came asked written said rest left more differ same marked question still is said_is =
-    let own = marks_between (state_of m) (state_of k) in
+    → AreMarksOfBoth marked.marks differ m question.held rest marked.after left more
+compared_marks pulling m config came asked written said rest left more differ same marked question is said_is =
+    let own = marks_between (state_of m) (state_of question.held) in
     let lines = question_lines m config question.lines rest marked.after same question.each question.all
     (ap (λ (l : List ℕ). l ++ rest) (sym question.bytes) ∙ is ∙ marked.parts) in
     let between : differences question.lines (sums_of (state_of question.held)) ≡ own =
-    ap (λ (l : List (List ℕ)). differences l (sums_of (state_of question.held))) lines.0
-    ∙ ap (λ (h : Meaning). differences (map encode_lower (sums_of (state_of m))) (sums_of (state_of h))) (question.was k still) in
+    ap (λ (l : List (List ℕ)). differences l (sums_of (state_of question.held))) lines.0 in
     let answer : said ≡ sums_answer config own = question.said_is ∙ ap (sums_answer config) between in
-    let marks = answer_marks m.config config marked.marks own left more same (marked.all ∙ sym (length-marks (state_of m) (state_of k)))
+    let marks = answer_marks m.config config marked.marks own left more same (marked.all ∙ sym (length-marks (state_of m) (state_of question.held)))
     (ap (λ (l : List ℕ). l ++ left) (sym marked.bytes) ∙ said_is ∙ ap (λ (l : List ℕ). l ++ more) answer) in
     record {
       are = marks.0;
@@ -159,6 +160,17 @@ answered_marks pulling m k config came asked written said rest left more differ 
       asked = lines.1;
       replied = marks.1;
     }
+
+-- If the answerer held the same while the question came, they are those of what it held.
+pub answered_marks : (pulling : Pulling) (m k : Meaning) (config : Configuration) (came : List PulledPiece) (asked : List Came)
+    (written said rest left more : List ℕ) (differ : Bool) → config_id_of m.config ≡ config_id_of config → (marked : AsksMarked pulling m came written)
+    → AnswersQuestion config asked said differ → IsStill k asked → bytes_came asked ++ rest ≡ written
+    → bytes_pulled marked.asked ++ left ≡ said ++ more
+    → AreMarksOfBoth marked.marks differ m k rest marked.after left more
+answered_marks pulling m k config came asked written said rest left more differ same marked question still is said_is =
+    subst (λ (h : Meaning). AreMarksOfBoth marked.marks differ m h rest marked.after left more)
+    (ended_still asked question.held k question.was still)
+    (compared_marks pulling m config came asked written said rest left more differ same marked question is said_is)
 
 -- ---- the whole session
 
@@ -234,7 +246,7 @@ both_joined pulling m k held came asked later written said replied left differ v
     ∙ ap (λ (ps : List PulledPiece). bytes_pulled ps ++ left) (sym marked.order) ∙ said_is) in
     let parts = halves m marked.asked marked.later held (subst (λ (ps : List PulledPiece). AreAlone m ps held) marked.order alone) in
     let then_is : parts.then ≡ m = quiet_alone m marked.asked parts.then parts.before_it marked.quiet in
-    let start_is : marked.then ≡ m = marked.was parts.then parts.before_it ∙ then_is in
+    let start_is : marked.then ≡ m = ends_alone m parts.then marked.then marked.asked marked.was parts.before_it ∙ then_is in
     once_joined pulling m k held marked.later marked.after replied left later differ valid other kept same sums ids
     (subst (λ (ms : List Bool). HasPulledAbout (Some (buckets_asked ms)) pulling m marked.later marked.after) one.are
     (subst (λ (t : Meaning). HasPulledAbout (Some (buckets_asked marked.marks)) pulling t marked.later marked.after) start_is marked.pulls))

@@ -16,5 +16,7 @@ mod MarkedFacts
 mod QuietLawFacts
 mod ShownFacts
 mod BothSidesFacts
+mod ChangingFacts
+mod CourseFacts
 mod QuietRunFacts
 mod SizeFacts

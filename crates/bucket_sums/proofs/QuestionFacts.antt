@@ -1,18 +1,21 @@
 -- Pieces of a question.
-use Rattle.std.proofs.Common.{◌≡◌, ◌≢◌, ◌∙◌, ℕ, ◌<◌, inl, inr, Bool, true, false, List, [], ◌∷◌, ◌++◌, length, take, drop, get_or}
-use Rattle.std.proofs.Common.{refl, sym, ap, subst, arith, append_assoc, append-nil, length-append, take-append-drop}
+use Rattle.std.proofs.Common.{◌≡◌, ◌≢◌, ◌∙◌, ℕ, ◌+◌, ◌<◌, ◌≤◌, ◌⊎◌, inl, inr, Bool, true, false, List, [], ◌∷◌, ◌++◌, length, take, drop, get_or}
+use Rattle.std.proofs.Common.{refl, sym, ap, subst, arith, append_assoc, append-nil, length-append, length-drop, take-append-drop}
 use Rattle.std.specs.Prelude.{Option, Some, None}
 use Rattle.std.specs.List.{AllByRecursion}
-use Rattle.std.proofs.lemmas.List.{take_all}
+use Rattle.std.proofs.lemmas.List.{length-take, take_all}
 use Rattle.std.proofs.lemmas.Grind.{flat_map-append}
 use Rattle.fed_config.specs.Configuration.{Configuration}
 use Rattle.replica_core.specs.declared.error.SyncError.{SyncError}
 use Rattle.replica_texts.specs.Snapshots.{ended, text_of_lines}
 use Rattle.replica_texts.specs.SoleLines.{written_header}
 use Rattle.replica_sync.specs.Pieces.{EndsLine, Continues, kept_part, piece_run}
+use Rattle.replica_sync.specs.PullSessions.{EndsInFeed}
+use Rattle.replica_sync.proofs.PullLinesFacts.{no_feed}
+use Rattle.replica_sync.proofs.PullStepFacts.{feed_last}
 use Rattle.bucket_sums.specs.Lines.{IsSumLine, differences, differs, part_count}
 use Rattle.bucket_sums.specs.Questions.{RefusesText, StopsAtLine, headed, longest_line}
-use Rattle.bucket_sums.specs.Serving.{HasQuestionPart}
+use Rattle.bucket_sums.specs.Serving.{HasAsked, HasQuestionPart, TakesToLine}
 use Rattle.bucket_sums.specs.Inside.Comparing.{marks_so_far, own_sums}
 use Rattle.bucket_sums.specs.Inside.QuestionSteps.{FailsQuestion, RefusesQuestionLine, StepsQuestion, TakesLineWhere}
 use Rattle.bucket_sums.specs.declared.question_lines.QuestionLines.{QuestionLines}
@@ -30,6 +33,32 @@ ended_text old piece text used parts =
     ap (λ (l : List ℕ). old ++ l) (sym (take-append-drop used piece))
     ∙ sym (append_assoc old (take used piece) (drop used piece))
     ∙ ap (λ (l : List ℕ). l ++ drop used piece) parts ∙ append_assoc text (10 ∷ []) (drop used piece)
+
+-- The bytes of a piece that end a line end in its line feed.
+pub line_feed : (old piece text : List ℕ) (used : ℕ) → EndsLine (piece_run longest_line old piece) used text → EndsInFeed (take used piece)
+line_feed old piece text used ends =
+    let size = length-take used piece in
+    let some = ends.some in
+    let within = ends.within in
+    feed_last old (take used piece) text (omega (arith, size, some, within)) ends.parts
+
+-- A call takes all of its piece, or the bytes up to the end of a line.
+pub question_taken : (config : Configuration) (old new : SumsServing) (piece : List ℕ) (used : ℕ) (Ended : Type 0)
+    → StepsQuestion config old piece used new → TakesToLine Ended piece used
+question_taken config old new piece used Ended (inl on) less = absurd (let all = on.all in omega (arith, all, less))
+question_taken config old new piece used Ended (inr ended) less = inl (line_feed (kept_part old.part) piece ended.text used ended.ends)
+
+-- If a call takes nothing of what is left, or the rest of it, only the end of the question leaves
+-- any bytes.
+pub rest_taken : (serving : SumsServing) (piece : List ℕ) (used more : ℕ) → used ≤ length piece → TakesToLine (HasAsked serving) (drop used piece) more
+    → (more ≡ 0) ⊎ (used + more ≡ length piece) → used + more < length piece → HasAsked serving
+rest_taken serving piece used more within taken (inl none) less =
+    let left = length-drop used piece in
+    elim (taken (omega (arith, left, none, less))) [
+      | inl feed ↦ absurd (no_feed (subst (λ n. EndsInFeed (take n (drop used piece))) none feed))
+      | inr ended ↦ ended
+    ]
+rest_taken serving piece used more within taken (inr all) less = absurd (omega (arith, all, less))
 
 -- A line that ended and is refused is an error of the question.
 pub line_fails : (config : Configuration) (serving : SumsServing) (piece : List ℕ) (used : ℕ) (text : List ℕ) (e : SyncError)

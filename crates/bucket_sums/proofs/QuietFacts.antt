@@ -2,13 +2,16 @@
 use Rattle.std.proofs.Common.{◌≡◌, ◌∙◌, ℕ, zero, suc, inl, inr, Bool, true, false, not, get_or, List, [], ◌∷◌, ◌++◌, length, take, drop}
 use Rattle.std.proofs.Common.{refl, sym, ap, subst, arith, append_assoc, append-nil, take-append-drop}
 use Rattle.std.specs.Prelude.{Option, Some, None, Result, Ok, Err, MatchResult}
+use Rattle.std.specs.List.{AllByRecursion}
 use Rattle.std.proofs.lemmas.Grind.{flat_map-append}
 use Rattle.std.proofs.lemmas.List.{take_all}
 use Rattle.fed_config.specs.Configuration.{Configuration}
 use Rattle.receipt_core.specs.Acceptance.{Meaning}
+use Rattle.byte_lines.specs.Lines.{HasNoFeed}
 use Rattle.replica_core.specs.Session.{state_of}
 use Rattle.replica_core.specs.declared.error.SyncError.{SyncError}
 use Rattle.replica_core.specs.declared.error.SyncError.TheVariants.{BadHeader, NoMemory}
+use Rattle.replica_core.proofs.RisingListFacts.{all_back}
 use Rattle.replica_texts.specs.Snapshots.{ended, text_of_lines}
 use Rattle.replica_texts.specs.SoleLines.{RefusesSoleHeader, written_header}
 use Rattle.replica_sync.specs.Pieces.{EndsLine, Continues, IsOverlong, kept_part, piece_run}
@@ -20,7 +23,7 @@ use Rattle.replica_sync.specs.declared.piece_serving.Serving.{Serving}
 use Rattle.replica_sync.proofs.ServedPieceFacts.{kept_plain, served_nothing, served_still}
 use Rattle.bucket_sums.specs.Lines.{IsSumLine, differences, part_count}
 use Rattle.bucket_sums.specs.Questions.{IsPlain, StopsAtLine, headed, longest_line, sums_answer}
-use Rattle.bucket_sums.specs.Quiet.{AnswersQuestion, IsAnswering, IsAsking, IsOpening, IsServing, OpensPlainly, ServesFrom, StopsOpening}
+use Rattle.bucket_sums.specs.Quiet.{AnswersQuestion, EndsFirstLine, IsAnswering, IsAsking, IsOpening, IsServing, OpensPlainly, ServesFrom, StopsOpening}
 use Rattle.bucket_sums.specs.RecordsOnce.{has_feed, left_out_if, records_due, shown_at, shown_once}
 use Rattle.bucket_sums.specs.Quiet.{fault_in}
 use Rattle.bucket_sums.specs.Serving.{HasTakenQuestion, TakesQuestion, fault_of_question, marks_made, own_sums_of}
@@ -31,7 +34,7 @@ use Rattle.bucket_sums.specs.declared.quiet_serving.Opening.TheVariants.{FirstLi
 use Rattle.bucket_sums.specs.declared.sums_serving.SumsServing.{SumsServing}
 use Rattle.bucket_sums.proofs.CompareFacts.{length-differences}
 use Rattle.bucket_sums.proofs.OnceFacts.{due_first, shown_more}
-use Rattle.bucket_sums.proofs.QuestionFacts.{ended_text}
+use Rattle.bucket_sums.proofs.QuestionFacts.{ended_text, line_feed}
 
 -- ---- what came, and one piece more
 
@@ -40,15 +43,24 @@ pub came_bytes : (came : List Came) (c : Came) → bytes_came (came ++ c ∷ [])
 came_bytes came c =
     flat_map-append (λ (d : Came). d.bytes) came (c ∷ []) ∙ ap (λ (l : List ℕ). bytes_came came ++ l) (append-nil c.bytes)
 
--- What is so of all pieces is so of those before the last.
-pub still_front : (m : Meaning) (came : List Came) (c : Came) → IsStill m (came ++ c ∷ []) → IsStill m came
-still_front m [] c h = tt
-still_front m (d ∷ came) c h = (h.0, still_front m came c h.1)
+-- What ended the first line stays what ended it.
+ended_on : (came : List Came) (c : Came) (held : Meaning) → EndsFirstLine came held → EndsFirstLine (came ++ c ∷ []) held
+ended_on came c held ends = record {
+  before = ends.before;
+  last = ends.last;
+  later = ends.later ++ c ∷ [];
+  order = ap (λ (l : List Came). l ++ c ∷ []) ends.order ∙ append_assoc ends.before (ends.last ∷ ends.later) (c ∷ []);
+  none = ends.none;
+  feed = ends.feed;
+  was = ends.was;
+}
 
--- While all came this was held, and so it was at the last one.
-pub still_last : (m : Meaning) (came : List Came) (c : Came) → IsStill m (came ++ c ∷ []) → c.held ≡ m
-still_last m [] c h = h.0
-still_last m (d ∷ came) c h = still_last m came c h.1
+-- If the same was held while all came, it was held when the first line ended.
+pub ended_still : (came : List Came) (held m : Meaning) → EndsFirstLine came held → IsStill m came → held ≡ m
+ended_still came held m ends still =
+    sym ends.was
+    ∙ (all_back (λ (c : Came). c.held ≡ m) ends.before (ends.last ∷ ends.later)
+    (subst (AllByRecursion (λ (c : Came). c.held ≡ m)) ends.order still)).0
 
 -- what was held when the bytes of a call came
 held_then : (piece : List ℕ) (m : Meaning) (r : Result ℕ SyncError) → (came_taken piece m r).held ≡ m
@@ -201,7 +213,7 @@ quiet_nothing (FirstLine part) None config haves due m came written sound h = re
 quiet_nothing (FirstLine part) (Some e) config haves due m came written sound h = absurd (cc)
 quiet_nothing (Question question) None config haves due m came written sound h = record {
   held = h.held;
-  was = λ k still. h.was k (still_front k came (record { bytes = []; held = m }) still);
+  was = ended_on came (record { bytes = []; held = m }) h.held h.was;
   sums = h.sums;
   takes = subst (HasTakenQuestion config question) (sym (came_bytes came (record { bytes = []; held = m }) ∙ append-nil (bytes_came came))) h.takes;
   sound = h.sound;
@@ -293,13 +305,21 @@ opens_on old part then due m came piece used written goes all bytes none none_du
 -- The first line is that of a question.
 pub opens_question : (config : Configuration) (question : SumsServing) (then : Serving) (due : List ℕ) (m : Meaning) (came : List Came)
     (old piece : List ℕ) (used : ℕ) (written : List ℕ) → EndsLine (piece_run longest_line old piece) used (written_header config)
-    → bytes_came came ≡ old → written ≡ [] → due ≡ [] → HasTakenQuestion config question (ended (written_header config))
+    → HasNoFeed old → bytes_came came ≡ old → written ≡ [] → due ≡ [] → HasTakenQuestion config question (ended (written_header config))
     → own_sums_of question ≡ sums_of (state_of m) → fault_of_question question ≡ None → HasServedPieces then [] []
     → fault_of_serving then ≡ None → due_give then ≡ [] → records_answered then ≡ All
     → IsAsking config question then due (came ++ record { bytes = take used piece; held = m } ∷ []) written
-opens_question config question then due m came old piece used written ends bytes none none_due takes own sound serves ready idle records = record {
+opens_question config question then due m came old piece used written ends plain bytes none none_due takes own sound serves ready idle records = record {
   held = m;
-  was = λ k still. still_last k came (record { bytes = take used piece; held = m }) still;
+  was = record {
+    before = came;
+    last = record { bytes = take used piece; held = m };
+    later = [];
+    order = refl;
+    none = subst HasNoFeed (sym bytes) plain;
+    feed = line_feed old piece (written_header config) used ends;
+    was = refl;
+  };
   sums = own;
   takes = subst (HasTakenQuestion config question)
       (sym (came_bytes came (record { bytes = take used piece; held = m }) ∙ ap (λ (l : List ℕ). l ++ take used piece) bytes ∙ ends.parts)) takes;
@@ -343,7 +363,7 @@ pub asks_on : (config : Configuration) (question then : SumsServing) (haves : Se
     → IsAsking config then haves due (came ++ record { bytes = take used piece; held = m } ∷ []) written
 asks_on config question then haves due m came piece used written on own sound asks = record {
   held = asks.held;
-  was = λ k still. asks.was k (still_front k came (record { bytes = take used piece; held = m }) still);
+  was = ended_on came (record { bytes = take used piece; held = m }) asks.held asks.was;
   sums = own ∙ asks.sums;
   takes = subst (HasTakenQuestion config then) (sym (came_bytes came (record { bytes = take used piece; held = m }))) (on (bytes_came came) asks.takes);
   sound = sound;

@@ -1,23 +1,27 @@
 -- A session that asks for sums: what one call does.
-use Rattle.std.proofs.Common.{◌≡◌, ◌∙◌, ℕ, zero, suc, ◌+◌, ◌<◌, ◌≤◌, inl, inr, Bool, List, [], ◌∷◌, ◌++◌, length, take, drop}
+use Rattle.std.proofs.Common.{◌≡◌, ◌∙◌, ℕ, zero, suc, ◌+◌, ◌<◌, ◌≤◌, ◌⊎◌, inl, inr, Bool, List, [], ◌∷◌, ◌++◌, length, take, drop}
 use Rattle.std.proofs.Common.{refl, sym, ap, subst, arith, append_assoc, append-nil, drop-drop, length-append, take-append-drop}
-use Rattle.std.specs.Prelude.{Option, Some, None, Result, Ok, Err, IsErrAnd, MatchResult, flat_map}
+use Rattle.std.specs.Prelude.{Option, Some, None, Result, Ok, Err, IfOk, IsErrAnd, MatchResult, flat_map}
+use Rattle.std.proofs.lemmas.Grind.{flat_map-append}
 use Rattle.fed_config.specs.Configuration.{Configuration}
 use Rattle.receipt_core.specs.Acceptance.{Meaning}
-use Rattle.replica_core.specs.Session.{state_of}
+use Rattle.replica_core.specs.Session.{HaveMessage, have_of, state_of}
 use Rattle.replica_core.specs.declared.error.SyncError.{SyncError}
 use Rattle.replica_core.specs.declared.error.SyncError.TheVariants.{NoMemory}
 use Rattle.replica_sync.specs.Pieces.{kept_part}
-use Rattle.replica_sync.specs.PulledPieces.{AreAlone, PulledPiece, bytes_pulled, bytes_read, pieces_of}
-use Rattle.replica_sync.specs.Plans.{answered_of}
-use Rattle.replica_sync.specs.PullSessions.{HasPulledAbout, PullsLines, PullsPieces, count_of_pulling, due_have, fault_of_pulling, kept_answer}
+use Rattle.replica_texts.specs.Messages.{any_have_text, as_any_have, have_text}
+use Rattle.replica_sync.specs.PulledPieces.{AreAlone, PulledGive, PulledPiece, bytes_pulled, bytes_read, haves_asked, haves_pulled, held_at_end, pieces_of}
+use Rattle.replica_sync.specs.Plans.{answered_of, bucket_at}
+use Rattle.replica_sync.specs.PullSessions.{HasPulledAbout, IsOverPulling, PullsLines, PullsPieces, TakesLines, count_of_pulling, due_have}
+use Rattle.replica_sync.specs.PullSessions.{fault_of_pulling, kept_answer}
 use Rattle.replica_sync.specs.declared.answer_lines.AnswerLines.{AnswerLines}
 use Rattle.replica_sync.specs.declared.piece_pulling.Pulling.{Pulling}
 use Rattle.replica_sync.proofs.PulledPieceFacts.{bytes_more, takes_quiet}
 use Rattle.replica_sync.proofs.PullStepFacts.{pulled_still, taken_same}
 use Rattle.bucket_sums.specs.Asking.{HasAnswerLines, HasTakenAnswer, IsLineOfMarks, TakesAnswer, fault_of_answer, marks_answered}
 use Rattle.bucket_sums.specs.Questions.{StopsAtLine, sums_question}
-use Rattle.bucket_sums.specs.QuietPulls.{AsksMarked, IsAskingSums, PullsFrom, StopsMarks, due_of_stage, due_question}
+use Rattle.bucket_sums.specs.QuietPulls.{AsksMarked, EndsHolding, IsAskingSums, PullsFrom, StopsMarks, due_of_stage, due_question}
+use Rattle.bucket_sums.specs.Serving.{TakesToLine}
 use Rattle.bucket_sums.specs.Sessions.{buckets_asked}
 use Rattle.bucket_sums.specs.Sums.{sums_of}
 use Rattle.bucket_sums.specs.Inside.QuietPullSteps.{StepsQuietly}
@@ -27,7 +31,7 @@ use Rattle.bucket_sums.specs.declared.quiet_pulling.Stage.TheVariants.{Asking, P
 use Rattle.bucket_sums.specs.declared.sums_asking.SumsAsking.{SumsAsking}
 use Rattle.bucket_sums.specs.Quiet.{fault_in, first_due}
 use Rattle.bucket_sums.proofs.QuietFacts.{fault_is, stops_more}
-use Rattle.bucket_sums.proofs.QuietStepFacts.{first_none, first_some, some_left}
+use Rattle.bucket_sums.proofs.QuietStepFacts.{first_none, first_some, later_due, some_left}
 
 -- ---- pieces of which nothing is taken
 
@@ -39,6 +43,10 @@ quiet_piece bytes m = record { bytes = bytes; old = m; new = m }
 last_held : (start m : Meaning) (came : List PulledPiece) (c : PulledPiece) → AreAlone start (came ++ c ∷ []) m → c.new ≡ m
 last_held start m [] c h = sym h.1
 last_held start m (d ∷ came) c h = last_held d.new m came c h.1
+
+pub ends_alone : (start m held : Meaning) (came : List PulledPiece) → EndsHolding came held → AreAlone start came m → held ≡ m
+ends_alone start m held came ends alone =
+    sym ends.was ∙ last_held start m ends.before ends.last (subst (λ (l : List PulledPiece). AreAlone start l m) ends.order alone)
 
 -- One piece is the bytes, and leaves what is held.
 pub one_piece : (bytes : List ℕ) (m : Meaning) → bytes_pulled (quiet_piece bytes m ∷ []) ≡ bytes
@@ -67,6 +75,78 @@ pub begun_sound : (plan : Option (List ℕ)) (pulling : Pulling) (start : Meanin
     → fault_of_pulling pulling ≡ None
 begun_sound plan pulling start h =
     no_piece plan (fault_of_pulling pulling) (answered_of pulling.plan) pulling.lines start (kept_answer pulling) ([] ++ due_have pulling) h.pulls
+
+-- Without a piece no answer came.
+no_gives : (gives : List PulledGive) (later : List PulledPiece) → [] ≡ flat_map pieces_of gives ++ later → gives ≡ []
+no_gives [] later e = refl
+no_gives (g ∷ gives) later e =
+    absurd (some_piece [] g.before g.last (flat_map pieces_of gives ++ later)
+    (e ∙ append_assoc (pieces_of g) (flat_map pieces_of gives) later
+    ∙ append_assoc g.before (g.last ∷ []) (flat_map pieces_of gives ++ later)))
+
+-- The have about the first bucket is due then.
+first_asked : (start : Meaning) (gives : List PulledGive) (due : List ℕ) → gives ≡ []
+    → due ≡ flat_map have_text (haves_asked None start gives) → due ≡ have_text (have_of start 0)
+first_asked start gives due none asked =
+    asked ∙ ap (λ (gs : List PulledGive). flat_map have_text (haves_asked None start gs)) none ∙ append-nil (have_text (have_of start 0))
+
+first_have : (f : Option SyncError) (answered : ℕ) (lines : AnswerLines) (start : Meaning) (rest due : List ℕ) → f ≡ None
+    → PullsPieces None f answered lines start [] rest due → due ≡ have_text (have_of start 0)
+first_have None answered lines start rest due sound (inl on) = first_asked start on.gives due (no_gives on.gives on.later on.whole.order) on.asked
+first_have None answered lines start rest due sound (inr all) =
+    absurd (let many = all.all in let none = ap length (no_gives all.gives all.later all.whole.order) in omega (arith, many, none))
+first_have (Some e) answered lines start rest due sound h = absurd (cc)
+
+pub begun_asks : (pulling : Pulling) (start : Meaning) → HasPulledAbout None pulling start [] [] → due_have pulling ≡ have_text (have_of start 0)
+begun_asks pulling start h =
+    first_have (fault_of_pulling pulling) (answered_of pulling.plan) pulling.lines start (kept_answer pulling) (due_have pulling)
+    (begun_sound None pulling start h) h.pulls
+
+-- A session about buckets asks, or is over.
+some_text : (haves : List HaveMessage) (have : HaveMessage) → 0 < length (flat_map have_text (haves ++ have ∷ []))
+some_text haves have =
+    let parts = ap length (flat_map-append have_text haves (have ∷ [])) in
+    let both = length-append (flat_map have_text haves) (have_text have ++ []) in
+    let one = length-append (have_text have) [] in
+    let last = length-append (any_have_text (as_any_have have)) (10 ∷ []) in
+    omega (arith, parts, both, one, last)
+
+about_asks : (plan : Option (List ℕ)) (f : Option SyncError) (answered : ℕ) (lines : AnswerLines) (start : Meaning) (rest due : List ℕ) → f ≡ None
+    → PullsPieces plan f answered lines start [] rest due → (0 < length due) ⊎ (lines.bucket ≡ 256)
+about_asks plan None answered lines start rest due sound (inl on) =
+    inl (subst (λ (l : List ℕ). 0 < length l) (sym on.asked)
+    (some_text (haves_pulled plan start 0 on.gives) (have_of (held_at_end start on.gives) (bucket_at plan (length on.gives)))))
+about_asks plan None answered lines start rest due sound (inr all) = inr all.bucket
+about_asks plan (Some e) answered lines start rest due sound h = absurd (cc)
+
+pub begun_due : (plan : Option (List ℕ)) (pulling : Pulling) (start : Meaning) → HasPulledAbout plan pulling start [] []
+    → (0 < length (due_have pulling)) ⊎ IsOverPulling pulling
+begun_due plan pulling start h =
+    about_asks plan (fault_of_pulling pulling) (answered_of pulling.plan) pulling.lines start (kept_answer pulling) (due_have pulling)
+    (begun_sound plan pulling start h) h.pulls
+
+-- ---- how many bytes a call takes
+
+-- What is due or over in the haves is due or over in the session.
+due_or_over : (due : List ℕ) (pulling : Pulling) → (0 < length (due_have pulling)) ⊎ IsOverPulling pulling
+    → (0 < length (first_due due (due_have pulling))) ⊎ IsOverPulling pulling
+due_or_over due pulling (inl some) = inl (later_due due (due_have pulling) some)
+due_or_over due pulling (inr over) = inr over
+
+pub pulling_taken : (due : List ℕ) (new : Pulling) (piece : List ℕ) (r : Result ℕ SyncError) → IfOk r (TakesLines piece new)
+    → IfOk r (TakesToLine ((0 < length (first_due due (due_have new))) ⊎ IsOverPulling new) piece)
+pulling_taken due new piece (Err e) taken = taken
+pulling_taken due new piece (Ok used) taken = λ less. inr (due_or_over due new (taken.fewer less))
+
+pub begun_taken : (plan : Option (List ℕ)) (due : List ℕ) (new : Pulling) (start : Meaning) (piece : List ℕ) (used : ℕ)
+    → HasPulledAbout plan new start [] []
+    → TakesToLine ((0 < length (first_due due (due_have new))) ⊎ IsOverPulling new) piece used
+begun_taken plan due new start piece used begins less = inr (due_or_over due new (begun_due plan new start begins))
+
+-- What is left of a text is due if nothing else is.
+pub first_alone : (due : List ℕ) → first_due due [] ≡ due
+first_alone [] = refl
+first_alone (b ∷ due) = refl
 
 -- ---- one call
 
@@ -212,7 +292,7 @@ marks_end config old new pulling due m start came bytes written marks on own hel
       bytes = bytes_more came (quiet_piece bytes m) ∙ answer.bytes;
       then = m;
       own = held;
-      was = λ k alone. last_held start k came (quiet_piece bytes m) alone;
+      was = record { before = came; last = quiet_piece bytes m; order = refl; was = refl };
       after = [];
       parts = sym (append-nil written) ∙ ap (λ (l : List ℕ). written ++ l) (sym idle) ∙ asks.asks
           ∙ sym (append-nil (sums_question start.config (sums_of (state_of start))));

@@ -1,6 +1,6 @@
 -- A connection that is served: one call, by what came before it.
-use Rattle.std.proofs.Common.{◌≡◌, ◌∙◌, ◌≢◌, ℕ, ◌+◌, ◌<◌, ◌≤◌, inl, inr, Bool, true, not, get_or, List, [], ◌∷◌, ◌++◌, length, take, drop}
-use Rattle.std.proofs.Common.{refl, sym, ap, subst, arith, drop-drop, length-drop}
+use Rattle.std.proofs.Common.{◌≡◌, ◌∙◌, ◌≢◌, ℕ, ◌+◌, ◌<◌, ◌≤◌, ◌⊎◌, inl, inr, Bool, true, not, get_or, List, [], ◌∷◌, ◌++◌, length, take, drop}
+use Rattle.std.proofs.Common.{refl, sym, ap, subst, arith, drop-drop, length-append, length-drop}
 use Rattle.std.specs.Prelude.{Option, Some, None, Result, Ok, Err, IfOk, IsErrAnd, MatchOption, MatchResult}
 use Rattle.std.specs.List.{AllByRecursion}
 use Rattle.std.proofs.lemmas.List.{drop_all}
@@ -18,12 +18,13 @@ use Rattle.replica_sync.specs.ServedPieces.{Came, HasServedPieces, came_taken, d
 use Rattle.replica_sync.specs.AnsweredFrom.{answered_from}
 use Rattle.replica_sync.specs.declared.answer_records.AnswerRecords.TheVariants.{All}
 use Rattle.replica_sync.specs.declared.line_part.LinePart.{LinePart}
+use Rattle.replica_sync.proofs.ServedPieceFacts.{kept_plain}
 use Rattle.replica_sync.specs.declared.piece_serving.Serving.{Serving}
-use Rattle.bucket_sums.specs.Lines.{part_count}
+use Rattle.bucket_sums.specs.Lines.{marks_line, part_count}
 use Rattle.bucket_sums.specs.Questions.{IsPlain, longest_line, sums_answer}
 use Rattle.bucket_sums.specs.RecordsOnce.{has_feed, left_out_if, records_due, shown_at}
 use Rattle.bucket_sums.specs.Quiet.{IsAsking, IsOpening, ServesFrom, StopsOpening, fault_in, first_due}
-use Rattle.bucket_sums.specs.Serving.{HasTakenQuestion, fault_of_question, marks_made, own_sums_of}
+use Rattle.bucket_sums.specs.Serving.{HasTakenQuestion, TakesToLine, fault_of_question, marks_made, own_sums_of}
 use Rattle.bucket_sums.specs.Sums.{sums_of}
 use Rattle.bucket_sums.specs.Inside.OpeningSteps.{RefusesOpeningLine}
 use Rattle.bucket_sums.specs.declared.quiet_serving.Opening.{Opening}
@@ -102,7 +103,8 @@ pub opening_asks : (config : Configuration) (part : LinePart) (question : SumsSe
     → records_answered then ≡ All → IsOpening part haves due came written
     → IsAsking config question then due (came ++ record { bytes = take used piece; held = m } ∷ []) written
 opening_asks config part question haves then due m came piece used written ends takes own sound serves ready idle all h =
-    opens_question config question then due m came (kept_part part) piece used written ends h.bytes h.none h.none_due takes own sound serves ready idle all
+    opens_question config question then due m came (kept_part part) piece used written ends
+    (kept_plain part.has_ended part.line.items part.unbroken) h.bytes h.none h.none_due takes own sound serves ready idle all
 
 -- The first line is another one.
 pub opening_haves : (config : Configuration) (part : LinePart) (haves then : Serving) (due : List ℕ) (m : Meaning) (came : List Came)
@@ -222,10 +224,41 @@ pub first_some : (due later : List ℕ) → (due ≡ [] → ⊥) → first_due d
 first_some [] later some = absurd (some refl)
 first_some (b ∷ due) later some = refl
 
+-- If either text is left, something is due.
+pub later_due : (due later : List ℕ) → 0 < length later → 0 < length (first_due due later)
+later_due [] later some = some
+later_due (b ∷ due) later some = omega arith
+
+pub now_due : (due later : List ℕ) → 0 < length due → 0 < length (first_due due later)
+now_due [] later some = absurd (omega (arith, some))
+now_due (b ∷ due) later some = omega arith
+
+-- So is what is left of a text that is not written to its end.
+pub question_due : (text later : List ℕ) (written : ℕ) → written < length text → 0 < length (first_due (drop written text) later)
+question_due text later written less = let size = length-drop written text in now_due (drop written text) later (omega (arith, size, less))
+
 -- Else the other text is.
 pub first_none : (due later : List ℕ) → due ≡ [] → first_due due later ≡ later
 first_none [] later none = refl
 first_none (b ∷ due) later none = absurd (cc)
+
+-- The answer to a question is some bytes.
+pub marks_due : (config : Configuration) (marks : List Bool) (text later : List ℕ) → text ≡ sums_answer config marks → 0 < length (first_due (drop 0 text) later)
+marks_due config marks text later is =
+    let size = ap length is in
+    let both = length-append (ended (written_header config)) (ended (marks_line marks)) in
+    let last = length-append (marks_line marks) (10 ∷ []) in
+    now_due (drop 0 text) later (omega (arith, size, both, last))
+
+-- A call takes what the haves take.
+pub haves_taken : (due : List ℕ) (then : Serving) (piece : List ℕ) (r : Result ℕ SyncError)
+    → IfOk r (λ used. (used ≤ length piece) × ((used ≡ length piece) ⊎ (0 < length (due_give then))))
+    → IfOk r (TakesToLine (0 < length (first_due due (due_give then))) piece)
+haves_taken due then piece (Err e) taken = taken
+haves_taken due then piece (Ok used) taken = λ less. inr (elim taken.1 [
+  | inl all ↦ absurd (omega (arith, all, less))
+  | inr some ↦ later_due due (due_give then) some
+])
 
 -- Something is left of a text that is not written to its end.
 pub some_left : (text : List ℕ) (written : ℕ) → written < length text → drop written text ≡ [] → ⊥

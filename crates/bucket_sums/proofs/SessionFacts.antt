@@ -25,7 +25,7 @@ use Rattle.bucket_sums.proofs.LawFacts.{length-marks, same_ids, same_records}
 
 -- ---- orders that distinguish
 
-exact-receipts : IsExactOn IsReceipt receipt_cmp
+pub exact-receipts : IsExactOn IsReceipt receipt_cmp
 exact-receipts a b p q e = one_receipt a b p q e
 
 pub exact-records : IsExactOn IsDistrust distrust_cmp
@@ -42,7 +42,7 @@ always (id ∷ ids) = (tt, always ids)
 -- ---- ids of a bucket
 
 -- The id of a receipt that is held is one of its bucket.
-id-of-held : (state : State) (bucket : ℕ) (r : Receipt) → Has state.held r → bucket_of_id r ≡ bucket → Has (ids_held state bucket) (receipt_id_of r)
+pub id-of-held : (state : State) (bucket : ℕ) (r : Receipt) → Has state.held r → bucket_of_id r ≡ bucket → Has (ids_held state bucket) (receipt_id_of r)
 id-of-held state bucket r has here =
     let inside = filter-to (is_of_bucket bucket) state.held r (Contains-from_has state.held r has) (eq-eqb (bucket_of_id r) bucket here) in
     let ids = map receipt_id_of (filter (is_of_bucket bucket) state.held) in
@@ -50,13 +50,13 @@ id-of-held state bucket r has here =
     (Has-from_contains ids (receipt_id_of r) (map-to receipt_id_of (filter (is_of_bucket bucket) state.held) r inside))
 
 -- A receipt with the id of this one is held.
-record HasId (state : State) (r : Receipt) : Type 0 where
+pub record HasId (state : State) (r : Receipt) : Type 0 where
   pub it : Receipt
   pub held : Has state.held it
   pub id : receipt_id_of it ≡ receipt_id_of r
 
 -- An id of a bucket is that of a receipt that is held.
-held-of-id : (state : State) (bucket : ℕ) (r : Receipt) → Has (ids_held state bucket) (receipt_id_of r) → HasId state r
+pub held-of-id : (state : State) (bucket : ℕ) (r : Receipt) → Has (ids_held state bucket) (receipt_id_of r) → HasId state r
 held-of-id state bucket r has =
     let ids = map receipt_id_of (filter (is_of_bucket bucket) state.held) in
     elim (with_items-has id_cmp ids [] (receipt_id_of r) has) [
@@ -202,7 +202,7 @@ among-asked false buckets b h = h
 among-asked true [] b h = absurd h
 among-asked true (c ∷ buckets) b h = h
 
-asked-has : (marks : List Bool) (bucket : ℕ) → suc bucket < length marks → get_or marks (suc bucket) true ≡ true → Has (buckets_asked marks) bucket
+pub asked-has : (marks : List Bool) (bucket : ℕ) → suc bucket < length marks → get_or marks (suc bucket) true ≡ true → Has (buckets_asked marks) bucket
 asked-has [] bucket within set = absurd (omega (arith, within))
 asked-has (records ∷ marks) bucket within set =
     let e : 0 + bucket ≡ bucket = omega arith in
@@ -215,7 +215,7 @@ one_at_least [] = omega arith
 one_at_least (b ∷ buckets) = omega arith
 
 -- If the records are marked, something is asked about.
-some-asked : (marks : List Bool) → 0 < length marks → get_or marks 0 true ≡ true → 0 < length (buckets_asked marks)
+pub some-asked : (marks : List Bool) → 0 < length marks → get_or marks 0 true ≡ true → 0 < length (buckets_asked marks)
 some-asked [] within set = absurd (omega (arith, within))
 some-asked (false ∷ marks) within set = absurd (let no : false ≡ true = set in cc)
 some-asked (true ∷ marks) within set = one_at_least (marked_from 0 marks)

@@ -45,58 +45,69 @@ shown_bytes differ old (c ∷ came) = ap (λ (l : List ℕ). c.bytes ++ l) (show
 abbrev pub IsShown : Meaning → Meaning → Type 0
 IsShown k held = (held ≡ k) ⊎ (held ≡ answered_from LeftOut k)
 
-abbrev IsShownLine : Meaning → HeldLine → Type 0
-IsShownLine k l = IsShown k l.held
-
 abbrev pub AreShown : Meaning → List HaveAndHeld → Type 0
 AreShown k asked = AllByRecursion (λ (a : HaveAndHeld). IsShown k a.held) asked
 
--- The first have is answered with all.
-abbrev pub IsFirst : Meaning → List HaveAndHeld → Type 0
-IsFirst k [] = ⊤
-IsFirst k (a ∷ asked) = a.held ≡ k
+-- The first have is answered from what is so.
+abbrev pub IsFirstOf : (Meaning → Type 0) → List HaveAndHeld → Type 0
+IsFirstOf P [] = ⊤
+IsFirstOf P (a ∷ asked) = P a.held
 
-abbrev IsFirstLine : Meaning → List HeldLine → Type 0
-IsFirstLine k [] = ⊤
-IsFirstLine k (l ∷ lines) = l.held ≡ k
+-- It is answered with all.
+abbrev pub IsFirst : Meaning → List HaveAndHeld → Type 0
+IsFirst k = IsFirstOf (λ held. held ≡ k)
+
+abbrev IsFirstLine : (Meaning → Type 0) → List HeldLine → Type 0
+IsFirstLine P [] = ⊤
+IsFirstLine P (l ∷ lines) = P l.held
+
+-- what is so of a piece, whichever records the answer has that it ends
+abbrev pub IsShownAs : (Meaning → Type 0) → Came → Type 0
+IsShownAs Q c = (records : AnswerRecords) → Q (answered_from records c.held)
 
 one_shown : (records : AnswerRecords) (k held : Meaning) → held ≡ k → IsShown k (answered_from records held)
 one_shown All k held is = inl is
 one_shown LeftOut k held is = inr (ap (answered_from LeftOut) is)
 
-lines_shown : (k held : Meaning) (whole : List (List ℕ)) → IsShown k held → AllByRecursion (IsShownLine k) (map (with_held held) whole)
-lines_shown k held [] is = tt
-lines_shown k held (text ∷ whole) is = (is, lines_shown k held whole is)
+came_still : (k : Meaning) (came : List Came) → IsStill k came → AllByRecursion (IsShownAs (IsShown k)) came
+came_still k [] still = tt
+came_still k (c ∷ came) still = (λ records. one_shown records k c.held still.0, came_still k came still.1)
 
-came_shown : (k : Meaning) (differ : Bool) (old : List ℕ) (lines : CameLines) (came : List Came) → AllByRecursion (IsShownLine k) lines.lines → IsStill k came
-    → AllByRecursion (IsShownLine k) (fold lines_with lines (shown_once differ old came)).lines
-came_shown k differ old lines [] h still = h
-came_shown k differ old lines (c ∷ came) h still =
+lines_each : (Q : Meaning → Type 0) (held : Meaning) (whole : List (List ℕ)) → Q held → AllByRecursion (λ (l : HeldLine). Q l.held) (map (with_held held) whole)
+lines_each Q held [] is = tt
+lines_each Q held (text ∷ whole) is = (is, lines_each Q held whole is)
+
+came_each : (Q : Meaning → Type 0) (differ : Bool) (old : List ℕ) (lines : CameLines) (came : List Came)
+    → AllByRecursion (λ (l : HeldLine). Q l.held) lines.lines → AllByRecursion (IsShownAs Q) came
+    → AllByRecursion (λ (l : HeldLine). Q l.held) (fold lines_with lines (shown_once differ old came)).lines
+came_each Q differ old lines [] h each = h
+came_each Q differ old lines (c ∷ came) h each =
     let held = answered_from (records_due differ (has_feed old)) c.held in
     let whole = (lines_of (lines.rest ++ c.bytes)).whole in
-    came_shown k differ (old ++ c.bytes) (lines_with lines (record { bytes = c.bytes; held = held })) came
-    (all_append (IsShownLine k) lines.lines (map (with_held held) whole) h
-    (lines_shown k held whole (one_shown (records_due differ (has_feed old)) k c.held still.0))) still.1
+    came_each Q differ (old ++ c.bytes) (lines_with lines (record { bytes = c.bytes; held = held })) came
+    (all_append (λ (l : HeldLine). Q l.held) lines.lines (map (with_held held) whole) h
+    (lines_each Q held whole (each.0 (records_due differ (has_feed old))))) each.1
 
-asked_shown : (k : Meaning) (asked : List HaveAndHeld) → AllByRecursion (IsShownLine k) (map line_of_have asked) → AreShown k asked
-asked_shown k [] h = tt
-asked_shown k (a ∷ asked) h = (h.0, asked_shown k asked h.1)
+asked_each : (Q : Meaning → Type 0) (asked : List HaveAndHeld) → AllByRecursion (λ (l : HeldLine). Q l.held) (map line_of_have asked)
+    → AllByRecursion (λ (a : HaveAndHeld). Q a.held) asked
+asked_each Q [] h = tt
+asked_each Q (a ∷ asked) h = (h.0, asked_each Q asked h.1)
 
 -- ---- the first line
 
 -- A line that came first remains the first.
-first_kept : (k : Meaning) (l : HeldLine) (lines : List HeldLine) (rest : List ℕ) (came : List Came) → l.held ≡ k
-    → IsFirstLine k (fold lines_with (record { lines = l ∷ lines; rest = rest }) came).lines
-first_kept k l lines rest [] is = is
-first_kept k l lines rest (c ∷ came) is =
+first_kept : (P : Meaning → Type 0) (l : HeldLine) (lines : List HeldLine) (rest : List ℕ) (came : List Came) → P l.held
+    → IsFirstLine P (fold lines_with (record { lines = l ∷ lines; rest = rest }) came).lines
+first_kept P l lines rest [] is = is
+first_kept P l lines rest (c ∷ came) is =
     let more = lines_of (rest ++ c.bytes) in
-    first_kept k l (lines ++ map (with_held c.held) more.whole) more.rest came is
+    first_kept P l (lines ++ map (with_held c.held) more.whole) more.rest came is
 
-first_from : (k held : Meaning) (whole : List (List ℕ)) (rest : List ℕ) (came : List Came) → held ≡ k
-    → (whole ≡ [] → IsFirstLine k (fold lines_with (record { lines = []; rest = rest }) came).lines)
-    → IsFirstLine k (fold lines_with (record { lines = map (with_held held) whole; rest = rest }) came).lines
-first_from k held [] rest came is none = none refl
-first_from k held (text ∷ whole) rest came is none = first_kept k (with_held held text) (map (with_held held) whole) rest came is
+first_from : (P : Meaning → Type 0) (held : Meaning) (whole : List (List ℕ)) (rest : List ℕ) (came : List Came) → P held
+    → (whole ≡ [] → IsFirstLine P (fold lines_with (record { lines = []; rest = rest }) came).lines)
+    → IsFirstLine P (fold lines_with (record { lines = map (with_held held) whole; rest = rest }) came).lines
+first_from P held [] rest came is none = none refl
+first_from P held (text ∷ whole) rest came is none = first_kept P (with_held held text) (map (with_held held) whole) rest came is
 
 -- what is so of bytes in which no line ended
 abbrev HasNone : Lines → List ℕ → Type 0
@@ -118,37 +129,45 @@ no_lines [] none = (refl, refl)
 no_lines (b ∷ bytes) none = none_with (b == 10) b (lines_of bytes) bytes refl (no_lines bytes) none
 
 -- If the records differ, the first line that ends has all that is held.
-first_shown : (k : Meaning) (old : List ℕ) (came : List Came) → IsStill k came → has_feed old ≡ false
-    → IsFirstLine k (fold lines_with (record { lines = []; rest = old }) (shown_once true old came)).lines
-first_shown k old [] still none = tt
-first_shown k old (c ∷ came) still none =
+first_shown : (P : Meaning → Type 0) (old : List ℕ) (came : List Came) → AllByRecursion (λ (c : Came). P c.held) came → has_feed old ≡ false
+    → IsFirstLine P (fold lines_with (record { lines = []; rest = old }) (shown_once true old came)).lines
+first_shown P old [] each none = tt
+first_shown P old (c ∷ came) each none =
     let held = answered_from (records_due true (has_feed old)) c.held in
     let more = lines_of (old ++ c.bytes) in
     let seen = shown_once true (old ++ c.bytes) came in
-    first_from k held more.whole more.rest seen (ap (λ (b : Bool). answered_from (records_due true b) c.held) none ∙ still.0)
+    first_from P held more.whole more.rest seen
+    (subst P (sym (ap (λ (b : Bool). answered_from (records_due true b) c.held) none)) each.0)
     (λ ended. let both = no_lines (old ++ c.bytes) ended in
-    subst (λ (rest : List ℕ). IsFirstLine k (fold lines_with (record { lines = []; rest = rest }) seen).lines) (sym both.0)
-    (first_shown k (old ++ c.bytes) came still.1 both.1))
+    subst (λ (rest : List ℕ). IsFirstLine P (fold lines_with (record { lines = []; rest = rest }) seen).lines) (sym both.0)
+    (first_shown P (old ++ c.bytes) came each.1 both.1))
 
-first_asked : (k : Meaning) (asked : List HaveAndHeld) → IsFirstLine k (map line_of_have asked) → IsFirst k asked
-first_asked k [] h = tt
-first_asked k (a ∷ asked) h = h
+first_asked : (P : Meaning → Type 0) (asked : List HaveAndHeld) → IsFirstLine P (map line_of_have asked) → IsFirstOf P asked
+first_asked P [] h = tt
+first_asked P (a ∷ asked) h = h
 
--- What each have of the session is answered with.
-pub record ShowsOnce (k : Meaning) (differ : Bool) (asked : List HaveAndHeld) : Type 0 where
-  pub each : AreShown k asked
-  pub first : differ ≡ true → IsFirst k asked
+-- What each have of the session is answered from, and what the first one is if the records differ.
+pub record Shows (Q P : Meaning → Type 0) (differ : Bool) (asked : List HaveAndHeld) : Type 0 where
+  pub each : AllByRecursion (λ (a : HaveAndHeld). Q a.held) asked
+  pub first : differ ≡ true → IsFirstOf P asked
 
-pub shows_once : (k : Meaning) (differ : Bool) (later : List Came) (asked : List HaveAndHeld) → IsStill k later
-    → (fold lines_with (record { lines = []; rest = [] }) (shown_once differ [] later)).lines ≡ map line_of_have asked → ShowsOnce k differ asked
-shows_once k differ later asked still lines = record {
-  each = asked_shown k asked
-      (subst (AllByRecursion (IsShownLine k)) lines (came_shown k differ [] (record { lines = []; rest = [] }) later tt still));
-  first = λ set. first_asked k asked
-      (subst (IsFirstLine k)
+pub shows : (Q P : Meaning → Type 0) (differ : Bool) (later : List Came) (asked : List HaveAndHeld) → AllByRecursion (IsShownAs Q) later
+    → AllByRecursion (λ (c : Came). P c.held) later
+    → (fold lines_with (record { lines = []; rest = [] }) (shown_once differ [] later)).lines ≡ map line_of_have asked → Shows Q P differ asked
+shows Q P differ later asked each all lines = record {
+  each = asked_each Q asked
+      (subst (AllByRecursion (λ (l : HeldLine). Q l.held)) lines (came_each Q differ [] (record { lines = []; rest = [] }) later tt each));
+  first = λ set. first_asked P asked
+      (subst (IsFirstLine P)
       (ap (λ (b : Bool). (fold lines_with (record { lines = []; rest = [] }) (shown_once b [] later)).lines) (sym set) ∙ lines)
-      (first_shown k [] later still refl));
+      (first_shown P [] later all refl));
 }
+
+-- If the same is held while they come, they are answered with all of it, or all but the records.
+pub shows_once : (k : Meaning) (differ : Bool) (later : List Came) (asked : List HaveAndHeld) → IsStill k later
+    → (fold lines_with (record { lines = []; rest = [] }) (shown_once differ [] later)).lines ≡ map line_of_have asked
+    → Shows (IsShown k) (λ held. held ≡ k) differ asked
+shows_once k differ later asked still lines = shows (IsShown k) (λ held. held ≡ k) differ later asked (came_still k later still) still lines
 
 -- ---- haves and answers of this form
 
@@ -173,6 +192,10 @@ bare k valid = record {
   domains = tt;
   few_records = omega arith;
 }
+
+pub shown_means : (records : AnswerRecords) (k : Meaning) → IsMeaning k → IsMeaning (answered_from records k)
+shown_means All k valid = valid
+shown_means LeftOut k valid = bare k valid
 
 pub shown_forms : (k : Meaning) (asked : List HaveAndHeld) → IsMeaning k → AreShown k asked → AllByRecursion IsOwnHave asked
     → AllByRecursion IsGive (gives_each asked)

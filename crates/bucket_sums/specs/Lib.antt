@@ -11,4 +11,5 @@ pub mod Asking
 pub mod Quiet
 pub mod QuietPulls
 pub mod QuietRuns
+pub mod Changing
 pub mod Inside

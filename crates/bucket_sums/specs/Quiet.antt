@@ -9,8 +9,10 @@ use Rattle.replica_core.specs.declared.error.SyncError.{SyncError}
 use Rattle.replica_core.specs.declared.error.SyncError.TheVariants.{NoMemory}
 use Rattle.replica_texts.specs.Snapshots.{text_of_lines}
 use Rattle.replica_texts.specs.SoleLines.{written_header}
+use Rattle.byte_lines.specs.Lines.{HasNoFeed}
 use Rattle.replica_sync.specs.Pieces.{kept_part}
-use Rattle.replica_sync.specs.ServedPieces.{Came, HasServedPieces, IsStill, bytes_came, due_give}
+use Rattle.replica_sync.specs.PullSessions.{EndsInFeed}
+use Rattle.replica_sync.specs.ServedPieces.{Came, HasServedPieces, bytes_came, due_give}
 use Rattle.replica_sync.specs.ServedPieces.{fault_of_serving, kept_have, records_answered}
 use Rattle.replica_sync.specs.declared.line_part.LinePart.{LinePart}
 use Rattle.replica_sync.specs.declared.answer_records.AnswerRecords.TheVariants.{All}
@@ -73,12 +75,23 @@ pub record IsOpening (part : LinePart) (haves : Serving) (due : List ℕ) (came 
   pub none : written ≡ []
   pub none_due : due ≡ []
 
+-- The first line of what came ended while this was held: a piece that was given then ends in the
+-- first line feed.
+pub record EndsFirstLine (came : List Came) (held : Meaning) : Type 0 where
+  pub before : List Came
+  pub last : Came
+  pub later : List Came
+  pub order : came ≡ before ++ last ∷ later
+  pub none : HasNoFeed (bytes_came before)
+  pub feed : EndsInFeed last.bytes
+  pub was : last.held ≡ held
+
 -- The question is being asked. Its sums are compared with those of what was held when its first
 -- line ended.
 pub record IsAsking (config : Configuration) (question : SumsServing) (haves : Serving)
     (due : List ℕ) (came : List Came) (written : List ℕ) : Type 0 where
   pub held : Meaning
-  pub was : (m : Meaning) → IsStill m came → held ≡ m
+  pub was : EndsFirstLine came held
   pub sums : own_sums_of question ≡ sums_of (state_of held)
   pub takes : HasTakenQuestion config question (bytes_came came)
   pub sound : fault_of_question question ≡ None
@@ -105,12 +118,13 @@ pub record StopsOpening (config : Configuration) (haves : Serving) (due : List �
 
 -- ---- what follows it
 
--- What came first is this question, and it is answered by its marks against what was held. The
--- first mark says whether the records differ.
+-- What came first is this question, and it is answered by its marks against what was held when its
+-- first line ended, whatever changed before or after that. The first mark says whether the records
+-- differ.
 pub record AnswersQuestion (config : Configuration) (asked : List Came) (said : List ℕ)
     (differ : Bool) : Type 0 where
   pub held : Meaning
-  pub was : (m : Meaning) → IsStill m asked → held ≡ m
+  pub was : EndsFirstLine asked held
   pub lines : List (List ℕ)
   pub each : AllByRecursion IsSumLine lines
   pub all : length lines ≡ part_count

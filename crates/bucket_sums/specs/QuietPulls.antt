@@ -1,5 +1,5 @@
 -- A session in which a replica asks for sums, and then about the buckets that differ.
-use Rattle.std.specs.Prelude.{◌≡◌, ℕ, ◌⊎◌, Bool, List, [], ◌++◌, length, drop}
+use Rattle.std.specs.Prelude.{◌≡◌, ℕ, ◌⊎◌, Bool, List, [], ◌∷◌, ◌++◌, length, drop}
 use Rattle.std.specs.Prelude.{Option, None, Some}
 use Rattle.receipt_core.specs.Acceptance.{Meaning}
 use Rattle.replica_core.specs.Session.{state_of}
@@ -87,7 +87,15 @@ pub record StopsMarks (due : List ℕ) (start : Meaning) (came : List PulledPiec
 
 -- ---- what follows it
 
--- The marks came, and the buckets that differ are asked about, from what is held then.
+-- This is held after the last of the pieces.
+pub record EndsHolding (came : List PulledPiece) (held : Meaning) : Type 0 where
+  pub before : List PulledPiece
+  pub last : PulledPiece
+  pub order : came ≡ before ++ last ∷ []
+  pub was : last.new ≡ held
+
+-- The marks came, and the buckets that differ are asked about, from what is held when the last of
+-- these pieces came, whatever changed before that.
 pub record AsksMarked (pulling : Pulling) (start : Meaning) (came : List PulledPiece)
     (written : List ℕ) : Type 0 where
   pub asked : List PulledPiece
@@ -99,7 +107,7 @@ pub record AsksMarked (pulling : Pulling) (start : Meaning) (came : List PulledP
   pub bytes : bytes_pulled asked ≡ sums_answer start.config marks
   pub then : Meaning
   pub own : then.config ≡ start.config
-  pub was : (m : Meaning) → AreAlone start asked m → then ≡ m
+  pub was : EndsHolding asked then
   pub after : List ℕ
   pub parts : written ≡ sums_question start.config (sums_of (state_of start)) ++ after
   pub pulls : HasPulledAbout (Some (buckets_asked marks)) pulling then later after

@@ -1,11 +1,12 @@
 -- A question that comes in pieces.
-use Rattle.std.specs.Prelude.{◌≡◌, ℕ, ◌≤◌, Bool, false, List, [], ◌++◌, length, Option, None}
-use Rattle.std.specs.Prelude.{Some, Result, Ok, Err, take}
+use Rattle.std.specs.Prelude.{◌≡◌, ℕ, ◌<◌, ◌≤◌, ◌⊎◌, Bool, false, List, [], ◌++◌, length}
+use Rattle.std.specs.Prelude.{Option, None, Some, Result, Ok, Err, take}
 use Rattle.std.specs.List.{AllByRecursion}
 use Rattle.fed_config.specs.Configuration.{Configuration}
 use Rattle.replica_core.specs.declared.error.SyncError.{SyncError}
 use Rattle.replica_texts.specs.Snapshots.{text_of_lines}
 use Rattle.replica_sync.specs.Pieces.{kept_part}
+use Rattle.replica_sync.specs.PullSessions.{EndsInFeed}
 use Rattle.bucket_sums.specs.Lines.{IsSumLine, differences, part_count}
 use Rattle.bucket_sums.specs.Questions.{StopsAtLine, headed}
 use Rattle.bucket_sums.specs.declared.question_lines.QuestionLines.{QuestionLines}
@@ -47,6 +48,11 @@ TakesQuestion (Some e) config question kept came = StopsAtLine IsSumLine config 
 abbrev pub HasTakenQuestion : Configuration → SumsServing → List ℕ → Type 0
 HasTakenQuestion config serving came = TakesQuestion (fault_of_question serving) config
     serving.question (kept_part serving.part) came
+
+-- This many bytes of the piece are taken: all of them; or those up to the end of a line, so some;
+-- or no more, since it has come to this.
+abbrev pub TakesToLine : Type 0 → List ℕ → ℕ → Type 0
+TakesToLine Ended piece used = used < length piece → EndsInFeed (take used piece) ⊎ Ended
 
 -- the bytes that a call took; or all of the piece, if it failed
 abbrev pub bytes_taken : List ℕ → Result ℕ SyncError → List ℕ

@@ -1,13 +1,21 @@
 //! What is so of all sums. A call that needs a law calls its function, which does nothing, and
 //! cites what it ensures.
 ghost use Rattle.std.specs.Prelude.{◌≡◌, ◌+◌, ◌++◌, ◌<◌, ◌≤◌, ℕ, Bool, List, [], None, Some, true};
-ghost use Rattle.std.specs.Prelude.{false, length, slice_index_or, Contains};
+ghost use Rattle.std.specs.Prelude.{false, length, slice_get, slice_index_or, Contains};
 ghost use Rattle.fed_config.specs.Configuration.{Configuration, config_id_of};
 ghost use Rattle.std.specs.List.{AllByRecursion};
 ghost use Rattle.receipt_core.specs.Receipt.{IsDigest, Receipt, receipt_id_of};
-ghost use Rattle.replica_core.specs.State.{State, ids_held, joined};
+ghost use Rattle.replica_core.specs.Convergence.{Comparison, HasAll, Peers, SumsCourse, asker_held};
+ghost use Rattle.replica_core.specs.Convergence.{answerer_held, at_sums};
+ghost use Rattle.replica_core.specs.State.{State, ids_held, joined, limits_of};
+ghost use Rattle.replica_core.specs.World.{Rules, World, apply, give_sent, happens, have_sent};
+ghost use Rattle.replica_core.specs.World.{rules_of, sends};
+ghost use Rattle.replica_core.specs.declared.event.Event.{Event};
+ghost use Rattle.replica_core.specs.declared.event.Event.TheVariants.{AnswerReceipts};
 ghost use Rattle.receipt_core.specs.Acceptance.{Meaning, IsMeaning};
-ghost use Rattle.replica_core.specs.Session.{state_of};
+ghost use Rattle.replica_core.specs.Session.{HaveMessage, give_of, state_of};
+ghost use Rattle.replica_sync.specs.AnsweredFrom.{answered_from};
+ghost use Rattle.replica_sync.specs.declared.answer_records.AnswerRecords.TheVariants.{LeftOut};
 ghost use Rattle.replica_sync.specs.PulledPieces.{AreAlone, PulledPiece, bytes_pulled};
 ghost use Rattle.replica_sync.specs.Pulling.{HasDistinctIds};
 ghost use Rattle.replica_sync.specs.PullSessions.{HasPulledAbout, IsOverPulling, due_have};
@@ -19,6 +27,7 @@ ghost use Rattle.replica_sync.specs.SessionRun.{known_run};
 ghost use Rattle.replica_sync.specs.declared.piece_pulling.Pulling.{Pulling};
 ghost use Rattle.replica_sync.specs.declared.piece_serving.Serving.{Serving};
 ghost use Rattle.replica_texts.specs.SoleLines.{written_header};
+ghost use Rattle.bucket_sums.specs.Changing.{AsksMarkedParts, HoldsNoLess, IsPieceOf, OnlyGrows};
 ghost use Rattle.bucket_sums.specs.Keeping.{AreKeptSums, HasGrown};
 ghost use Rattle.bucket_sums.specs.declared.kept_sums.KeptSums.{KeptSums};
 ghost use Rattle.bucket_sums.specs.Lines.{part_count};
@@ -84,11 +93,25 @@ pub fn quiet_sessions()
 /// and `said` what the other wrote to its question; `replied` is what it wrote to the haves, of
 /// which the first answer has the records if they differ, and no other has any.
 ///
-/// - `marks`: the marks that the asker got are those of what both hold.
+/// - `compared`: whatever changes at either while it lasts, the marks that the asker got are those
+///   of what it held when it began, and of what the other held when the question's first line ended.
+/// - `marks`: so they are those of what both hold, if nothing changes at the other meanwhile.
+/// - `brings`: whatever else either of both takes meanwhile, after the session the asker holds each
+///   receipt of each bucket that the other held when the question's first line ended, or one with
+///   its id, and each record: if neither loses what it holds, and no two lists of what was compared
+///   have one SHA-256.
 /// - `joins`: after the session the asker holds what it held joined with what the other held, and
 ///   nothing else: if no two lists of what both hold have one SHA-256, no two receipts of both have
 ///   one id, and nothing else changes what is held.
 pub fn both_sides()
+    ensures compared { (p : Pulling) (m : Meaning) (config : Configuration)
+        (came : List PulledPiece) (asked : List Came) (written said rest left more : List ℕ)
+        (differ : Bool) → config_id_of m.config ≡ config_id_of config
+        → (marked : AsksMarked p m came written)
+        → (question : AnswersQuestion config asked said differ)
+        → bytes_came asked ++ rest ≡ written
+        → bytes_pulled marked.asked ++ left ≡ said ++ more
+        → marked.marks ≡ marks_between (state_of m) (state_of question.held) }
     ensures marks { (p : Pulling) (m k : Meaning) (config : Configuration) (came : List PulledPiece)
         (asked : List Came) (written said rest left more : List ℕ) (differ : Bool)
         → config_id_of m.config ≡ config_id_of config → (marked : AsksMarked p m came written)
@@ -96,6 +119,20 @@ pub fn both_sides()
         → bytes_came asked ++ rest ≡ written
         → bytes_pulled marked.asked ++ left ≡ said ++ more
         → marked.marks ≡ marks_between (state_of m) (state_of k) }
+    ensures brings { (p : Pulling) (s : Serving) (m held : Meaning) (config : Configuration)
+        (came : List PulledPiece) (asked later : List Came) (written said replied left : List ℕ)
+        (differ : Bool) (bucket : ℕ)
+        → config_id_of m.config ≡ config_id_of config
+        → (marked : AsksMarked p m came written) → OnlyGrows m came held
+        → AllByRecursion (IsPieceOf m.config) came
+        → fault_of_pulling p ≡ None → IsOverPulling p → due_have p ≡ []
+        → (question : AnswersQuestion config asked said differ)
+        → AllByRecursion (HoldsNoLess config question.held) later
+        → HasDistinctSums (state_of m) (state_of question.held)
+        → HasServedPieces s (shown_once differ [] later) replied → fault_of_serving s ≡ None
+        → kept_have s ≡ [] → due_give s ≡ [] → bytes_came (asked ++ later) ≡ written
+        → bytes_pulled came ++ left ≡ said ++ replied
+        → HasAll bucket (state_of question.held) (state_of held) }
     ensures joins { (p : Pulling) (s : Serving) (m k held : Meaning) (came : List PulledPiece)
         (asked later : List Came) (written said replied left : List ℕ) (differ : Bool)
         → IsMeaning m → IsMeaning k → IsMeaning held
@@ -109,6 +146,38 @@ pub fn both_sides()
         → kept_have s ≡ [] → due_give s ≡ [] → bytes_came (asked ++ later) ≡ written
         → bytes_pulled came ++ left ≡ said ++ replied
         → state_of held ≡ joined (state_of m) (state_of k) }
+{}
+
+/// Sessions that begin with sums are part of what happens in a world of replicas, of which
+/// `replica_core::laws` speaks, whatever else happens there before, between and after their events.
+///
+/// - `course`: the question is the event of asking by sums, when the session begins. Its answer is
+///   that of comparing them, when the question's first line ends. With an exchange about each
+///   bucket that the marks ask about, of which the first has the records if they are marked, these
+///   are a course by sums: if no two lists of what was compared have one SHA-256.
+/// - `receipts`: what is answered to a have with the records left out is what a replica sends in
+///   the world by answering without them.
+pub fn world_of_sums()
+    ensures course { (p : Pulling) (m : Meaning) (config : Configuration) (came : List PulledPiece)
+        (asked : List Came) (written said rest left more : List ℕ) (differ : Bool) (rules : Rules)
+        (start : World) (peers : Peers) (events : List Event) (c : Comparison peers events)
+        → config_id_of m.config ≡ config_id_of config
+        → (marked : AsksMarked p m came written)
+        → (question : AnswersQuestion config asked said differ)
+        → bytes_came asked ++ rest ≡ written
+        → bytes_pulled marked.asked ++ left ≡ said ++ more
+        → HasDistinctSums (state_of m) (state_of question.held)
+        → asker_held rules start c ≡ state_of m
+        → answerer_held rules start c ≡ state_of question.held
+        → c.place ≡ length (at_sums rules start c).sent
+        → AsksMarkedParts rules start c marked.marks
+        → SumsCourse rules start peers events }
+    ensures receipts { (k : Meaning) (have : HaveMessage) (n j asker place : ℕ) (w : World)
+        → j < n → w.now j ≡ state_of k
+        → slice_get w.sent place ≡ Some (have_sent asker have.bucket have.ids)
+        → happens (rules_of k.config n) w (AnswerReceipts j place)
+        ≡ apply (limits_of k.config) w
+        (sends (give_sent j place (give_of (answered_from LeftOut k) have).content)) }
 {}
 
 /// Whatever the marks are that the other side writes, at most one have for each bucket is asked:

@@ -3,10 +3,13 @@ ghost use Rattle.std.specs.Prelude.{◌≡◌, ◌≤◌, ◌<◌, ◌++◌, ◌
 ghost use Rattle.std.specs.Prelude.{IfOk, IfErr, IsTrue, OnOk, MatchResult, Some, drop, length};
 ghost use Rattle.std.specs.Prelude.{take, vec_len};
 ghost use Rattle.receipt_core.specs.Acceptance.{Meaning};
-ghost use Rattle.replica_core.specs.Session.{state_of};
+ghost use Rattle.replica_core.specs.Session.{have_of, state_of};
 ghost use Rattle.replica_core.specs.declared.error.SyncError.TheVariants.{NoMemory};
 ghost use Rattle.replica_sync.specs.PulledPieces.{JournalsAll, PulledPiece, bytes_read};
+ghost use Rattle.replica_texts.specs.Messages.{have_text};
 ghost use Rattle.bucket_sums.specs.Keeping.{AreKeptSums};
+ghost use Rattle.bucket_sums.specs.Questions.{sums_question as question_of};
+ghost use Rattle.bucket_sums.specs.Sums.{sums_of};
 
 use crate::kept_sums::KeptSums;
 use crate::sums_asking::{SumsAsking, sums_question};
@@ -45,9 +48,10 @@ impl QuietPulling {
     ghost use Rattle.bucket_sums.specs.Quiet.{fault_in};
     ghost use Rattle.bucket_sums.specs.QuietPulls.{IsUnanswered, count_of_quiet, due_asked};
     ghost use Rattle.bucket_sums.specs.QuietPulls.{fault_of_asked};
+    ghost use Rattle.bucket_sums.specs.Serving.{TakesToLine};
     ghost use Rattle.replica_core.specs.declared.error.SyncError.TheVariants.{Truncated};
 
-    /// The beginning of a session that asks for sums first.
+    /// The beginning of a session that asks for sums first: the question is to be written.
     ///
     /// # Errors
     /// [`SyncError::NoMemory`]: memory ran out.
@@ -58,6 +62,10 @@ impl QuietPulling {
     ) -> Result<QuietPulling, SyncError>
         ensures ok { IfOk result (λ p. AreKeptSums kept.old (state_of (C.state closure.now).meaning)
             → HasPulledQuietly p (C.state closure.now).meaning [] []) }
+        ensures asks { IfOk result
+            (λ p. AreKeptSums kept.old (state_of (C.state closure.now).meaning)
+            → due_asked p ≡ question_of (C.state closure.now).meaning.config
+            (sums_of (state_of (C.state closure.now).meaning))) }
         ensures kept { AreKeptSums kept.old (state_of (C.state closure.now).meaning)
             → AreKeptSums kept.new (state_of (C.state closure.now).meaning) }
         ensures refused { IfErr result (λ e. e ≡ NoMemory) }
@@ -72,12 +80,14 @@ impl QuietPulling {
     }
 
     /// The beginning of a session that asks about each bucket, and for no sums: for a peer that
-    /// does not know them.
+    /// does not know them. The have about the first bucket is to be written.
     ///
     /// # Errors
     /// [`SyncError::NoMemory`]: memory ran out.
     pub fn without_sums<C: Closure>(alloc: Global, closure: &C) -> Result<QuietPulling, SyncError>
         ensures ok { IfOk result (λ p. HasPulledQuietly p (C.state closure.now).meaning [] []) }
+        ensures asks { IfOk result
+            (λ p. due_asked p ≡ have_text (have_of (C.state closure.now).meaning 0)) }
         ensures refused { IfErr result (λ e. e ≡ NoMemory) }
     {
         Ok(QuietPulling {
@@ -113,6 +123,8 @@ impl QuietPulling {
         ensures journals { JournalsAll (C.state closure.old).meaning (C.state closure.new).meaning
             journal.old.items journal.new.items }
         ensures within { IfOk result (λ used. used ≤ length piece.now) }
+        ensures taken { IfOk result (TakesToLine
+            ((0 < length (due_asked self.new)) ⊎ IsOverQuietly self.new) piece.now) }
         ensures fault { MatchResult result (λ _. fault_of_asked self.new ≡ None)
             (λ e. fault_of_asked self.new ≡ Some e) }
     {
@@ -144,6 +156,8 @@ impl QuietPulling {
         ensures journals { JournalsAll (C.state closure.old).meaning (C.state closure.new).meaning
             journal.old.items journal.new.items }
         ensures within { IfOk result (λ used. used ≤ length piece.now) }
+        ensures taken { IfOk result (TakesToLine
+            ((0 < length (due_asked self.new)) ⊎ IsOverQuietly self.new) piece.now) }
         ensures fault { self.new.fault ≡ self.old.fault }
     {
         let is_asked = self.written == self.question.len();

@@ -53,6 +53,7 @@ pub struct QuietServing {
 impl QuietServing {
     ghost use Rattle.bucket_sums.specs.Quiet.{HasServedQuietly, ServesQuietly, due_marks};
     ghost use Rattle.bucket_sums.specs.Quiet.{IsBetween, due_quiet, fault_in, fault_of_quiet};
+    ghost use Rattle.bucket_sums.specs.Serving.{TakesToLine};
     ghost use Rattle.replica_sync.specs.ServedPieces.{fault_of_serving};
     ghost use Rattle.replica_core.specs.declared.error.SyncError.TheVariants.{Truncated};
 
@@ -70,8 +71,8 @@ impl QuietServing {
     }
 
     /// Takes the next bytes of the stream, up to the end of the question or of a have at most, and
-    /// returns how many were taken. It takes all of them, unless there is something to be written
-    /// then. The others are to be given again once that is written.
+    /// returns how many were taken: all of them, or those up to the end of a line. It takes none
+    /// while there is something to be written. The others are to be given again.
     ///
     /// # Errors
     /// What is due may still be written, and nothing else ever is. Each later call returns the same
@@ -94,6 +95,8 @@ impl QuietServing {
         ensures kept { AreKeptSums kept.old (state_of (C.state closure.now).meaning)
             → AreKeptSums kept.new (state_of (C.state closure.now).meaning) }
         ensures within { IfOk result (λ used. used ≤ length piece.now) }
+        ensures taken { IfOk result (TakesToLine (0 < length (due_quiet self.new)) piece.now) }
+        ensures waits { 0 < length (due_quiet self.old) → self.new ≡ self.old }
         ensures fault { MatchResult result (λ _. fault_of_quiet self.new ≡ None)
             (λ e. fault_of_quiet self.new ≡ Some e) }
     {
@@ -130,6 +133,7 @@ impl QuietServing {
         ensures kept { AreKeptSums kept.old (state_of (C.state closure.now).meaning)
             → AreKeptSums kept.new (state_of (C.state closure.now).meaning) }
         ensures within { IfOk result (λ used. used ≤ length piece.now) }
+        ensures taken { IfOk result (TakesToLine (0 < length (due_quiet self.new)) piece.now) }
         ensures fault { self.new.fault ≡ self.old.fault }
     {
         let config = closure.config();

@@ -40,7 +40,7 @@ pub struct SumsAsking {
 
 impl SumsAsking {
     ghost use Rattle.bucket_sums.specs.Asking.{HasTakenAnswer, fault_of_answer, marks_answered};
-    ghost use Rattle.bucket_sums.specs.Serving.{bytes_taken};
+    ghost use Rattle.bucket_sums.specs.Serving.{TakesToLine, bytes_taken};
     ghost use Rattle.bucket_sums.specs.Inside.AnswerSteps.{FailsAnswer, StepsAnswer};
 
     /// Before the first byte of the answer.
@@ -57,7 +57,8 @@ impl SumsAsking {
     }
 
     /// Takes the next bytes of the answer, up to the end of a line at most, and returns how many
-    /// were taken. After the answer's last line it takes none.
+    /// were taken: all, or those up to the end of a line. After the answer's last line it takes
+    /// none.
     ///
     /// # Errors
     /// Each later call returns the same error. The first of these that holds:
@@ -71,6 +72,7 @@ impl SumsAsking {
         ensures takes { (came : List ℕ) → HasTakenAnswer config.now self.old came
             → HasTakenAnswer config.now self.new (came ++ bytes_taken piece.now result) }
         ensures within { IfOk result (λ used. used ≤ length piece.now) }
+        ensures taken { IfOk result (TakesToLine (marks_answered self.new ≡ None → ⊥) piece.now) }
         ensures fault { MatchResult result (λ _. fault_of_answer self.new ≡ None)
             (λ e. fault_of_answer self.new ≡ Some e) }
     {

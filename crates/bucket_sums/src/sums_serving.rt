@@ -1,5 +1,5 @@
 //! A question that comes in pieces, and the answer to it.
-ghost use Rattle.std.specs.Prelude.{◌≡◌, ◌↔◌, ◌≤◌, ◌⊎◌, ◌++◌, [], List, ℕ, None, Some, length};
+ghost use Rattle.std.specs.Prelude.{◌≡◌, ◌↔◌, ◌<◌, ◌≤◌, ◌⊎◌, ◌++◌, [], List, ℕ, None, Some, length};
 ghost use Rattle.std.specs.Prelude.{IsTrue, IfOk, IfErr, OnOk, MatchResult, slice_index_or, true};
 ghost use Rattle.fed_config.specs.Configuration.{Configuration};
 ghost use Rattle.replica_core.specs.declared.error.SyncError.TheVariants.{Truncated};
@@ -32,6 +32,7 @@ pub struct SumsServing {
 
 impl SumsServing {
     ghost use Rattle.bucket_sums.specs.Serving.{HasAsked, HasTakenQuestion, bytes_taken};
+    ghost use Rattle.bucket_sums.specs.Serving.{TakesToLine};
     ghost use Rattle.bucket_sums.specs.Serving.{fault_of_question, marks_made, own_sums_of};
     ghost use Rattle.bucket_sums.specs.Inside.QuestionSteps.{FailsQuestion, StepsQuestion};
 
@@ -62,7 +63,8 @@ impl SumsServing {
     }
 
     /// Takes the next bytes of the question, up to the end of a line at most, and returns how many
-    /// were taken. After the question's last line it takes none.
+    /// were taken: all, or those up to the end of a line. After the question's last line it takes
+    /// none.
     ///
     /// # Errors
     /// Each later call returns the same error. The first of these that holds:
@@ -76,6 +78,7 @@ impl SumsServing {
         ensures takes { (came : List ℕ) → HasTakenQuestion config.now self.old came
             → HasTakenQuestion config.now self.new (came ++ bytes_taken piece.now result) }
         ensures within { IfOk result (λ used. used ≤ length piece.now) }
+        ensures taken { IfOk result (TakesToLine (HasAsked self.new) piece.now) }
         ensures own { own_sums_of self.new ≡ own_sums_of self.old }
         ensures fault { MatchResult result (λ _. fault_of_question self.new ≡ None)
             (λ e. fault_of_question self.new ≡ Some e) }
@@ -96,7 +99,7 @@ impl SumsServing {
     }
 
     /// Takes the next bytes of the question, up to its end at most, and returns how many were
-    /// taken.
+    /// taken: all, or those up to its end.
     ///
     /// # Errors
     /// Those of [`SumsServing::read`].
@@ -109,6 +112,7 @@ impl SumsServing {
         ensures takes { (came : List ℕ) → HasTakenQuestion config.now self.old came
             → HasTakenQuestion config.now self.new (came ++ bytes_taken piece.now result) }
         ensures within { IfOk result (λ used. used ≤ length piece.now) }
+        ensures taken { IfOk result (λ used. used < length piece.now → HasAsked self.new) }
         ensures own { own_sums_of self.new ≡ own_sums_of self.old }
         ensures fault { MatchResult result (λ _. fault_of_question self.new ≡ None)
             (λ e. fault_of_question self.new ≡ Some e) }

@@ -42,7 +42,7 @@ pub fn one_text()
     bundle_view::laws::one_view();
 }
 
-/// Replicas of one world that each took, in quiet, the whole answers of all others have one report.
+/// Replicas of one world that each pulled, in quiet, from each other one have one report.
 pub fn settled_reports()
     ensures { (past : WorldRun) (since : List Event) (i j : ℕ) (s t : List ℕ)
         → AreEvents past.events → i < past.replicas → j < past.replicas

@@ -8,7 +8,9 @@ use Rattle.replica_core.specs.World.{Message, have_sent, give_sent, World, Rules
 use Rattle.replica_core.specs.World.{takes_whole, takes_part, effect_of, at_replica, gained, apply, happens, run_from, is_replica}
 use Rattle.replica_core.specs.Convergence.{IsPartOf, Lacks}
 use Rattle.replica_core.specs.declared.event.Event.{Event}
+use Rattle.replica_core.specs.World.{sums_sent, marks_sent, sends_marks, without_records}
 use Rattle.replica_core.specs.declared.event.Event.TheVariants.{Take, Revoke, Ask, Answer, Absorb, Part, Join, Save, Restart}
+use Rattle.replica_core.specs.declared.event.Event.TheVariants.{AnswerReceipts, AskSums, AnswerSums}
 use Rattle.replica_core.proofs.ContainsFacts.{contains-here, contains-later, get-kept}
 use Rattle.replica_core.proofs.JoinLawFacts.{Laws}
 use Rattle.fed_config.specs.declared.limits.Limits.{Limits}
@@ -70,21 +72,36 @@ covered-sends_give : (P : Effect → Type 0) (state : State) (j k : ℕ) (found 
 covered-sends_give P state j k None n h = n
 covered-sends_give P state j k (Some (have_sent asker bucket ids)) n h = h _
 covered-sends_give P state j k (Some (give_sent answerer place content)) n h = n
+covered-sends_give P state j k (Some (sums_sent asker)) n h = n
+covered-sends_give P state j k (Some (marks_sent answerer place)) n h = n
+
+-- The effects of an answer to sums.
+covered-sends_marks : (P : Effect → Type 0) (j k : ℕ) (found : Option Message) → P nothing
+    → ((message : Message) → P (sends message)) → P (sends_marks j k found)
+covered-sends_marks P j k None n h = n
+covered-sends_marks P j k (Some (have_sent asker bucket ids)) n h = n
+covered-sends_marks P j k (Some (give_sent answerer place content)) n h = n
+covered-sends_marks P j k (Some (sums_sent asker)) n h = h _
+covered-sends_marks P j k (Some (marks_sent answerer place)) n h = n
 
 -- The effects of taking a whole answer.
 covered-whole : (P : Effect → Type 0) (j : ℕ) (found : Option Message) → P nothing → ((gain : State) → P (gains j gain)) → P (takes_whole j found)
 covered-whole P j None n h = n
 covered-whole P j (Some (have_sent asker bucket ids)) n h = n
 covered-whole P j (Some (give_sent answerer place content)) n h = h content
+covered-whole P j (Some (sums_sent asker)) n h = n
+covered-whole P j (Some (marks_sent answerer place)) n h = n
 
 -- The effects of taking part of an answer.
 covered-part : (P : Effect → Type 0) (j m : ℕ) (found : Option Message) → P nothing → ((gain : State) → P (gains j gain)) → P (takes_part j m found)
 covered-part P j m None n h = n
 covered-part P j m (Some (have_sent asker bucket ids)) n h = n
 covered-part P j m (Some (give_sent answerer place content)) n h = h (first_of m content)
+covered-part P j m (Some (sums_sent asker)) n h = n
+covered-part P j m (Some (marks_sent answerer place)) n h = n
 
 -- What is so of every effect that an event can have is so of the one that it has: so proofs go over
--- five kinds of effect and not over nine kinds of event.
+-- five kinds of effect and not over each kind of event.
 pub covered : (rules : Rules) (w : World) (event : Event) (P : Effect → Type 0) → Covers rules event P → P (effect_of rules w event)
 covered rules w (Take k r) P c =
     covered-where P (is_replica rules k && rules.fits r) _ c.idle (λ e. c.more k _ (and_parts (is_replica rules k) (rules.fits r) e).0)
@@ -92,6 +109,10 @@ covered rules w (Revoke k x) P c =
     covered-where P (is_replica rules k && rules.knows x.domain) _ c.idle (λ e. c.more k _ (and_parts (is_replica rules k) (rules.knows x.domain) e).0)
 covered rules w (Ask k b) P c = covered-where P (is_replica rules k && nat_le b 255) _ c.idle (λ e. c.stated _)
 covered rules w (Answer k n) P c = covered-where P (is_replica rules k) _ c.idle (λ e. covered-sends_give P (w.now k) k n (slice_get w.sent n) c.idle c.stated)
+covered rules w (AnswerReceipts k n) P c =
+    covered-where P (is_replica rules k) _ c.idle (λ e. covered-sends_give P (without_records (w.now k)) k n (slice_get w.sent n) c.idle c.stated)
+covered rules w (AskSums k) P c = covered-where P (is_replica rules k) _ c.idle (λ e. c.stated _)
+covered rules w (AnswerSums k n) P c = covered-where P (is_replica rules k) _ c.idle (λ e. covered-sends_marks P k n (slice_get w.sent n) c.idle c.stated)
 covered rules w (Absorb k n) P c = covered-where P (is_replica rules k) _ c.idle (λ e. covered-whole P k (slice_get w.sent n) c.idle (λ gain. c.more k gain e))
 covered rules w (Part k n m) P c = covered-where P (is_replica rules k) _ c.idle (λ e. covered-part P k m (slice_get w.sent n) c.idle (λ gain. c.more k gain e))
 covered rules w (Join k j) P c =

@@ -1,5 +1,5 @@
 -- What one exchange about a bucket gives.
-use Rattle.std.proofs.Common.{◌≡◌, ℕ, ◌<◌, ◌≤◌, inl, inr, Bool, true, ◌&&◌, nat_le, List, [], ◌∷◌, ◌++◌, length, map, Option}
+use Rattle.std.proofs.Common.{◌≡◌, ◌≢◌, ℕ, ◌<◌, ◌≤◌, inl, inr, Bool, true, false, ◌&&◌, nat_le, List, [], ◌∷◌, ◌++◌, length, map, Option}
 use Rattle.std.proofs.Common.{refl, sym, ap, ◌∙◌, subst, le-leb, eq-eqb}
 use Rattle.std.specs.Prelude.{Contains, filter, slice_get, Some, not, bytes_eq}
 use Rattle.std.specs.List.{AllByRecursion}
@@ -10,11 +10,14 @@ use Rattle.replica_core.specs.State.{State, id_cmp, joined, is_within_limits, bu
 use Rattle.replica_core.specs.State.{most_named, receipts_lacking}
 use Rattle.replica_core.specs.World.{Message, have_sent, give_sent, World, Rules, with_state, sends, where_so, sends_give}
 use Rattle.replica_core.specs.World.{takes_whole, gained, apply, happens, is_replica}
-use Rattle.replica_core.specs.Convergence.{Inquiry, IsInquiry, Exchange, at_have, at_give, at_taking, after_taking, HasAll, IsPartOf}
+use Rattle.replica_core.specs.World.{without_records}
+use Rattle.replica_core.specs.Convergence.{Inquiry, IsInquiry, ExchangeOf, at_have, at_give, at_taking, after_taking, HasAll, IsPartOf}
+use Rattle.replica_core.specs.Convergence.{answer_with, shown_with}
 use Rattle.replica_core.specs.declared.event.Event.{Event}
-use Rattle.replica_core.specs.declared.event.Event.TheVariants.{Ask, Answer, Absorb}
+use Rattle.replica_core.specs.declared.event.Event.TheVariants.{Ask, Answer, AnswerReceipts, Absorb, Restart}
 use Rattle.replica_core.proofs.ContainsFacts.{filter-from, filter-to, map-from, any-from, each-to, get-new, contains-none, take-from}
 use Rattle.replica_core.proofs.JoinLawFacts.{Laws, Keeps, joined-only}
+use Rattle.replica_core.proofs.KeptFacts.{keeps-without}
 use Rattle.replica_core.proofs.EventFacts.{at-here, part-trans, part-event, part-run, sent-stays, replica-true}
 
 -- ---- one event
@@ -41,6 +44,20 @@ answered-is rules w i j b k ids l e =
     ap (λ (t : Bool). apply rules.limits w (where_so t (sends_give (w.now j) j k (slice_get w.sent k)))) (replica-true rules j l)
     ∙ ap (λ (f : Option Message). apply rules.limits w (sends_give (w.now j) j k f)) e
 
+-- So does one that answers it without records.
+pub receipts-is : (rules : Rules) (w : World) (i j b k : ℕ) (ids : List (List ℕ)) → j < rules.replicas → slice_get w.sent k ≡ Some (have_sent i b ids)
+    → happens rules w (AnswerReceipts j k) ≡ with_message w (give_sent j k (content_of (without_records (w.now j)) b ids))
+receipts-is rules w i j b k ids l e =
+    ap (λ (t : Bool). apply rules.limits w (where_so t (sends_give (without_records (w.now j)) j k (slice_get w.sent k)))) (replica-true rules j l)
+    ∙ ap (λ (f : Option Message). apply rules.limits w (sends_give (without_records (w.now j)) j k f)) e
+
+-- The same of both kinds of answer.
+pub answered-with : (full : Bool) (rules : Rules) (w : World) (i j b k : ℕ) (ids : List (List ℕ)) → j < rules.replicas
+    → slice_get w.sent k ≡ Some (have_sent i b ids)
+    → happens rules w (answer_with full j k) ≡ with_message w (give_sent j k (content_of (shown_with full (w.now j)) b ids))
+answered-with true rules w i j b k ids l e = answered-is rules w i j b k ids l e
+answered-with false rules w i j b k ids l e = receipts-is rules w i j b k ids l e
+
 -- A replica that takes an answer within the limits joins its content.
 pub absorbed-is : (rules : Rules) (w : World) (i j n k : ℕ) (content : State) → i < rules.replicas → slice_get w.sent n ≡ Some (give_sent j k content)
     → is_within_limits rules.limits (joined (w.now i) content) ≡ true
@@ -57,10 +74,12 @@ asked-here rules w i b l m =
     ap (λ (v : World). slice_get v.sent (length w.sent)) (asked-is rules w i b l m) ∙ get-new w.sent (have_sent i b (ids_named (w.now i) b))
 
 -- The answer is at its place.
-answered-here : (rules : Rules) (w : World) (i j b k : ℕ) (ids : List (List ℕ)) → j < rules.replicas → slice_get w.sent k ≡ Some (have_sent i b ids)
-    → slice_get (happens rules w (Answer j k)).sent (length w.sent) ≡ Some (give_sent j k (content_of (w.now j) b ids))
-answered-here rules w i j b k ids l e =
-    ap (λ (v : World). slice_get v.sent (length w.sent)) (answered-is rules w i j b k ids l e) ∙ get-new w.sent (give_sent j k (content_of (w.now j) b ids))
+answered-here : (full : Bool) (rules : Rules) (w : World) (i j b k : ℕ) (ids : List (List ℕ)) → j < rules.replicas
+    → slice_get w.sent k ≡ Some (have_sent i b ids)
+    → slice_get (happens rules w (answer_with full j k)).sent (length w.sent) ≡ Some (give_sent j k (content_of (shown_with full (w.now j)) b ids))
+answered-here full rules w i j b k ids l e =
+    ap (λ (v : World). slice_get v.sent (length w.sent)) (answered-with full rules w i j b k ids l e)
+    ∙ get-new w.sent (give_sent j k (content_of (shown_with full (w.now j)) b ids))
 
 -- The taking of an answer within the limits joins its content.
 absorbed-here : (rules : Rules) (w : World) (i j n k : ℕ) (content : State) → i < rules.replicas → slice_get w.sent n ≡ Some (give_sent j k content)
@@ -70,6 +89,17 @@ absorbed-here rules w i j n k content l e t =
 
 -- ---- what an exchange gives
 
+-- a held id is that of a held receipt
+pub held-from : (state : State) (b : ℕ) (id : List ℕ) → Contains (ids_held state b) id
+    → (s : Receipt) × Contains state.held s × (receipt_id_of s ≡ id)
+held-from state b id held =
+    elim (joined-only id_cmp (map receipt_id_of (filter (is_of_bucket b) state.held)) [] id held) [
+      | inl c ↦
+          let source = map-from receipt_id_of (filter (is_of_bucket b) state.held) id c in
+          (source.0, (filter-from (is_of_bucket b) state.held source.0 source.1).0, source.2)
+      | inr c ↦ absurd (contains-none id c)
+    ]
+
 -- an id that a have names is that of a receipt that the asker held
 pub named-held : (state : State) (b : ℕ) (r : Receipt) → is_named (ids_named state b) r ≡ true
     → (s : Receipt) × Contains state.held s × (receipt_id_of s ≡ receipt_id_of r)
@@ -77,12 +107,8 @@ named-held state b r e =
     let found = any-from (λ id. bytes_eq id (receipt_id_of r)) (ids_named state b) e in
     let held = take-from most_named (ids_held state b) found.0 found.1 in
     let same : found.0 ≡ receipt_id_of r = (bytes_eq-Decides found.0 (receipt_id_of r)).0 found.2 in
-    elim (joined-only id_cmp (map receipt_id_of (filter (is_of_bucket b) state.held)) [] found.0 held) [
-      | inl c ↦
-          let source = map-from receipt_id_of (filter (is_of_bucket b) state.held) found.0 c in
-          (source.0, (filter-from (is_of_bucket b) state.held source.0 source.1).0, source.2 ∙ same)
-      | inr c ↦ absurd (contains-none found.0 c)
-    ]
+    let source = held-from state b found.0 held in
+    (source.0, source.1, source.2 ∙ same)
 
 -- whether the receipt is of the bucket and not among those that the asker named
 abbrev pub lacking : State → ℕ → Receipt → Bool
@@ -111,12 +137,23 @@ gives laws i b asking given before part forms own = record {
       (each-to IsDistrust before.records own.records) c;
 }
 
--- After the exchange the asker has what the answerer held of the bucket.
-pub exchange-gives : (laws : Laws) (rules : Rules) (start : World) (inquiry : Inquiry) (events : List Event) → IsInquiry rules.replicas inquiry
-    → (x : Exchange rules start inquiry events) → Keeps IsReceipt IsDistrust ((at_give rules start x.course).now inquiry.answerer)
+-- What is so of all that is held is so of what is shown of it.
+keeps-shown : (full : Bool) (state : State) → Keeps IsReceipt IsDistrust state → Keeps IsReceipt IsDistrust (shown_with full state)
+keeps-shown true state s = s
+keeps-shown false state s = keeps-without IsReceipt IsDistrust state s
+
+-- An answer is no restart.
+pub no-restart-with : (full : Bool) (i j k : ℕ) → answer_with full j k ≢ Restart i
+no-restart-with true i j k e = cc
+no-restart-with false i j k e = cc
+
+-- After the exchange the asker has what the answerer showed of the bucket.
+pub exchange-gives : (full : Bool) (laws : Laws) (rules : Rules) (start : World) (inquiry : Inquiry) (events : List Event)
+    → IsInquiry rules.replicas inquiry → (x : ExchangeOf full rules start inquiry events) → Keeps IsReceipt IsDistrust ((at_give rules start x.course).now inquiry.answerer)
     → Keeps IsReceipt IsDistrust ((at_taking rules start x.course).now inquiry.asker)
-    → HasAll inquiry.bucket ((at_give rules start x.course).now inquiry.answerer) ((after_taking rules start x.course).now inquiry.asker)
-exchange-gives laws rules start inquiry events is x forms own =
+    → HasAll inquiry.bucket (shown_with full ((at_give rules start x.course).now inquiry.answerer))
+    ((after_taking rules start x.course).now inquiry.asker)
+exchange-gives full laws rules start inquiry events is x forms own =
     let i = inquiry.asker in
     let j = inquiry.answerer in
     let b = inquiry.bucket in
@@ -128,23 +165,23 @@ exchange-gives laws rules start inquiry events is x forms own =
     (subst (λ k. slice_get (happens rules w (Ask i b)).sent k ≡ Some (have_sent i b (ids_named (w.now i) b))) (sym x.asked_at)
     (asked-here rules w i b is.asker is.bucket))
     in
-    let a : slice_get u.sent x.course.give_place ≡ Some (give_sent j x.course.have_place (content_of (v.now j) b (ids_named (w.now i) b))) =
-    sent-stays rules x.course.answered (happens rules v (Answer j x.course.have_place)) x.course.give_place
-    (give_sent j x.course.have_place (content_of (v.now j) b (ids_named (w.now i) b)))
-    (subst (λ k. slice_get (happens rules v (Answer j x.course.have_place)).sent k
-    ≡ Some (give_sent j x.course.have_place (content_of (v.now j) b (ids_named (w.now i) b)))) (sym x.answered_at)
-    (answered-here rules v i j b x.course.have_place (ids_named (w.now i) b) is.answerer q))
+    let a : slice_get u.sent x.course.give_place ≡ Some (give_sent j x.course.have_place (content_of (shown_with full (v.now j)) b (ids_named (w.now i) b))) =
+    sent-stays rules x.course.answered (happens rules v (answer_with full j x.course.have_place)) x.course.give_place
+    (give_sent j x.course.have_place (content_of (shown_with full (v.now j)) b (ids_named (w.now i) b)))
+    (subst (λ k. slice_get (happens rules v (answer_with full j x.course.have_place)).sent k
+    ≡ Some (give_sent j x.course.have_place (content_of (shown_with full (v.now j)) b (ids_named (w.now i) b)))) (sym x.answered_at)
+    (answered-here full rules v i j b x.course.have_place (ids_named (w.now i) b) is.answerer q))
     in
     let part : IsPartOf (w.now i) (u.now i) =
     part-trans (w.now i) (v.now i) (u.now i)
     (part-trans (w.now i) ((happens rules w (Ask i b)).now i) (v.now i) (part-event laws rules w i (Ask i b) (λ e. cc))
     (part-run laws rules i x.course.asked (happens rules w (Ask i b)) x.no_restart))
-    (part-trans (v.now i) ((happens rules v (Answer j x.course.have_place)).now i) (u.now i)
-    (part-event laws rules v i (Answer j x.course.have_place) (λ e. cc))
-    (part-run laws rules i x.course.answered (happens rules v (Answer j x.course.have_place)) x.none_later))
+    (part-trans (v.now i) ((happens rules v (answer_with full j x.course.have_place)).now i) (u.now i)
+    (part-event laws rules v i (answer_with full j x.course.have_place) (no-restart-with full i j x.course.have_place))
+    (part-run laws rules i x.course.answered (happens rules v (answer_with full j x.course.have_place)) x.none_later))
     in
-    subst (HasAll b (v.now j))
+    subst (HasAll b (shown_with full (v.now j)))
     (sym (absorbed-here rules u i j x.course.give_place x.course.have_place
-    (content_of (v.now j) b (ids_named (w.now i) b)) is.asker a
-    (x.whole (content_of (v.now j) b (ids_named (w.now i) b)) a)))
-    (gives laws i b (w.now i) (v.now j) (u.now i) part forms own)
+    (content_of (shown_with full (v.now j)) b (ids_named (w.now i) b)) is.asker a
+    (x.whole (content_of (shown_with full (v.now j)) b (ids_named (w.now i) b)) a)))
+    (gives laws i b (w.now i) (shown_with full (v.now j)) (u.now i) part (keeps-shown full (v.now j) forms) own)

@@ -1,6 +1,6 @@
 -- Ids that were gathered, then sorted and each kept once, are those that are held.
-use Rattle.std.proofs.Common.{◌≡◌, ◌∙◌, ℕ, inl, inr, Bool, List, [], ◌∷◌, ◌++◌, map, sym, ap, subst, append_assoc, bytes_eq}
-use Rattle.std.specs.Prelude.{Contains}
+use Rattle.std.proofs.Common.{◌≡◌, ◌∙◌, ℕ, inl, inr, Bool, List, [], ◌∷◌, ◌++◌, map, sym, ap, subst, append_assoc, bytes_eq, eq-eqb}
+use Rattle.std.specs.Prelude.{Contains, filter}
 use Rattle.std.specs.List.{AllByRecursion, dedup}
 use Rattle.std.specs.List.Sorted.{IsStrictlySortedBy, IsPermutation, IsSorted}
 use Rattle.std.specs.Cmp.Lexicographic.{on_texts, on_texts_equal, texts_ties}
@@ -14,8 +14,8 @@ use Rattle.receipt_core.specs.Receipt.{Receipt, receipt_id_of}
 use Rattle.receipt_core.specs.Rising.{with_items}
 use Rattle.receipt_core.specs.Sets.{AreSets, Always}
 use Rattle.receipt_core.proofs.RisingFacts.{AreSets-from_total}
-use Rattle.replica_core.specs.State.{id_cmp}
-use Rattle.replica_core.proofs.ContainsFacts.{contains-none, map-from, map-to}
+use Rattle.replica_core.specs.State.{State, id_cmp, ids_held, bucket_of_id, is_of_bucket}
+use Rattle.replica_core.proofs.ContainsFacts.{contains-none, filter-to, map-from, map-to}
 use Rattle.replica_core.proofs.HaveFacts.{bytes_of, bytes-rising, named_cmp}
 
 -- The step of the loop: one id more is gathered, and the others are still to come.
@@ -39,6 +39,14 @@ sets = AreSets-from_total Always id_cmp (on_texts (λ (t : List ℕ). t)) (λ a 
 always : (ids : List (List ℕ)) → AllByRecursion Always ids
 always [] = tt
 always (id ∷ ids) = (tt, always ids)
+
+-- The id of each receipt of the bucket is among the ids held.
+pub held-to : (state : State) (b : ℕ) (r : Receipt) → Contains state.held r → bucket_of_id r ≡ b → Contains (ids_held state b) (receipt_id_of r)
+held-to state b r c e =
+    let rs = filter (is_of_bucket b) state.held in
+    let ids = map receipt_id_of rs in
+    (sets.all_members ids [] (receipt_id_of r) (always ids) tt).1
+    (inl (map-to receipt_id_of rs r (filter-to (is_of_bucket b) state.held r c (eq-eqb (bucket_of_id r) b e))))
 
 -- The empty list of ids rises.
 none-rises : IsStrictlySortedBy id_cmp []

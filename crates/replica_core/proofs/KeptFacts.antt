@@ -8,7 +8,9 @@ use Rattle.replica_core.specs.State.{State, joined, is_within_limits, is_of_buck
 use Rattle.replica_core.specs.World.{Message, have_sent, give_sent, World, Rules, Effect, gains, sends, saves, restarts, where_so, sends_give, takes_whole}
 use Rattle.replica_core.specs.World.{takes_part, with_state, gained, apply, happens, run_from, is_replica}
 use Rattle.replica_core.specs.declared.event.Event.{Event}
+use Rattle.replica_core.specs.World.{sums_sent, marks_sent, without_records, sends_marks}
 use Rattle.replica_core.specs.declared.event.Event.TheVariants.{Take, Revoke, Ask, Answer, Absorb, Part, Join, Save, Restart}
+use Rattle.replica_core.specs.declared.event.Event.TheVariants.{AnswerReceipts, AskSums, AnswerSums}
 use Rattle.replica_core.proofs.ContainsFacts.{contains-here, contains-later, contains-cases, contains-none, filter-from, get-cases}
 use Rattle.replica_core.proofs.JoinLawFacts.{Laws, Keeps, keeps-joined, keeps-first}
 use Rattle.replica_core.proofs.EventFacts.{at-here}
@@ -18,6 +20,8 @@ use Rattle.fed_config.specs.declared.limits.Limits.{Limits}
 abbrev pub KeepsMessage : (Receipt → Type 0) → (Distrust → Type 0) → Message → Type 0
 KeepsMessage P Q (have_sent asker bucket ids) = ⊤
 KeepsMessage P Q (give_sent answerer place content) = Keeps P Q content
+KeepsMessage P Q (sums_sent asker) = ⊤
+KeepsMessage P Q (marks_sent answerer place) = ⊤
 
 -- All that is held has the properties, and so have the messages from a place on and, if A, what is
 -- saved.
@@ -33,6 +37,9 @@ Admits rules P Q place A (Take i r) = is_replica rules i ≡ true → rules.fits
 Admits rules P Q place A (Revoke i x) = is_replica rules i ≡ true → rules.knows x.domain ≡ true → Q x
 Admits rules P Q place A (Ask i b) = ⊤
 Admits rules P Q place A (Answer j k) = ⊤
+Admits rules P Q place A (AnswerReceipts j k) = ⊤
+Admits rules P Q place A (AskSums i) = ⊤
+Admits rules P Q place A (AnswerSums j k) = ⊤
 Admits rules P Q place A (Absorb i k) = place ≤ k
 Admits rules P Q place A (Part i k m) = place ≤ k
 Admits rules P Q place A (Join i j) = ⊤
@@ -122,6 +129,21 @@ kept-sends_give P Q place A limits w state j k (Some (have_sent asker bucket ids
       records = s.records;
     })
 kept-sends_give P Q place A limits w state j k (Some (give_sent answerer other content)) h s = h
+kept-sends_give P Q place A limits w state j k (Some (sums_sent asker)) h s = h
+kept-sends_give P Q place A limits w state j k (Some (marks_sent answerer other)) h s = h
+
+-- It remains so when a replica answers sums.
+kept-sends_marks : (P : Receipt → Type 0) (Q : Distrust → Type 0) (place : ℕ) (A : Type 0) (limits : Limits) (w : World) (j k : ℕ)
+    (message : Option Message) → IsKept P Q place A w → IsKept P Q place A (apply limits w (sends_marks j k message))
+kept-sends_marks P Q place A limits w j k None h = h
+kept-sends_marks P Q place A limits w j k (Some (have_sent asker bucket ids)) h = h
+kept-sends_marks P Q place A limits w j k (Some (give_sent answerer other content)) h = h
+kept-sends_marks P Q place A limits w j k (Some (sums_sent asker)) h = kept-sends P Q place A limits w (marks_sent j k) h tt
+kept-sends_marks P Q place A limits w j k (Some (marks_sent answerer other)) h = h
+
+-- What is so of all that is held is so of it without the records.
+pub keeps-without : (P : Receipt → Type 0) (Q : Distrust → Type 0) (state : State) → Keeps P Q state → Keeps P Q (without_records state)
+keeps-without P Q state s = record { receipts = s.receipts; records = λ x c. absurd (contains-none x c) }
 
 -- It remains so when a replica takes a whole answer that has the properties.
 kept-whole : (laws : Laws) (P : Receipt → Type 0) (Q : Distrust
@@ -132,6 +154,8 @@ kept-whole laws P Q place A limits w i None h s = h
 kept-whole laws P Q place A limits w i (Some (have_sent asker bucket ids)) h s = h
 kept-whole laws P Q place A limits w i (Some (give_sent answerer other content)) h s =
     kept-gains laws P Q place A limits w i content h (s (give_sent answerer other content) refl)
+kept-whole laws P Q place A limits w i (Some (sums_sent asker)) h s = h
+kept-whole laws P Q place A limits w i (Some (marks_sent answerer other)) h s = h
 
 -- It remains so when a replica takes part of an answer that has the properties.
 kept-part : (laws : Laws) (P : Receipt → Type 0) (Q : Distrust
@@ -142,6 +166,8 @@ kept-part laws P Q place A limits w i m None h s = h
 kept-part laws P Q place A limits w i m (Some (have_sent asker bucket ids)) h s = h
 kept-part laws P Q place A limits w i m (Some (give_sent answerer other content)) h s =
     kept-gains laws P Q place A limits w i (first_of m content) h (keeps-first P Q m content (s (give_sent answerer other content) refl))
+kept-part laws P Q place A limits w i m (Some (sums_sent asker)) h s = h
+kept-part laws P Q place A limits w i m (Some (marks_sent answerer other)) h s = h
 
 -- A state of one receipt has the properties if the receipt has.
 one-receipt : (P : Receipt → Type 0) (Q : Distrust → Type 0) (r : Receipt) → P r → Keeps P Q (record { held = r ∷ []; records = [] })
@@ -178,6 +204,14 @@ kept-event laws P Q place A rules w (Ask i b) h a =
 kept-event laws P Q place A rules w (Answer j k) h a =
     kept-where P Q place A (is_replica rules j) rules.limits w (sends_give (w.now j) j k (slice_get w.sent k)) h
     (λ e. kept-sends_give P Q place A rules.limits w (w.now j) j k (slice_get w.sent k) h (h.now j))
+kept-event laws P Q place A rules w (AnswerReceipts j k) h a =
+    kept-where P Q place A (is_replica rules j) rules.limits w (sends_give (without_records (w.now j)) j k (slice_get w.sent k)) h
+    (λ e. kept-sends_give P Q place A rules.limits w (without_records (w.now j)) j k (slice_get w.sent k) h (keeps-without P Q (w.now j) (h.now j)))
+kept-event laws P Q place A rules w (AskSums i) h a =
+    kept-where P Q place A (is_replica rules i) rules.limits w (sends (sums_sent i)) h (λ e. kept-sends P Q place A rules.limits w (sums_sent i) h tt)
+kept-event laws P Q place A rules w (AnswerSums j k) h a =
+    kept-where P Q place A (is_replica rules j) rules.limits w (sends_marks j k (slice_get w.sent k)) h
+    (λ e. kept-sends_marks P Q place A rules.limits w j k (slice_get w.sent k) h)
 kept-event laws P Q place A rules w (Absorb i k) h a =
     kept-where P Q place A (is_replica rules i) rules.limits w (takes_whole i (slice_get w.sent k)) h
     (λ e. kept-whole laws P Q place A rules.limits w i (slice_get w.sent k) h (λ m f. h.sent k m a f))

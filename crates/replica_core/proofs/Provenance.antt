@@ -11,6 +11,7 @@ use Rattle.replica_core.specs.World.{WorldRun, rules_in, world_after, held_by, s
 use Rattle.replica_core.specs.Convergence.{WasTaken, WasRevoked, ComesFrom, only_receipt, only_record}
 use Rattle.replica_core.specs.declared.event.Event.{Event}
 use Rattle.replica_core.specs.declared.event.Event.TheVariants.{Take, Revoke, Ask, Answer, Absorb, Part, Join, Save, Restart}
+use Rattle.replica_core.specs.declared.event.Event.TheVariants.{AnswerReceipts, AskSums, AnswerSums}
 use Rattle.replica_core.proofs.ContainsFacts.{contains-cases, contains-none}
 use Rattle.replica_core.proofs.JoinLawFacts.{Laws}
 use Rattle.replica_core.proofs.KeptFacts.{IsKept, kept-held, kept-where, kept-event}
@@ -100,6 +101,12 @@ event-sources laws past before after (Ask i b) order h =
     kept-event laws (WasTaken past) (WasRevoked past) 0 ⊤ (rules_in past) (run (rules_in past) before) (Ask i b) h tt
 event-sources laws past before after (Answer j k) order h =
     kept-event laws (WasTaken past) (WasRevoked past) 0 ⊤ (rules_in past) (run (rules_in past) before) (Answer j k) h tt
+event-sources laws past before after (AnswerReceipts j k) order h =
+    kept-event laws (WasTaken past) (WasRevoked past) 0 ⊤ (rules_in past) (run (rules_in past) before) (AnswerReceipts j k) h tt
+event-sources laws past before after (AskSums i) order h =
+    kept-event laws (WasTaken past) (WasRevoked past) 0 ⊤ (rules_in past) (run (rules_in past) before) (AskSums i) h tt
+event-sources laws past before after (AnswerSums j k) order h =
+    kept-event laws (WasTaken past) (WasRevoked past) 0 ⊤ (rules_in past) (run (rules_in past) before) (AnswerSums j k) h tt
 event-sources laws past before after (Absorb i k) order h =
     kept-event laws (WasTaken past) (WasRevoked past) 0 ⊤ (rules_in past) (run (rules_in past) before) (Absorb i k) h (omega arith)
 event-sources laws past before after (Part i k m) order h =

@@ -3,6 +3,7 @@ use Rattle.std.proofs.Common.{◌≡◌, ℕ, ◌-◌, ◌<◌, inl, inr, Bool, 
 use Rattle.std.proofs.Common.{map, take, get_or, refl, sym, ap, ◌∙◌, subst, arith}
 use Rattle.std.specs.Prelude.{slice_get, Option, Some, None, Ok, Err, Result, OnOk}
 use Rattle.std.specs.List.{AllByRecursion}
+use Rattle.std.specs.List.Sorted.{IsStrictlySortedBy}
 use Rattle.std.proofs.lemmas.Bool.{cases_Bool, cases_eq}
 use Rattle.std.proofs.lemmas.List.{map-append}
 use Rattle.std.proofs.lemmas.Result.{on_ok_weaker}
@@ -17,7 +18,9 @@ use Rattle.replica_core.specs.World.{Message, have_sent, give_sent, World, rules
 use Rattle.replica_core.specs.World.{takes_part, at_replica, gained, apply, happens, is_replica, is_fitting, is_known, AreOf, MeansState}
 use Rattle.replica_core.specs.Inside.ReplicasInMemory.{message_of, give_in_message, have_in_message, CanHold, CanHoldRecords, IsSound, Plays, MeansEvent}
 use Rattle.replica_core.specs.declared.event.Event.{Event}
+use Rattle.replica_core.specs.World.{sums_sent, marks_sent, without_records}
 use Rattle.replica_core.specs.declared.event.Event.TheVariants.{Take, Revoke, Answer, Absorb, Part, Join}
+use Rattle.replica_core.specs.declared.event.Event.TheVariants.{AnswerReceipts}
 use Rattle.replica_core.specs.declared.replicas_in_memory.MemoryReplicas.{MemoryReplicas}
 use Rattle.replica_core.specs.declared.message.Message.{Message as Sent}
 use Rattle.replica_core.proofs.EventFacts.{at-here, at-other, replica-true}
@@ -180,6 +183,8 @@ pub some-taken : (i : ℕ) (found : Option Message) (content : State) → give_i
 some-taken i None content e = absurd (let no : None ≡ Some content = e in cc)
 some-taken i (Some (have_sent asker bucket ids)) content e = absurd (let no : None ≡ Some content = e in cc)
 some-taken i (Some (give_sent answerer place other)) content e = ap (gains i) (let same : Some other ≡ Some content = e in cc)
+some-taken i (Some (sums_sent asker)) content e = absurd (let no : None ≡ Some content = e in cc)
+some-taken i (Some (marks_sent answerer place)) content e = absurd (let no : None ≡ Some content = e in cc)
 
 -- To take part of an answer is to gain the first entries of its content.
 pub some-parted : (i m : ℕ) (found : Option Message) (content : State) → give_in_message found ≡ Some content
@@ -187,6 +192,8 @@ pub some-parted : (i m : ℕ) (found : Option Message) (content : State) → giv
 some-parted i m None content e = absurd (let no : None ≡ Some content = e in cc)
 some-parted i m (Some (have_sent asker bucket ids)) content e = absurd (let no : None ≡ Some content = e in cc)
 some-parted i m (Some (give_sent answerer place other)) content e = ap (λ s. gains i (first_of m s)) (let same : Some other ≡ Some content = e in cc)
+some-parted i m (Some (sums_sent asker)) content e = absurd (let no : None ≡ Some content = e in cc)
+some-parted i m (Some (marks_sent answerer place)) content e = absurd (let no : None ≡ Some content = e in cc)
 
 -- ---- answers
 
@@ -198,6 +205,8 @@ replied state j k bucket ids (Some (have_sent asker b is)) e =
     let both : (b, is) ≡ (bucket, ids) = (let some : Some (b, is) ≡ Some (bucket, ids) = e in cc) in
     ap (λ (q : ℕ × List (List ℕ)). sends (give_sent j k (record { held = receipts_lacking state q.0 q.1; records = state.records }))) both
 replied state j k bucket ids (Some (give_sent answerer place content)) e = absurd (let no : None ≡ Some (bucket, ids) = e in cc)
+replied state j k bucket ids (Some (sums_sent asker)) e = absurd (let no : None ≡ Some (bucket, ids) = e in cc)
+replied state j k bucket ids (Some (marks_sent answerer place)) e = absurd (let no : None ≡ Some (bucket, ids) = e in cc)
 
 -- ---- events that gain what others hold or answered
 
@@ -219,6 +228,11 @@ join-gains config n w i j found more l f m =
           (sym (and-right (is_replica (rules_of config n) i) (is_replica (rules_of config n) j)
           (replica-true (rules_of config n) j l))),
     )
+
+-- No records can be held.
+no-records : (config : Configuration) → CanHoldRecords config []
+unfolding IsStrictlySortedBy
+no-records config = record { domains = tt; rising = tt; few = omega arith }
 
 -- What is gathered of a whole answer is what the event of taking it gains.
 pub absorb-gains : (config : Configuration) (n : ℕ) (w : World) (i k : ℕ) (content : State) (rs : List Receipt)
@@ -277,6 +291,24 @@ answer-follows meaning config n old new w i k m bucket ids stated l p e valid a 
     (sym (replied (w.now i) i k bucket ids (slice_get w.sent k) a))
     (plays-sends meaning config n old new w i stated (give_to_have i k bucket ids (w.now i)) l p held saved sent (says ∙ ap (give_to_have i k bucket ids) same)
     (subst (λ (s : State). IsSound config (give_to_have i k bucket ids s)) same (sound-give config m bucket ids (ap (λ (m : Meaning). m.config) e) valid)))
+
+-- The same after it answered without records.
+pub receipts-follow : {A : Type 0} (meaning : A → Meaning) (config : Configuration) (n : ℕ) (old new : MemoryReplicas A)
+    (w : World) (i k : ℕ) (m : Meaning) (bucket : ℕ) (ids : List (List ℕ)) (stated : Sent) → i < n
+    → Plays meaning config n old w
+    → m ≡ meaning_of_state config (w.now i) → IsMeaning m → have_in_message (slice_get w.sent k) ≡ Some (bucket, ids)
+    → message_of stated ≡ give_sent i k (record { held = receipts_lacking (state_of m) bucket ids; records = [] })
+    → new.held.items ≡ old.held.items → new.saved.items ≡ old.saved.items → new.sent.items ≡ old.sent.items ++ stated ∷ []
+    → Plays meaning config n new (happens (rules_of config n) w (AnswerReceipts i k))
+receipts-follow meaning config n old new w i k m bucket ids stated l p e valid a says held saved sent =
+    let same : state_of m ≡ w.now i = ap state_of e in
+    let given = sound-give config m bucket ids (ap (λ (m : Meaning). m.config) e) valid in
+    let say : State → Message = λ s. give_to_have i k bucket ids (without_records s) in
+    subst (λ (effect : Effect). Plays meaning config n new
+    (apply (limits_of config) w (where_so (is_replica (rules_of config n) i) effect)))
+    (sym (replied (without_records (w.now i)) i k bucket ids (slice_get w.sent k) a))
+    (plays-sends meaning config n old new w i stated (say (w.now i)) l p held saved sent (says ∙ ap say same)
+    (subst (λ (s : State). IsSound config (say s)) same (given.0, no-records config)))
 
 -- A closure means what the state of its number says.
 pub here : {A : Type 0} (meaning : A → Meaning) (config : Configuration) (n : ℕ) (closures given : List A) (states : ℕ

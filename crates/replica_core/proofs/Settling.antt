@@ -1,8 +1,8 @@
--- A worked proof that replicas settle: of two, one takes a receipt, and then each has the other's
--- whole answer about every bucket.
-use Rattle.std.proofs.Common.{◌≡◌, ℕ, zero, suc, ◌+◌, ◌*◌, ◌<◌, ◌≤◌, inl, inr, Bool, true, false, ◌&&◌, nat_le, List, [], ◌∷◌, ◌++◌}
-use Rattle.std.proofs.Common.{length, length-append, append_assoc, append-nil, arith, refl, sym, ap, ap₂, ◌∙◌, subst, le-leb}
-use Rattle.std.specs.Prelude.{Contains, slice_get, Option, Some, None, ⊤}
+-- Worked proofs that replicas settle: of two, one takes a receipt, and then each has the other's
+-- whole answer about every bucket, or one session each that begins with sums.
+use Rattle.std.proofs.Common.{◌≡◌, ◌≢◌, ℕ, zero, suc, ◌+◌, ◌*◌, ◌<◌, ◌≤◌, ◌⊎◌, inl, inr, Bool, true, false, cond, ◌&&◌, nat_le, List, [], ◌∷◌, ◌++◌}
+use Rattle.std.proofs.Common.{length, map, ne_eqb, length-append, append_assoc, append-nil, arith, refl, sym, ap, ap₂, ◌∙◌, subst, le-leb}
+use Rattle.std.specs.Prelude.{Contains, filter, slice_get, Option, Some, None, ⊤}
 use Rattle.std.specs.List.{AllByRecursion}
 use Rattle.std.specs.List.Sorted.{IsStrictlySortedBy}
 use Rattle.std.specs.Cmp.{tied_itself}
@@ -11,25 +11,29 @@ use Rattle.std.proofs.lemmas.Bool.{cases_eq, and_from}
 use Rattle.std.proofs.lemmas.List.Sums.{fold-append}
 use Rattle.fed_config.specs.Configuration.{Configuration}
 use Rattle.receipt_core.specs.declared.distrust.Distrust.{Distrust}
-use Rattle.receipt_core.specs.Receipt.{Receipt, IsReceipt, receipt_cmp}
+use Rattle.receipt_core.specs.Receipt.{Receipt, IsReceipt, receipt_cmp, receipt_id_of}
+use Rattle.receipt_core.specs.Rising.{with_items}
 use Rattle.receipt_core.specs.Order.{receipt_total}
 use Rattle.receipt_core.specs.Acceptance.{IsFitting}
-use Rattle.replica_core.specs.State.{State, joined, limits_of, is_within_limits, ids_named, receipts_lacking}
-use Rattle.replica_core.specs.World.{Message, have_sent, give_sent, World, empty_world, Rules, Effect, sends, gains, where_so, sends_give, takes_whole}
+use Rattle.replica_core.specs.State.{State, joined, limits_of, is_within_limits, ids_named, ids_held, id_cmp, bucket_of_id, is_of_bucket}
+use Rattle.replica_core.specs.World.{Message, have_sent, give_sent, sums_sent, marks_sent, sends_marks}
+use Rattle.replica_core.specs.World.{World, empty_world, Rules, Effect, sends, gains, where_so, takes_whole}
 use Rattle.replica_core.specs.World.{apply, happens, run_from, is_replica}
 use Rattle.replica_core.specs.World.{WorldRun, rules_in, world_after, held_by, followed_by}
-use Rattle.replica_core.specs.Convergence.{Inquiry, IsInquiry, Exchange, Settles, IsQuiet, only_receipt}
+use Rattle.replica_core.specs.Convergence.{Inquiry, IsInquiry, Exchange, ExchangeOf, answer_with, shown_with, Settles, IsQuiet, only_receipt}
+use Rattle.replica_core.specs.Convergence.{Peers, ArePeers, about, SumsCourse}
 use Rattle.replica_core.specs.declared.event.Event.{Event}
-use Rattle.replica_core.specs.declared.event.Event.TheVariants.{Take, Ask, Answer, Absorb, Restart}
-use Rattle.replica_core.proofs.ContainsFacts.{contains-here, contains-later, contains-none, each-from}
-use Rattle.replica_core.proofs.RisingListFacts.{all_append, all_front, rising_head}
+use Rattle.replica_core.specs.declared.event.Event.TheVariants.{Take, Ask, Absorb, Restart, AskSums, AnswerSums}
+use Rattle.replica_core.proofs.ContainsFacts.{contains-here, contains-later, contains-none, each-from, get-new}
+use Rattle.replica_core.proofs.RisingListFacts.{all_append, all_front, all_back, rising_head}
 use Rattle.replica_core.proofs.JoinLawFacts.{Keeps, keeps-joined}
 use Rattle.replica_core.proofs.WorldJoins.{joins}
 use Rattle.replica_core.proofs.KeptFacts.{IsKept, kept-event}
 use Rattle.replica_core.proofs.EventFacts.{replica-true, sent-gained, part-run}
 use Rattle.replica_core.proofs.StateFacts.{IsTidy, Throughout, throughout-event, tidy-kept, tidy-empty}
-use Rattle.replica_core.proofs.ExchangeFacts.{asked-here}
+use Rattle.replica_core.proofs.ExchangeFacts.{with_message, content_of, asked-here, answered-with}
 use Rattle.replica_core.proofs.AgreementFacts.{quiet-admits_all}
+use Rattle.replica_core.proofs.BucketFacts.{bucket-small}
 use Rattle.replica_core.proofs.Provenance.{empty-kept}
 use Rattle.replica_core.proofs.EffectFacts.{takes-held}
 use Rattle.replica_core.proofs.WorldLawFacts.{agreed}
@@ -40,8 +44,11 @@ use Rattle.receipt_core.proofs.LimitFacts.{receipt_limit-least}
 -- ---- the events
 
 -- who asks whom about which bucket, after this many messages
+abbrev turn_with : (full : Bool) (i j b place : ℕ) → List Event
+turn_with full i j b place = Ask i b ∷ answer_with full j place ∷ Absorb i (place + 1) ∷ []
+
 abbrev turn : (i j b place : ℕ) → List Event
-turn i j b place = Ask i b ∷ Answer j place ∷ Absorb i (place + 1) ∷ []
+turn = turn_with true
 
 -- both ask each other about a bucket
 abbrev round : ℕ → List Event
@@ -55,6 +62,11 @@ rounds (suc k) = rounds k ++ round k
 -- No event of a round takes a receipt, distrusts a key or restarts.
 quiet-round : (k : ℕ) → AllByRecursion (IsQuiet 0) (round k)
 quiet-round k = (tt, (tt, (omega arith, (tt, (tt, (omega arith, tt))))))
+
+-- Nor is an answer of either kind such an event.
+quiet-answer : (full : Bool) (j k : ℕ) → IsQuiet 0 (answer_with full j k)
+quiet-answer true j k = tt
+quiet-answer false j k = tt
 
 -- Nor does one of all rounds.
 quiet-rounds : (k : ℕ) → AllByRecursion (IsQuiet 0) (rounds k)
@@ -95,6 +107,8 @@ whole-sent : (limits : Limits) (w : World) (i : ℕ) (found : Option Message) �
 whole-sent limits w i None = refl
 whole-sent limits w i (Some (have_sent asker bucket ids)) = refl
 whole-sent limits w i (Some (give_sent answerer place content)) = gains-sent limits w i content
+whole-sent limits w i (Some (sums_sent asker)) = refl
+whole-sent limits w i (Some (marks_sent answerer place)) = refl
 
 -- A have is one message more.
 ask-sends : (rules : Rules) (w : World) (i b : ℕ) → i < rules.replicas → b ≤ 255 → length (happens rules w (Ask i b)).sent ≡ length w.sent + 1
@@ -105,23 +119,22 @@ ask-sends rules w i b l m =
     ∙ length-append w.sent (q ∷ [])
 
 -- So is an answer.
-answer-sends : (rules : Rules) (w : World) (i j b k : ℕ) (ids : List (List ℕ)) → j < rules.replicas → slice_get w.sent k ≡ Some (have_sent i b ids)
-    → length (happens rules w (Answer j k)).sent ≡ length w.sent + 1
-answer-sends rules w i j b k ids l e =
-    ap (λ t. length (apply rules.limits w (where_so t (sends_give (w.now j) j k (slice_get w.sent k)))).sent) (replica-true rules j l)
-    ∙ ap (λ f. length (apply rules.limits w (sends_give (w.now j) j k f)).sent) e
-    ∙ length-append w.sent (give_sent j k (record { held = receipts_lacking (w.now j) b ids; records = (w.now j).records }) ∷ [])
+answer-sends : (full : Bool) (rules : Rules) (w : World) (i j b k : ℕ) (ids : List (List ℕ)) → j < rules.replicas
+    → slice_get w.sent k ≡ Some (have_sent i b ids) → length (happens rules w (answer_with full j k)).sent ≡ length w.sent + 1
+answer-sends full rules w i j b k ids l e =
+    ap (λ (v : World). length v.sent) (answered-with full rules w i j b k ids l e)
+    ∙ length-append w.sent (give_sent j k (content_of (shown_with full (w.now j)) b ids) ∷ [])
 
 -- A have, its answer and the taking of it are two messages more.
-turn-sends : (rules : Rules) (w : World) (i j b place : ℕ) → i < rules.replicas → j < rules.replicas → b ≤ 255 → length w.sent ≡ place
-    → length (run_from rules w (turn i j b place)).sent ≡ place + 2
-turn-sends rules w i j b place l m n size =
+turn-sends : (full : Bool) (rules : Rules) (w : World) (i j b place : ℕ) → i < rules.replicas → j < rules.replicas → b ≤ 255
+    → length w.sent ≡ place → length (run_from rules w (turn_with full i j b place)).sent ≡ place + 2
+turn-sends full rules w i j b place l m n size =
     let v = happens rules w (Ask i b) in
-    let u = happens rules v (Answer j place) in
+    let u = happens rules v (answer_with full j place) in
     let asked = ask-sends rules w i b l n in
     let there : slice_get v.sent place ≡ Some (have_sent i b (ids_named (w.now i) b)) =
     subst (λ k. slice_get v.sent k ≡ Some (have_sent i b (ids_named (w.now i) b))) size (asked-here rules w i b l n) in
-    let answered : length u.sent ≡ length v.sent + 1 = answer-sends rules v i j b place (ids_named (w.now i) b) m there in
+    let answered : length u.sent ≡ length v.sent + 1 = answer-sends full rules v i j b place (ids_named (w.now i) b) m there in
     let taken : length (happens rules u (Absorb i (place + 1))).sent ≡ length u.sent =
     ap length (where-sent (is_replica rules i) rules.limits u (takes_whole i (slice_get u.sent (place + 1)))
     (whole-sent rules.limits u i (slice_get u.sent (place + 1)))) in
@@ -130,9 +143,9 @@ turn-sends rules w i j b place l m n size =
 -- A round is four.
 round-sends : (rules : Rules) (w : World) (k : ℕ) → 2 ≤ rules.replicas → k ≤ 255 → length w.sent ≡ 4 * k → length (run_from rules w (round k)).sent ≡ 4 * k + 4
 round-sends rules w k two few size =
-    let first = turn-sends rules w 0 1 k (4 * k) (omega (arith, two)) (omega (arith, two)) few size in
+    let first = turn-sends true rules w 0 1 k (4 * k) (omega (arith, two)) (omega (arith, two)) few size in
     let v = run_from rules w (turn 0 1 k (4 * k)) in
-    let second = turn-sends rules v 1 0 k (4 * k + 2) (omega (arith, two)) (omega (arith, two)) few first in
+    let second = turn-sends true rules v 1 0 k (4 * k + 2) (omega (arith, two)) (omega (arith, two)) few first in
     second ∙ omega arith
 
 -- This many rounds send four times that number of messages.
@@ -161,6 +174,11 @@ one-rising a (r ∷ s ∷ rs) rising same =
 none-in : (xs : List Distrust) → ((x : Distrust) → Contains xs x → ⊥) → length xs ≡ 0
 none-in [] none = refl
 none-in (x ∷ xs) none = absurd (none x (contains-here x xs))
+
+-- A list without length is empty.
+empty-is : {X : Type 0} (xs : List X) → length xs ≡ 0 → xs ≡ []
+empty-is [] e = refl
+empty-is (x ∷ xs) e = absurd (omega (arith, e))
 
 -- all that is held, saved and sent is this one receipt, in sorted lists
 record IsOnly (limits : Limits) (a : Receipt) (w : World) : Type 0 where
@@ -198,16 +216,17 @@ only-within limits a w i content h c =
 -- ---- the exchanges
 
 -- a turn is an exchange, whatever came before it and comes after it
-turn-exchanges : (rules : Rules) (a : Receipt) (w : World) (q : Inquiry) (events before after : List Event) (place : ℕ)
+turn-exchanges : (full : Bool) (rules : Rules) (a : Receipt) (w : World) (q : Inquiry) (events before after : List Event) (place : ℕ)
     → IsInquiry rules.replicas q → IsOnly rules.limits a w → AllByRecursion (IsQuiet 0) events
-    → events ≡ before ++ (turn q.asker q.answerer q.bucket place ++ after)
-    → length (run_from rules w before).sent ≡ place → Exchange rules w q events
-turn-exchanges rules a w q events before after place is h quiet order size =
+    → events ≡ before ++ (turn_with full q.asker q.answerer q.bucket place ++ after)
+    → length (run_from rules w before).sent ≡ place → ExchangeOf full rules w q events
+turn-exchanges full rules a w q events before after place is h quiet order size =
     let v = run_from rules w before in
-    let early = all_front (IsQuiet 0) before (turn q.asker q.answerer q.bucket place ++ after) (subst (AllByRecursion (IsQuiet 0)) order quiet) in
+    let reply = answer_with full q.answerer place in
+    let early = all_front (IsQuiet 0) before (turn_with full q.asker q.answerer q.bucket place ++ after) (subst (AllByRecursion (IsQuiet 0)) order quiet) in
     let asking = only-event rules a v (Ask q.asker q.bucket) tt (only-run rules a before w early h) in
-    let taking = only-event rules a (happens rules v (Ask q.asker q.bucket)) (Answer q.answerer place) tt asking in
-    let u = happens rules (happens rules v (Ask q.asker q.bucket)) (Answer q.answerer place) in
+    let taking = only-event rules a (happens rules v (Ask q.asker q.bucket)) reply (quiet-answer full q.answerer place) asking in
+    let u = happens rules (happens rules v (Ask q.asker q.bucket)) reply in
     record {
       course = record {
         before = before;
@@ -234,7 +253,7 @@ first-exchanges rules a w q k two all is zero-asks one-answers h none =
     let small = is.bucket in
     let found = round-among k b (omega (arith, all, small)) in
     let after = turn 1 0 b (4 * b + 2) ++ found.0 in
-    turn-exchanges rules a w q (rounds k) (rounds b) after (4 * b) is h (quiet-rounds k)
+    turn-exchanges true rules a w q (rounds k) (rounds b) after (4 * b) is h (quiet-rounds k)
     (found.1 ∙ ap₂ (λ i j. rounds b ++ (turn i j b (4 * b) ++ after)) (sym zero-asks) (sym one-answers))
     (rounds-sends rules w b two (omega (arith, small)) none)
 
@@ -246,11 +265,11 @@ second-exchanges rules a w q k two all is one-asks zero-answers h none =
     let small = is.bucket in
     let found = round-among k b (omega (arith, all, small)) in
     let first = turn 0 1 b (4 * b) in
-    turn-exchanges rules a w q (rounds k) (rounds b ++ first) found.0 (4 * b + 2) is h (quiet-rounds k)
+    turn-exchanges true rules a w q (rounds k) (rounds b ++ first) found.0 (4 * b + 2) is h (quiet-rounds k)
     (found.1 ∙ sym (append_assoc (rounds b) first (turn 1 0 b (4 * b + 2) ++ found.0))
     ∙ ap₂ (λ i j. (rounds b ++ first) ++ (turn i j b (4 * b + 2) ++ found.0)) (sym one-asks) (sym zero-answers))
     (ap (λ (v : World). length v.sent) (fold-append (happens rules) w (rounds b) first)
-    ∙ turn-sends rules (run_from rules w (rounds b)) 0 1 b (4 * b) (omega (arith, two)) (omega (arith, two)) small
+    ∙ turn-sends true rules (run_from rules w (rounds b)) 0 1 b (4 * b) (omega (arith, two)) (omega (arith, two)) small
     (rounds-sends rules w b two (omega (arith, small)) none))
 
 -- ---- they settle
@@ -275,6 +294,20 @@ none-sent config a =
     ap length (where-sent (is_replica rules 0 && rules.fits a) rules.limits empty_world (gains 0 (only_receipt a))
     (gains-sent rules.limits empty_world 0 (only_receipt a)))
 
+-- Of two replicas the first asks the second, or the second the first.
+both-ways : (p : Peers) → ArePeers 2 p → p.asker ≢ p.answerer
+    → ((p.asker ≡ 0) × (p.answerer ≡ 1)) ⊎ ((p.asker ≡ 1) × (p.answerer ≡ 0))
+both-ways p are apart =
+    let asker = are.asker in
+    let answerer = are.answerer in
+    elim (cases_eq p.asker 0) [
+      | inl z ↦ inl (z, elim (cases_eq p.answerer 1) [ inl o ↦ o | inr d ↦ absurd (apart (z ∙ omega (arith, answerer, d))) ])
+      | inr n ↦ inr (
+        omega (arith, asker, n),
+        elim (cases_eq p.answerer 0) [ inl o ↦ o | inr d ↦ absurd (apart (omega (arith, asker, answerer, n, d))) ],
+      )
+    ]
+
 -- All rounds are what it takes to settle.
 settles : (config : Configuration) (a : Receipt) (k : ℕ) → k ≡ 256 → Settles (rules_in (one_given config a)) (world_after (one_given config a)) (rounds k)
 settles config a k all =
@@ -285,30 +318,162 @@ settles config a k all =
     record {
       quiet = λ event c. subst (λ place. IsQuiet place event) (sym none) (each-from (IsQuiet 0) (rounds k) (quiet-rounds k) event c);
       one_id = λ i j r s c d e. (only.kept.now i).receipts r c ∙ sym ((only.kept.now j).receipts s d);
-      exchanges = λ q is apart.
-          let asker = is.asker in
-          let answerer = is.answerer in
-          elim (cases_eq q.asker 0) [
-            | inl z ↦ first-exchanges rules a w q k (omega arith) all is z
-                (elim (cases_eq q.answerer 1) [ inl o ↦ o | inr d ↦ absurd (apart (z ∙ omega (arith, answerer, d))) ]) only none
-            | inr p ↦ second-exchanges rules a w q k (omega arith) all is (omega (arith, asker, p))
-                (elim (cases_eq q.answerer 0) [ inl o ↦ o | inr d ↦ absurd (apart (omega (arith, asker, answerer, p, d))) ]) only none
-          ];
+      pulled = λ p are apart. inl (λ b small.
+          let is : IsInquiry 2 (about p b) = record { asker = are.asker; answerer = are.answerer; bucket = small } in
+          elim (both-ways p are apart) [
+            | inl d ↦ first-exchanges rules a w (about p b) k (omega arith) all is d.0 d.1 only none
+            | inr d ↦ second-exchanges rules a w (about p b) k (omega arith) all is d.0 d.1 only none
+          ]);
     }
 
--- So the second holds the receipt in the end.
-settled : (config : Configuration) (a : Receipt) → IsReceipt a → IsFitting config a → (k : ℕ) → k ≡ 256
-    → Contains (held_by (followed_by (one_given config a) (rounds k)) 1).held a
-settled config a form fits k all =
+-- So the second holds the receipt in the end, of any events by which both settle.
+given-held : (config : Configuration) (a : Receipt) (since : List Event) → IsReceipt a → IsFitting config a → AllByRecursion (IsQuiet 0) since
+    → Settles (rules_in (one_given config a)) (world_after (one_given config a)) since
+    → Contains (held_by (followed_by (one_given config a) since) 1).held a
+given-held config a since form fits quiet settled =
     let past = one_given config a in
     let rules = rules_in past in
-    let since = rounds k in
     let one : is_within_limits (limits_of config) (only_receipt a) ≡ true =
     and_from (nat_le 1 (receipt_limit config)) (nat_le 0 (record_limit config))
     (le-leb 1 (receipt_limit config) (receipt_limit-least config)) (le-leb 0 (record_limit config) (omega arith)) in
     let taken : held_by past 0 ≡ only_receipt a = takes-held (record past { events = [] }) 0 a (omega arith) fits one in
     let here : Contains (held_by past 0).held a = subst (λ (s : State). Contains s.held a) (sym taken) (contains-here a []) in
-    let stays = (part-run joins rules 0 since (world_after past) (λ c. each-from (IsQuiet 0) since (quiet-rounds k) (Restart 0) c)).receipts a here in
+    let stays = (part-run joins rules 0 since (world_after past) (λ c. each-from (IsQuiet 0) since quiet (Restart 0) c)).receipts a here in
     let kept : Contains (held_by (followed_by past since) 0).held a =
     subst (λ (w : World). Contains (w.now 0).held a) (sym (fold-append (happens rules) empty_world past.events since)) stays in
-    subst (λ (s : State). Contains s.held a) (agreed joins past since 0 1 (form, tt) (omega arith) (omega arith) (settles config a k all)) kept
+    subst (λ (s : State). Contains s.held a) (agreed joins past since 0 1 (form, tt) (omega arith) (omega arith) settled) kept
+
+-- After all rounds the second holds the receipt.
+settled : (config : Configuration) (a : Receipt) → IsReceipt a → IsFitting config a → (k : ℕ) → k ≡ 256
+    → Contains (held_by (followed_by (one_given config a) (rounds k)) 1).held a
+settled config a form fits k all = given-held config a (rounds k) form fits (quiet-rounds k) (settles config a k all)
+
+-- ---- sessions that begin with sums
+
+-- One asks for sums, and then about one bucket, after this many messages. The answer leaves the
+-- records out.
+abbrev session : (i j b place : ℕ) → List Event
+session i j b place = AskSums i ∷ AnswerSums j place ∷ turn_with false i j b (place + 2)
+
+-- both have such a session about one bucket
+abbrev sessions : ℕ → List Event
+sessions b = session 0 1 b 0 ++ session 1 0 b 4
+
+-- No event of both takes a receipt, distrusts a key or restarts.
+quiet-sessions : (b : ℕ) → AllByRecursion (IsQuiet 0) (sessions b)
+quiet-sessions b = (tt, (tt, (tt, (tt, (omega arith, (tt, (tt, (tt, (tt, (omega arith, tt))))))))))
+
+-- The sums are at their place.
+sums-here : (rules : Rules) (w : World) (i : ℕ) → i < rules.replicas → happens rules w (AskSums i) ≡ with_message w (sums_sent i)
+sums-here rules w i l = ap (λ t. apply rules.limits w (where_so t (sends (sums_sent i)))) (replica-true rules i l)
+
+-- The marks are a message more.
+marks-here : (rules : Rules) (w : World) (i j k : ℕ) → j < rules.replicas → slice_get w.sent k ≡ Some (sums_sent i)
+    → happens rules w (AnswerSums j k) ≡ with_message w (marks_sent j k)
+marks-here rules w i j k l e =
+    ap (λ t. apply rules.limits w (where_so t (sends_marks j k (slice_get w.sent k)))) (replica-true rules j l)
+    ∙ ap (λ (f : Option Message). apply rules.limits w (sends_marks j k f)) e
+
+-- Sums and their marks are two messages.
+compared-sends : (rules : Rules) (w : World) (i j place : ℕ) → i < rules.replicas → j < rules.replicas → length w.sent ≡ place
+    → length (run_from rules w (AskSums i ∷ AnswerSums j place ∷ [])).sent ≡ place + 2
+compared-sends rules w i j place l m size =
+    let v = with_message w (sums_sent i) in
+    let there : slice_get v.sent place ≡ Some (sums_sent i) =
+    subst (λ k. slice_get v.sent k ≡ Some (sums_sent i)) size (get-new w.sent (sums_sent i)) in
+    let one = length-append w.sent (sums_sent i ∷ []) in
+    let two = length-append v.sent (marks_sent j place ∷ []) in
+    ap (λ (u : World). length (happens rules u (AnswerSums j place)).sent) (sums-here rules w i l)
+    ∙ ap (λ (u : World). length u.sent) (marks-here rules v i j place m there)
+    ∙ omega (arith, one, two, size)
+
+-- A session is four messages.
+session-sends : (rules : Rules) (w : World) (i j b place : ℕ) → i < rules.replicas → j < rules.replicas → b ≤ 255 → length w.sent ≡ place
+    → length (run_from rules w (session i j b place)).sent ≡ place + 4
+session-sends rules w i j b place l m n size =
+    turn-sends false rules (run_from rules w (AskSums i ∷ AnswerSums j place ∷ [])) i j b (place + 2) l m n (compared-sends rules w i j place l m size)
+    ∙ omega arith
+
+-- A filter that nothing passes keeps nothing.
+filter-none : {X : Type 0} (p : X → Bool) (xs : List X) → ((x : X) → Contains xs x → p x ≡ false) → filter p xs ≡ []
+filter-none p [] none = refl
+filter-none p (x ∷ xs) none =
+    ap (λ t. cond t (x ∷ filter p xs) (filter p xs)) (none x (contains-here x xs))
+    ∙ filter-none p xs (λ y c. none y (contains-later x xs y c))
+
+-- Who holds nothing but one receipt has no ids of another bucket.
+no-ids : (a : Receipt) (state : State) (b : ℕ) → Keeps (λ r. r ≡ a) (λ x. ⊥) state → b ≢ bucket_of_id a → ids_held state b ≡ []
+no-ids a state b h apart =
+    ap (λ rs. with_items id_cmp (map receipt_id_of rs) [])
+    (filter-none (is_of_bucket b) state.held (λ r c.
+    ne_eqb (bucket_of_id r) b (λ e. apart (sym e ∙ ap bucket_of_id (h.receipts r c)))))
+
+-- And it has no records.
+no-distrusts : (a : Receipt) (state : State) → Keeps (λ r. r ≡ a) (λ x. ⊥) state → state.records ≡ []
+no-distrusts a state h = empty-is state.records (none-in state.records h.records)
+
+-- A session about the bucket of the one receipt that is anywhere is a course by sums, whatever came
+-- before it and comes after it.
+session-course : (rules : Rules) (a : Receipt) (w : World) (p : Peers) (events before after : List Event) (place : ℕ)
+    → ArePeers rules.replicas p → IsOnly rules.limits a w → AllByRecursion (IsQuiet 0) events
+    → events ≡ before ++ (session p.asker p.answerer (bucket_of_id a) place ++ after)
+    → length (run_from rules w before).sent ≡ place → SumsCourse rules w p events
+session-course rules a w p events before after place are h quiet order size =
+    let i = p.asker in
+    let j = p.answerer in
+    let bucket = bucket_of_id a in
+    let later = turn_with false i j bucket (place + 2) ++ after in
+    let both = subst (AllByRecursion (IsQuiet 0)) order quiet in
+    let early = all_front (IsQuiet 0) before (session i j bucket place ++ after) both in
+    let rest = all_back (IsQuiet 0) before (session i j bucket place ++ after) both in
+    let u = run_from rules w before in
+    let v = happens rules u (AskSums i) in
+    let z = happens rules v (AnswerSums j place) in
+    let at_u : IsOnly rules.limits a u = only-run rules a before w early h in
+    let at_v : IsOnly rules.limits a v = only-event rules a u (AskSums i) tt at_u in
+    let at_z : IsOnly rules.limits a z = only-event rules a v (AnswerSums j place) tt at_v in
+    record {
+      compared = record { before = before; asked = []; after = later; place = place; order = order };
+      asked_at = sym size;
+      records = inl (no-distrusts a (u.now i) (at_u.kept.now i) ∙ sym (no-distrusts a (v.now j) (at_v.kept.now j)));
+      buckets = λ b small. elim (cases_eq b bucket) [
+        | inl e ↦ inr (
+          false,
+          turn-exchanges false rules a z (about p b) later [] after (place + 2)
+              (record { asker = are.asker; answerer = are.answerer; bucket = small }) at_z rest.1.1
+              (ap (λ k. turn_with false i j k (place + 2) ++ after) (sym e))
+              (compared-sends rules u i j place are.asker are.answerer size),
+        )
+        | inr d ↦ inl (no-ids a (u.now i) b (at_u.kept.now i) d ∙ sym (no-ids a (v.now j) b (at_v.kept.now j) d))
+      ];
+    }
+
+-- Both sessions are what it takes to settle.
+settles_by_sums : (config : Configuration) (a : Receipt) → Settles (rules_in (one_given config a)) (world_after (one_given config a))
+    (sessions (bucket_of_id a))
+settles_by_sums config a =
+    let rules = rules_in (one_given config a) in
+    let w = world_after (one_given config a) in
+    let only = only-given config a in
+    let none = none-sent config a in
+    let bucket = bucket_of_id a in
+    let quiet = quiet-sessions bucket in
+    let first = session 0 1 bucket 0 in
+    record {
+      quiet = λ event c. subst (λ place. IsQuiet place event) (sym none) (each-from (IsQuiet 0) (sessions bucket) quiet event c);
+      one_id = λ i j r s c d e. (only.kept.now i).receipts r c ∙ sym ((only.kept.now j).receipts s d);
+      pulled = λ p are apart. inr (elim (both-ways p are apart) [
+        | inl d ↦ session-course rules a w p (sessions bucket) [] (session 1 0 bucket 4) 0 are only quiet
+            (ap₂ (λ i j. session i j bucket 0 ++ session 1 0 bucket 4) (sym d.0) (sym d.1)) none
+        | inr d ↦ session-course rules a w p (sessions bucket) first [] 4 are only quiet
+            (ap (λ (t : List Event). first ++ t) (sym (append-nil (session 1 0 bucket 4)))
+            ∙ ap₂ (λ i j. first ++ (session i j bucket 4 ++ [])) (sym d.0) (sym d.1))
+            (session-sends rules w 0 1 bucket 0 (omega arith) (omega arith) (bucket-small a) none)
+      ]);
+    }
+
+-- After two sessions of five events each the second holds the receipt.
+settled_by_sums : (config : Configuration) (a : Receipt) → IsReceipt a → IsFitting config a
+    → Contains (held_by (followed_by (one_given config a) (sessions (bucket_of_id a))) 1).held a
+settled_by_sums config a form fits =
+    given-held config a (sessions (bucket_of_id a)) form fits (quiet-sessions (bucket_of_id a)) (settles_by_sums config a)

@@ -12,7 +12,7 @@ use Rattle.receipt_core.specs.Receipt.{Receipt, receipt_cmp, distrust_cmp}
 use Rattle.receipt_core.specs.Acceptance.{Meaning, IsMeaning, IsFitting}
 use Rattle.replica_core.specs.State.{State, is_of_bucket, is_named, receipts_lacking}
 use Rattle.replica_core.specs.Session.{state_of}
-use Rattle.replica_core.specs.World.{Message, have_sent, give_sent}
+use Rattle.replica_core.specs.World.{Message, have_sent, give_sent, sums_sent, marks_sent}
 use Rattle.replica_core.specs.Inside.ReplicasInMemory.{give_in_message, CanHold, CanHoldRecords, IsSound}
 use Rattle.replica_core.proofs.ContainsFacts.{each-from, each-to, filter-from, take-each}
 use Rattle.replica_core.proofs.RisingListFacts.{rising_take}
@@ -34,6 +34,8 @@ sound-here config (have_sent asker bucket ids) content h e = absurd (let no : No
 sound-here config (give_sent answerer place other) content h e =
     let same : other ≡ content = (let some : Some other ≡ Some content = e in cc) in
     subst (λ (s : State). CanHold config s.held × CanHoldRecords config s.records) same h
+sound-here config (sums_sent asker) content h e = absurd (let no : None ≡ Some content = e in cc)
+sound-here config (marks_sent answerer place) content h e = absurd (let no : None ≡ Some content = e in cc)
 
 -- What the answer at a place brings can be held.
 pub sound-at : (config : Configuration) (sent : List Message) (k : ℕ) (content : State)

@@ -17,9 +17,12 @@ use Rattle.receipt_core.specs.Acceptance.{IsMeaning, IsFitting}
 use Rattle.replica_core.specs.State.{no_state, meaning_of_state}
 use Rattle.replica_core.specs.World.{Message, have_sent, give_sent, World, empty_world, Rules, rules_of, same_id, is_reached, is_fitting, is_known, happens}
 use Rattle.replica_core.specs.World.{run_from, run, WorldRun, rules_in, world_after, held_by, saved_by, followed_by}
-use Rattle.replica_core.specs.Convergence.{IsEvent, AreEvents, Lacks, IsPartOf, Inquiry, IsInquiry, Exchange, at_give, after_taking, HasAll, Settles}
+use Rattle.replica_core.specs.World.{sums_sent, marks_sent}
+use Rattle.replica_core.specs.Convergence.{IsEvent, AreEvents, Lacks, IsPartOf, Inquiry, IsInquiry, ExchangeOf, at_give, after_taking, HasAll, Settles}
+use Rattle.replica_core.specs.Convergence.{shown_with, Peers, ArePeers, SumsCourse, IsUninterrupted, answerer_held}
 use Rattle.replica_core.specs.declared.event.Event.{Event}
 use Rattle.replica_core.specs.declared.event.Event.TheVariants.{Take, Revoke, Ask, Answer, Absorb, Part, Join, Save, Restart}
+use Rattle.replica_core.specs.declared.event.Event.TheVariants.{AnswerReceipts, AskSums, AnswerSums}
 use Rattle.replica_core.proofs.ContainsFacts.{any-from, contains-cases, contains-none, each-from, each-to}
 use Rattle.replica_core.proofs.JoinLawFacts.{Laws}
 use Rattle.replica_core.proofs.Provenance.{empty-kept}
@@ -27,7 +30,7 @@ use Rattle.replica_core.proofs.KeptFacts.{IsKept, KeepsMessage, Admits, kept-run
 use Rattle.replica_core.proofs.EventFacts.{part-event, saved-run, saved-here, restarted-here}
 use Rattle.replica_core.proofs.StateFacts.{IsTidy, IsOutside, Throughout, throughout-run, tidy-kept, tidy-empty, outside-kept, outside-empty}
 use Rattle.replica_core.proofs.ExchangeFacts.{exchange-gives}
-use Rattle.replica_core.proofs.AgreementFacts.{IsStart, course-forms, agree}
+use Rattle.replica_core.proofs.AgreementFacts.{IsStart, course-forms, sums-bring, agree}
 use Rattle.receipt_core.specs.Limits.{receipt_limit, record_limit}
 
 -- ---- what is held is a meaning
@@ -115,6 +118,9 @@ forms-admits config n (Take i r) h = λ o e. (h, fits-from config r e)
 forms-admits config n (Revoke i x) h = λ o e. (h, knows-from config x.domain e)
 forms-admits config n (Ask i b) h = tt
 forms-admits config n (Answer j k) h = tt
+forms-admits config n (AnswerReceipts j k) h = tt
+forms-admits config n (AskSums i) h = tt
+forms-admits config n (AnswerSums j k) h = tt
 forms-admits config n (Absorb i k) h = omega arith
 forms-admits config n (Part i k m) h = omega arith
 forms-admits config n (Join i j) h = tt
@@ -191,6 +197,8 @@ plain-message : (config : Configuration) (message : Message)
     → KeepsMessage (IsReceiptOf config) (IsDistrustOf config) message → KeepsMessage IsReceipt IsDistrust message
 plain-message config (have_sent asker bucket ids) h = tt
 plain-message config (give_sent answerer place content) h = record { receipts = λ r c. (h.receipts r c).0; records = λ x c. (h.records x c).0 }
+plain-message config (sums_sent asker) h = tt
+plain-message config (marks_sent answerer place) h = tt
 
 -- All that is held, saved and sent of this configuration is of its form.
 plain-kept : (config : Configuration) (w : World) → IsKept (IsReceiptOf config) (IsDistrustOf config) 0 ⊤ w → IsKept IsReceipt IsDistrust 0 ⊤ w
@@ -206,6 +214,9 @@ event-admits rules (Take i r) h = λ o e. h
 event-admits rules (Revoke i x) h = λ o e. h
 event-admits rules (Ask i b) h = tt
 event-admits rules (Answer j k) h = tt
+event-admits rules (AnswerReceipts j k) h = tt
+event-admits rules (AskSums i) h = tt
+event-admits rules (AnswerSums j k) h = tt
 event-admits rules (Absorb i k) h = omega arith
 event-admits rules (Part i k m) h = omega arith
 event-admits rules (Join i j) h = tt
@@ -222,19 +233,30 @@ starts laws config n events h =
           events empty_world (outside-empty (rules_of config n));
     }
 
--- The clause `exchanged`: who takes another's whole answer has what that held of the bucket.
-pub exchanged : (laws : Laws) (past : WorldRun) (since : List Event) (q : Inquiry) → AreEvents past.events
-    → AreEvents since → IsInquiry past.replicas q → (x : Exchange (rules_in past) (world_after past) q since)
-    → HasAll q.bucket ((at_give (rules_in past) (world_after past) x.course).now q.answerer)
+-- Who takes another's whole answer has what that showed of the bucket.
+pub exchanged : (full : Bool) (laws : Laws) (past : WorldRun) (since : List Event) (q : Inquiry) → AreEvents past.events
+    → AreEvents since → IsInquiry past.replicas q → (x : ExchangeOf full (rules_in past) (world_after past) q since)
+    → HasAll q.bucket (shown_with full ((at_give (rules_in past) (world_after past) x.course).now q.answerer))
     ((after_taking (rules_in past) (world_after past) x.course).now q.asker)
-exchanged laws past since q f s is x =
+exchanged full laws past since q f s is x =
     let rules = rules_in past in
     let w = world_after past in
-    let formed = course-forms laws rules q since w x.course (starts laws past.config past.replicas past.events f).forms
+    let formed = course-forms full laws rules q since w x.course (starts laws past.config past.replicas past.events f).forms
     (λ event c. event-admits rules event (each-from IsEvent since s event c)) in
-    exchange-gives laws rules w q since is x (formed.0.now q.answerer) (formed.1.now q.asker)
+    exchange-gives full laws rules w q since is x (formed.0.now q.answerer) (formed.1.now q.asker)
 
--- The clause `agreed`: after all exchanges in quiet any two replicas hold the same.
+-- The clause `brings`: a course by sums brings what the other held when it compared them.
+pub brought : (laws : Laws) (past : WorldRun) (since : List Event) (p : Peers) (b : ℕ) → AreEvents past.events → AreEvents since
+    → ArePeers past.replicas p → b ≤ 255 → (c : SumsCourse (rules_in past) (world_after past) p since) → IsUninterrupted c.compared
+    → HasAll b (answerer_held (rules_in past) (world_after past) c.compared) (held_by (followed_by past since) p.asker)
+brought laws past since p b f s are small c still =
+    let rules = rules_in past in
+    subst (λ (w : World). HasAll b (answerer_held rules (world_after past) c.compared) (w.now p.asker))
+    (sym (fold-append (happens rules) empty_world past.events since))
+    (sums-bring laws rules (world_after past) p b since are small c (starts laws past.config past.replicas past.events f).forms
+    (λ event d. event-admits rules event (each-from IsEvent since s event d)) still)
+
+-- The clause `agreed`: after all pulled from each other in quiet any two replicas hold the same.
 pub agreed : (laws : Laws) (past : WorldRun) (since : List Event) (i j : ℕ) → AreEvents past.events → i < past.replicas → j < past.replicas
     → Settles (rules_in past) (world_after past) since → held_by (followed_by past since) i ≡ held_by (followed_by past since) j
 agreed laws past since i j f l m s =

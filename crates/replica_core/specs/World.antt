@@ -16,13 +16,18 @@ use Rattle.replica_core.specs.State.{meaning_of_state, receipts_lacking, first_o
 use Rattle.replica_core.specs.declared.event.Event.{Event}
 use Rattle.replica_core.specs.declared.event.Event.TheVariants.{Take, Revoke, Ask, Answer, Absorb}
 use Rattle.replica_core.specs.declared.event.Event.TheVariants.{Part, Join, Save, Restart}
+use Rattle.replica_core.specs.declared.event.Event.TheVariants.{AnswerReceipts, AskSums, AnswerSums}
 use Rattle.receipt_core.specs.Acceptance.{Meaning}
 
--- A have names the ids that the asker holds of a bucket; an answer to it has all records of the
--- answerer, and the receipts of the bucket that it holds beyond those named.
+-- A have names the ids that the asker holds of a bucket; an answer to it has the receipts of the
+-- bucket that the answerer holds beyond those named, and all its records or none. Of sums, and of
+-- the marks that answer them, nothing is kept: nothing that is held comes of them, and what they
+-- tell is said of what both held when they were made.
 pub data Message : Type 0 where
   have_sent : (asker bucket : ℕ) (ids : List (List ℕ)) → Message
   give_sent : (answerer place : ℕ) (content : State) → Message
+  sums_sent : (asker : ℕ) → Message
+  marks_sent : (answerer place : ℕ) → Message
 
 -- what each replica holds, what each saved last, and every message that was ever sent
 pub record World : Type 0 where
@@ -90,23 +95,40 @@ abbrev pub where_so : Bool → Effect → Effect
 where_so true effect = effect
 where_so false effect = nothing
 
+-- what a replica answers from that leaves the records out
+abbrev pub without_records : State → State
+without_records state = record { held = state.held; records = [] }
+
 abbrev pub sends_give : State → ℕ → ℕ → Option Message → Effect
 sends_give state replica place None = nothing
 sends_give state replica place (Some (have_sent asker bucket ids)) = sends
     (give_sent replica place (record
     { held = receipts_lacking state bucket ids; records = state.records }))
 sends_give state replica place (Some (give_sent answerer other content)) = nothing
+sends_give state replica place (Some (sums_sent asker)) = nothing
+sends_give state replica place (Some (marks_sent answerer other)) = nothing
+
+abbrev pub sends_marks : ℕ → ℕ → Option Message → Effect
+sends_marks replica place None = nothing
+sends_marks replica place (Some (have_sent asker bucket ids)) = nothing
+sends_marks replica place (Some (give_sent answerer other content)) = nothing
+sends_marks replica place (Some (sums_sent asker)) = sends (marks_sent replica place)
+sends_marks replica place (Some (marks_sent answerer other)) = nothing
 
 abbrev pub takes_whole : ℕ → Option Message → Effect
 takes_whole replica None = nothing
 takes_whole replica (Some (have_sent asker bucket ids)) = nothing
 takes_whole replica (Some (give_sent answerer place content)) = gains replica content
+takes_whole replica (Some (sums_sent asker)) = nothing
+takes_whole replica (Some (marks_sent answerer place)) = nothing
 
 abbrev pub takes_part : ℕ → ℕ → Option Message → Effect
 takes_part replica count None = nothing
 takes_part replica count (Some (have_sent asker bucket ids)) = nothing
 takes_part replica count (Some (give_sent answerer place content)) = gains replica
     (first_of count content)
+takes_part replica count (Some (sums_sent asker)) = nothing
+takes_part replica count (Some (marks_sent answerer place)) = nothing
 
 -- Messages count from 0. Nothing happens if what an event names is not there, or is a message of
 -- another kind.
@@ -119,6 +141,11 @@ effect_of rules w (Ask i b) = where_so (is_replica rules i && nat_le b 255)
     (sends (have_sent i b (ids_named (w.now i) b)))
 effect_of rules w (Answer j k) = where_so (is_replica rules j)
     (sends_give (w.now j) j k (slice_get w.sent k))
+effect_of rules w (AnswerReceipts j k) = where_so (is_replica rules j)
+    (sends_give (without_records (w.now j)) j k (slice_get w.sent k))
+effect_of rules w (AskSums i) = where_so (is_replica rules i) (sends (sums_sent i))
+effect_of rules w (AnswerSums j k) = where_so (is_replica rules j)
+    (sends_marks j k (slice_get w.sent k))
 effect_of rules w (Absorb i k) = where_so (is_replica rules i) (takes_whole i (slice_get w.sent k))
 effect_of rules w (Part i k m) = where_so (is_replica rules i) (takes_part i m (slice_get w.sent k))
 effect_of rules w (Join i j) = where_so (is_replica rules i && is_replica rules j)

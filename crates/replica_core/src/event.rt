@@ -26,6 +26,20 @@ pub enum Event {
         replica: usize,
         have: usize,
     },
+    /// A replica answers a have with the same receipts, and leaves the records out.
+    AnswerReceipts {
+        replica: usize,
+        have: usize,
+    },
+    /// A replica asks which parts of what it holds differ: it sends the sums of all of them.
+    AskSums {
+        replica: usize,
+    },
+    /// A replica compares sums with those of what it holds, and answers a mark for each part.
+    AnswerSums {
+        replica: usize,
+        sums: usize,
+    },
     /// A replica takes all of an answer.
     Absorb {
         replica: usize,

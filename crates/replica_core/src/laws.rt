@@ -1,18 +1,19 @@
 //! What is so of every world of replicas: of whatever list of events happens to replicas of one
 //! configuration. Messages may be lost, repeated, late and in any order, and replicas may restart.
 //! A call that needs a law calls its function, which does nothing, and cites what it ensures.
-ghost use Rattle.std.specs.Prelude.{◌≡◌, ◌≢◌, ℕ, ◌<◌, ◌++◌, ◌∷◌, [], List, Bool, true};
+ghost use Rattle.std.specs.Prelude.{◌≡◌, ◌≢◌, ℕ, ◌<◌, ◌≤◌, ◌++◌, ◌∷◌, [], List, Bool, true, false};
 ghost use Rattle.fed_config.specs.Configuration.{HasDomain};
 ghost use Rattle.receipt_core.specs.Receipt.{Receipt, Pair};
 ghost use Rattle.receipt_core.specs.declared.distrust.Distrust.{Distrust};
 ghost use Rattle.receipt_core.specs.Acceptance.{IsFitting, IsMeaning, IsMember, IsClosed};
 ghost use Rattle.replica_core.specs.State.{State, no_state, first_of, meaning_of_state};
 ghost use Rattle.replica_core.specs.World.{WorldRun, rules_in, world_after, held_by, saved_by};
-ghost use Rattle.replica_core.specs.World.{followed_by};
+ghost use Rattle.replica_core.specs.World.{followed_by, without_records};
 ghost use Rattle.replica_core.specs.Convergence.{AreEvents, Lacks, ComesFrom, IsPartOf, Gains};
 ghost use Rattle.replica_core.specs.Convergence.{only_receipt, only_record, HasGive, Inquiry};
 ghost use Rattle.replica_core.specs.Convergence.{IsInquiry, Exchange, HasAll, Settles, at_give};
-ghost use Rattle.replica_core.specs.Convergence.{after_taking};
+ghost use Rattle.replica_core.specs.Convergence.{after_taking, ExchangeOf, Peers, ArePeers};
+ghost use Rattle.replica_core.specs.Convergence.{SumsCourse, IsUninterrupted, answerer_held};
 ghost use Rattle.replica_core.specs.declared.event.Event.{Event};
 ghost use Rattle.replica_core.specs.declared.event.Event.TheVariants.{Take, Revoke, Absorb, Part};
 ghost use Rattle.replica_core.specs.declared.event.Event.TheVariants.{Join, Save, Restart};
@@ -90,6 +91,7 @@ pub fn persistence()
 ///
 /// - `exchanged`: who takes another's whole answer to its own have holds each receipt of the
 ///   bucket that the other held when it answered, or one with its id, and each record.
+/// - `receipts`: so it does if the answer leaves the records out, but for the records.
 pub fn exchange()
     ensures exchanged { (past : WorldRun) (since : List Event) (q : Inquiry)
         → AreEvents past.events → AreEvents since → IsInquiry past.replicas q
@@ -97,12 +99,33 @@ pub fn exchange()
         → HasAll q.bucket
         ((at_give (rules_in past) (world_after past) x.course).now q.answerer)
         ((after_taking (rules_in past) (world_after past) x.course).now q.asker) }
+    ensures receipts { (past : WorldRun) (since : List Event) (q : Inquiry)
+        → AreEvents past.events → AreEvents since → IsInquiry past.replicas q
+        → (x : ExchangeOf false (rules_in past) (world_after past) q since)
+        → HasAll q.bucket
+        (without_records ((at_give (rules_in past) (world_after past) x.course).now q.answerer))
+        ((after_taking (rules_in past) (world_after past) x.course).now q.asker) }
+{}
+
+/// What a session that begins with sums gives, whatever else happens while it lasts.
+///
+/// - `brings`: at its end the asker holds each receipt that the other held when it compared the
+///   sums, or one with its id, and each record: if the asker has not restarted since it made the
+///   sums, nor the other since it compared them.
+pub fn session()
+    ensures brings { (past : WorldRun) (since : List Event) (p : Peers) (b : ℕ)
+        → AreEvents past.events → AreEvents since → ArePeers past.replicas p → b ≤ 255
+        → (c : SumsCourse (rules_in past) (world_after past) p since)
+        → IsUninterrupted c.compared
+        → HasAll b (answerer_held (rules_in past) (world_after past) c.compared)
+        (held_by (followed_by past since) p.asker) }
 {}
 
 /// When replicas hold the same.
 ///
-/// - `agreed`: replicas that each took, in quiet, the whole answers of all others about all buckets
-///   hold the same.
+/// - `agreed`: replicas that each pulled, in quiet, from each other one hold the same. A replica
+///   pulls by the whole answers about all buckets, or by sums and answers about the parts that
+///   differ. What others bring to either of both meanwhile does no harm.
 pub fn agreement()
     ensures agreed { (past : WorldRun) (since : List Event) (i j : ℕ) → AreEvents past.events
         → i < past.replicas → j < past.replicas

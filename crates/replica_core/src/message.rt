@@ -3,8 +3,10 @@ ghost use Rattle.std.specs.Prelude.{◌≡◌, IfOk, map, slice_get, take};
 ghost use Rattle.std.specs.Option.{option_copied, option_map};
 ghost use Rattle.receipt_core.specs.Acceptance.{IsMeaning};
 ghost use Rattle.replica_core.specs.Session.{give_of};
+ghost use Rattle.replica_core.specs.World.{without_records};
 ghost use Rattle.replica_core.specs.Inside.ReplicasInMemory.{content_of, message_of};
 ghost use Rattle.replica_core.specs.Inside.ReplicasInMemory.{give_in_message, have_in_message};
+ghost use Rattle.replica_core.specs.Inside.ReplicasInMemory.{is_sums_message};
 
 use crate::answering::answer;
 use crate::have_message::Have;
@@ -26,6 +28,15 @@ pub(crate) enum Message {
         answerer: usize,
         place: usize,
         content: StoredGive,
+    },
+    /// The asker's sums. They are not kept: nothing that is held comes of them.
+    Sums {
+        asker: usize,
+    },
+    /// The marks that the answerer made for the sums at this place, which are not kept either.
+    Marks {
+        answerer: usize,
+        place: usize,
     },
 }
 
@@ -50,6 +61,24 @@ pub(crate) fn copy_give<C: Closure>(
     let (records, receipts) = answer(closure, have).into_parts();
     Ok(StoredGive {
         records: copied_records(alloc, records)?,
+        receipts: copied_receipts(alloc, receipts)?,
+    })
+}
+
+/// What the closure answers to the have without records, copied.
+pub(crate) fn copy_receipts<C: Closure>(
+    alloc: Global,
+    closure: &C,
+    have: &Have,
+) -> Result<StoredGive, NoMemory>
+    ensures copies { IfOk result (λ c. content_of c
+        ≡ without_records (give_of (C.state closure.now).meaning have.now).content) }
+    ensures valid { IsMeaning (C.state closure.now).meaning }
+{
+    let _config = closure.config();
+    let (_, receipts) = answer(closure, have).into_parts();
+    Ok(StoredGive {
+        records: Vec::new(alloc),
         receipts: copied_receipts(alloc, receipts)?,
     })
 }
@@ -97,6 +126,13 @@ pub(crate) fn give_at(sent: &[Message], place: usize) -> Option<&StoredGive>
         Some(Message::Give { content, .. }) => Some(content),
         _ => None,
     }
+}
+
+/// Whether sums are at the place.
+pub(crate) fn are_sums(sent: &[Message], place: usize) -> bool
+    ensures { result ≡ is_sums_message (slice_get (map message_of sent.now) place) }
+{
+    matches!(sent.get(place), Some(Message::Sums { .. }))
 }
 
 /// The first of the items, of the number asked for, or all if there are fewer.

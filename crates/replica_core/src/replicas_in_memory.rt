@@ -11,7 +11,7 @@ ghost use Rattle.replica_core.specs.declared.event.Event.{Event};
 use crate::asking::have;
 use crate::grown_closures::{copied, gathered, grow, offer_receipt, offer_record};
 use crate::have_message::Have;
-use crate::message::{Message, copy_give, first, give_at, have_at};
+use crate::message::{Message, are_sums, copy_give, copy_receipts, first, give_at, have_at};
 use closure_core::{Closure, NoMemory};
 use fed_config::Config;
 use receipt_core::{Distrust, Receipt};
@@ -138,6 +138,66 @@ pub(crate) fn answer<C: Closure>(
         place,
         content,
     })?;
+    Ok(())
+}
+
+/// What [`Event::AnswerReceipts`](crate::Event::AnswerReceipts) does.
+pub(crate) fn answer_receipts<C: Closure>(
+    alloc: Global,
+    replicas: &mut MemoryReplicas<C>,
+    replica: usize,
+    place: usize,
+) -> Result<(), NoMemory>
+    ensures { (config : Configuration)
+        → OnOk result (MeansEvent (λ c. (C.state c).meaning) config replicas.old replicas.new
+        (Event.AnswerReceipts replica place)) }
+{
+    let Some(closure) = replicas.held.get(replica) else {
+        return Ok(());
+    };
+    let Some(have) = have_at(replicas.sent.as_slice(), place) else {
+        return Ok(());
+    };
+    let content = copy_receipts(alloc, closure, have)?;
+    replicas.sent.push(Message::Give {
+        answerer: replica,
+        place,
+        content,
+    })?;
+    Ok(())
+}
+
+/// What [`Event::AskSums`](crate::Event::AskSums) does.
+pub(crate) fn ask_sums<C: Closure>(
+    replicas: &mut MemoryReplicas<C>,
+    replica: usize,
+) -> Result<(), NoMemory>
+    ensures { (config : Configuration)
+        → OnOk result (MeansEvent (λ c. (C.state c).meaning) config replicas.old replicas.new
+        (Event.AskSums replica)) }
+{
+    if replica < replicas.held.len() {
+        replicas.sent.push(Message::Sums { asker: replica })?;
+    }
+    Ok(())
+}
+
+/// What [`Event::AnswerSums`](crate::Event::AnswerSums) does.
+pub(crate) fn answer_sums<C: Closure>(
+    replicas: &mut MemoryReplicas<C>,
+    replica: usize,
+    place: usize,
+) -> Result<(), NoMemory>
+    ensures { (config : Configuration)
+        → OnOk result (MeansEvent (λ c. (C.state c).meaning) config replicas.old replicas.new
+        (Event.AnswerSums replica place)) }
+{
+    if replica < replicas.held.len() && are_sums(replicas.sent.as_slice(), place) {
+        replicas.sent.push(Message::Marks {
+            answerer: replica,
+            place,
+        })?;
+    }
     Ok(())
 }
 

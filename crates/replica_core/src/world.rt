@@ -5,7 +5,8 @@ ghost use Rattle.replica_core.specs.Inside.ReplicasInMemory.{MeansEvent};
 
 use crate::event::Event;
 use crate::replicas_in_memory::{
-    MemoryReplicas, absorb, answer, ask, join, part, restart, revoke, save, start, take,
+    MemoryReplicas, absorb, answer, answer_receipts, answer_sums, ask, ask_sums, join, part,
+    restart, revoke, save, start, take,
 };
 use closure_core::{Closure, NoMemory};
 use fed_config::Config;
@@ -55,6 +56,15 @@ fn play<C: Closure>(
             replica,
             have: place,
         } => answer(alloc, replicas, *replica, *place),
+        Event::AnswerReceipts {
+            replica,
+            have: place,
+        } => answer_receipts(alloc, replicas, *replica, *place),
+        Event::AskSums { replica } => ask_sums(replicas, *replica),
+        Event::AnswerSums {
+            replica,
+            sums: place,
+        } => answer_sums(replicas, *replica, *place),
         Event::Absorb {
             replica,
             give: place,

@@ -121,7 +121,7 @@ gives_formed k [] valid each = tt
 gives_formed k (q ∷ haves) valid each = (answer-given k q valid each.0.askable, gives_formed k haves valid each.1)
 
 -- Two lists of answers with which a stream begins are one list, if they have one length.
-one_list : (gives others : List GiveMessage) (rest left : List ℕ) → AllByRecursion IsGive gives → AllByRecursion IsGive others
+pub one_list : (gives others : List GiveMessage) (rest left : List ℕ) → AllByRecursion IsGive gives → AllByRecursion IsGive others
     → length gives ≡ length others → give_texts gives ++ rest ≡ give_texts others ++ left → gives ≡ others
 one_list [] [] rest left is valid many w = refl
 one_list [] (o ∷ others) rest left is valid many w = absurd (omega (arith, many))

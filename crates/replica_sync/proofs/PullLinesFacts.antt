@@ -112,7 +112,7 @@ take_both (suc n) k (x ∷ piece) few =
     ap (λ (l : List ℕ). x ∷ l) (take_both n k piece (omega (arith, few))) ∙ ap (λ (m : ℕ). take m (x ∷ piece)) on
 
 -- No bytes end in a line feed.
-no_feed : EndsInFeed [] → ⊥
+pub no_feed : EndsInFeed [] → ⊥
 no_feed (before, same) = let longer = ap length same in let parts = length-append before (10 ∷ []) in omega (arith, longer, parts)
 
 -- Why a call took nothing of some bytes.

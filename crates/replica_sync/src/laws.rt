@@ -33,7 +33,9 @@ ghost use Rattle.replica_sync.specs.ServedPieces.{lines_came};
 ghost use Rattle.replica_sync.specs.declared.piece_pulling.Pulling.{Pulling};
 ghost use Rattle.replica_sync.specs.declared.piece_serving.Serving.{Serving};
 
-pub use replica_core::laws::{agreement, effects, exchange, persistence, provenance, validity};
+pub use replica_core::laws::{
+    agreement, effects, exchange, persistence, provenance, session, validity,
+};
 pub use replica_texts::laws::{gives, haves, snapshots, sole_lines};
 
 /// A line that ends in a piece is the first line of what was kept, of the piece, and of all that
@@ -176,8 +178,7 @@ pub fn understanding()
         → state_of held ≡ joined (state_of m) (state_of k) }
 {}
 
-/// Replicas that each took, in quiet, the whole answers of all others about all buckets have the
-/// same snapshots, byte by byte.
+/// Replicas that each pulled, in quiet, from each other one have the same snapshots, byte by byte.
 pub fn convergence()
     ensures same_snapshots { (past : WorldRun) (since : List Event) (i j : ℕ)
         → AreEvents past.events → i < past.replicas → j < past.replicas

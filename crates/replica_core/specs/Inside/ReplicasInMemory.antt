@@ -1,5 +1,6 @@
 -- Worlds whose replicas are closures in memory.
-use Rattle.std.specs.Prelude.{◌≡◌, ℕ, ◌≤◌, cond, List, length, map, Option, Some, None, ⊤}
+use Rattle.std.specs.Prelude.{◌≡◌, ℕ, ◌≤◌, Bool, true, false, cond, List, length, map}
+use Rattle.std.specs.Prelude.{Option, Some, None, ⊤}
 use Rattle.std.specs.List.{AllByRecursion}
 use Rattle.std.specs.List.Sorted.{IsStrictlySortedBy}
 use Rattle.fed_config.specs.Configuration.{Configuration, HasDomain}
@@ -8,12 +9,13 @@ use Rattle.receipt_core.specs.declared.distrust.Distrust.{Distrust}
 use Rattle.receipt_core.specs.Receipt.{Receipt, receipt_cmp, distrust_cmp}
 use Rattle.receipt_core.specs.Acceptance.{Meaning, IsFitting}
 use Rattle.replica_core.specs.State.{State, joined, is_within_limits}
-use Rattle.replica_core.specs.World.{Message, have_sent, give_sent, World, rules_of, happens}
+use Rattle.replica_core.specs.World.{Message, have_sent, give_sent, sums_sent, marks_sent}
+use Rattle.replica_core.specs.World.{World, rules_of, happens}
 use Rattle.replica_core.specs.World.{AreOf, MeansState}
 use Rattle.replica_core.specs.declared.event.Event.{Event}
 use Rattle.replica_core.specs.declared.message.StoredGive.{StoredGive}
 use Rattle.replica_core.specs.declared.message.Message.{Message as Sent}
-use Rattle.replica_core.specs.declared.message.Message.TheVariants.{Have, Give}
+use Rattle.replica_core.specs.declared.message.Message.TheVariants.{Have, Give, Sums, Marks}
 use Rattle.replica_core.specs.declared.replicas_in_memory.MemoryReplicas.{MemoryReplicas}
 use Rattle.receipt_core.specs.Limits.{receipt_limit, record_limit}
 
@@ -30,16 +32,29 @@ content_of c = record { held = c.receipts.items; records = c.records.items }
 abbrev pub message_of : Sent → Message
 message_of (Have asker have) = have_sent asker have.bucket have.ids
 message_of (Give answerer place content) = give_sent answerer place (content_of content)
+message_of (Sums asker) = sums_sent asker
+message_of (Marks answerer place) = marks_sent answerer place
 
 abbrev pub give_in_message : Option Message → Option State
 give_in_message None = None
 give_in_message (Some (have_sent asker bucket ids)) = None
 give_in_message (Some (give_sent answerer place content)) = Some content
+give_in_message (Some (sums_sent asker)) = None
+give_in_message (Some (marks_sent answerer place)) = None
 
 abbrev pub have_in_message : Option Message → Option (ℕ × List (List ℕ))
 have_in_message None = None
 have_in_message (Some (have_sent asker bucket ids)) = Some (bucket, ids)
 have_in_message (Some (give_sent answerer place content)) = None
+have_in_message (Some (sums_sent asker)) = None
+have_in_message (Some (marks_sent answerer place)) = None
+
+abbrev pub is_sums_message : Option Message → Bool
+is_sums_message None = false
+is_sums_message (Some (have_sent asker bucket ids)) = false
+is_sums_message (Some (give_sent answerer place content)) = false
+is_sums_message (Some (sums_sent asker)) = true
+is_sums_message (Some (marks_sent answerer place)) = false
 
 -- A closure of the configuration can hold these receipts: they fit, they rise, and they are not too
 -- many.
@@ -59,6 +74,8 @@ abbrev pub IsSound : Configuration → Message → Type 0
 IsSound config (have_sent asker bucket ids) = ⊤
 IsSound config (give_sent answerer place content) = CanHold config content.held
     × CanHoldRecords config content.records
+IsSound config (sums_sent asker) = ⊤
+IsSound config (marks_sent answerer place) = ⊤
 
 -- ---- worlds
 

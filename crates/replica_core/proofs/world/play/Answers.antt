@@ -16,6 +16,24 @@ returns-in-Answer g c =
     (MeansEvent (λ closure. (g.C.Closure.state closure).meaning) c.args.config.now c.args.replicas.now
     c.answer.new.replicas event)) (sym c.in-Answer.is) (c.answer.ensures c.args.config.now)
 
+pub returns-in-AnswerReceipts : goal.returns-in-AnswerReceipts
+returns-in-AnswerReceipts g c =
+    subst (λ (event : Event). OnOk c.answer_receipts.result
+    (MeansEvent (λ closure. (g.C.Closure.state closure).meaning) c.args.config.now c.args.replicas.now
+    c.answer_receipts.new.replicas event)) (sym c.in-AnswerReceipts.is) (c.answer_receipts.ensures c.args.config.now)
+
+pub returns-in-AskSums : goal.returns-in-AskSums
+returns-in-AskSums g c =
+    subst (λ (event : Event). OnOk c.ask_sums.result
+    (MeansEvent (λ closure. (g.C.Closure.state closure).meaning) c.args.config.now c.args.replicas.now
+    c.ask_sums.new.replicas event)) (sym c.in-AskSums.is) (c.ask_sums.ensures c.args.config.now)
+
+pub returns-in-AnswerSums : goal.returns-in-AnswerSums
+returns-in-AnswerSums g c =
+    subst (λ (event : Event). OnOk c.answer_sums.result
+    (MeansEvent (λ closure. (g.C.Closure.state closure).meaning) c.args.config.now c.args.replicas.now
+    c.answer_sums.new.replicas event)) (sym c.in-AnswerSums.is) (c.answer_sums.ensures c.args.config.now)
+
 pub returns-in-Join : goal.returns-in-Join
 returns-in-Join g c =
     subst (λ (event : Event). OnOk c.join.result

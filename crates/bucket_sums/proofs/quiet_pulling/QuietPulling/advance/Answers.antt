@@ -1,10 +1,11 @@
-use Rattle.std.proofs.Common.{◌≡◌, ◌∙◌, refl, sym, take, arith, []}
+use Rattle.std.proofs.Common.{◌≡◌, ◌≢◌, ◌∙◌, inl, inr, refl, sym, take, arith, []}
 use Rattle.std.specs.Prelude.{None, Some}
 use Rattle.replica_core.specs.declared.error.SyncError.TheVariants.{NoMemory}
 use Rattle.replica_sync.proofs.PullLinesFacts.{journals_none}
 use Rattle.bucket_sums.specs.QuietPulls.{due_question}
 use Rattle.bucket_sums.specs.declared.quiet_pulling.Stage.TheVariants.{Asking, Pulling as PullsNow}
-use Rattle.bucket_sums.proofs.QuietStepFacts.{none_left_of, not_some}
+use Rattle.bucket_sums.proofs.QuietStepFacts.{none_left_of, not_some, question_due}
+use Rattle.bucket_sums.proofs.QuietPullFacts.{begun_taken, pulling_taken}
 use Rattle.bucket_sums.proofs.QuietPullFacts.{failed_step, haves_begin, lines_step, marks_fail, marks_on, marks_stop, stage_step, waits_step}
 use Rattle.bucket_sums.proofs.quiet_pulling.QuietPulling.advance.Goals as goal
 
@@ -102,3 +103,28 @@ returns-in_ok-pulling-in-Asking-clause-journals g c = journals_none _ _
 
 pub returns-in_default-clause-journals : goal.returns-in_default-clause-journals
 returns-in_default-clause-journals g c = journals_none _ _
+
+pub returns-in-Pulling-clause-taken : goal.returns-in-Pulling-clause-taken
+returns-in-Pulling-clause-taken g c =
+    pulling_taken (due_question c.args.self.now) c.read_lines.new.self c.args.piece.now c.read_lines.result c.read_lines.ensures.taken
+
+pub returns-then-not-is_asked-clause-taken : goal.returns-then-not-is_asked-clause-taken
+returns-then-not-is_asked-clause-taken g c =
+    let self = c.args.self.now in
+    let some : self.written ≢ c.len.result = c.if-not-is_asked.true in
+    λ less. inr (inl (question_due self.question.items [] self.written (omega (arith, some, self.question.ok.0))))
+
+pub returns-in_ok-pulling-in-Asking-clause-taken : goal.returns-in_ok-pulling-in-Asking-clause-taken
+returns-in_ok-pulling-in-Asking-clause-taken g c =
+    let self = c.args.self.now in
+    let begun = c.in_ok-pulling-in-Asking in
+    begun_taken (Some c.in_ok-buckets-in-Asking.buckets.items) (due_question self) begun.pulling (g.C.Closure.state c.args.closure.now).meaning
+    c.args.piece.now c.in_ok-used-in-Asking.used begun.ensures.ok
+
+pub returns-in_default-clause-taken : goal.returns-in_default-clause-taken
+returns-in_default-clause-taken g c =
+    let read = c.in_ok-used-in-Asking in
+    λ less. elim (read.ensures.taken less) [
+      | inl feed ↦ inl feed
+      | inr ended ↦ absurd (ended (not_some c.marks.result _ _ c.marks.ensures c.in_default.not-Some))
+    ]

@@ -1,14 +1,19 @@
-use Rattle.std.proofs.Common.{◌∙◌, ◌++◌, ◌∷◌, [], refl, sym, ap, subst, take}
-use Rattle.std.specs.Prelude.{None, Some}
+use Rattle.std.proofs.Common.{◌∙◌, ◌++◌, ◌∷◌, ◌<◌, ℕ, List, inl, inr, length, [], refl, sym, ap, subst, take}
+use Rattle.std.specs.Prelude.{None, Ok, Some}
 use Rattle.replica_core.specs.declared.error.SyncError.TheVariants.{NoMemory}
-use Rattle.replica_sync.specs.ServedPieces.{came_taken, records_answered}
+use Rattle.replica_texts.specs.SoleLines.{written_header}
+use Rattle.replica_sync.specs.Pieces.{kept_part}
+use Rattle.replica_sync.specs.ServedPieces.{came_taken, due_give, records_answered}
 use Rattle.bucket_sums.specs.RecordsOnce.{left_out_if}
-use Rattle.bucket_sums.specs.Quiet.{ServesFrom, due_marks, fault_in}
+use Rattle.bucket_sums.specs.Quiet.{ServesFrom, due_marks, fault_in, first_due}
+use Rattle.bucket_sums.specs.Serving.{TakesToLine, marks_made}
 use Rattle.bucket_sums.specs.declared.quiet_serving.Opening.TheVariants.{FirstLine, Question, Plain, Answered}
 use Rattle.bucket_sums.proofs.QuietFacts.{asks_on, asks_stops}
 use Rattle.bucket_sums.proofs.QuietStepFacts.{failed, opening_asks, opening_haves, opening_out, opening_stops, opening_within, plain_reads}
 use Rattle.bucket_sums.proofs.QuietStepFacts.{answered_reads, answered_stops}
 use Rattle.bucket_sums.proofs.QuietStepFacts.{question_ends, question_out, step_from}
+use Rattle.bucket_sums.proofs.QuestionFacts.{line_feed}
+use Rattle.bucket_sums.proofs.QuietStepFacts.{haves_taken, marks_due}
 use Rattle.bucket_sums.proofs.quiet_serving.QuietServing.advance.Goals as goal
 
 pub returns-in-Plain-clause-serves : goal.returns-in-Plain-clause-serves
@@ -214,3 +219,38 @@ returns-in-Haves-clause-serves g c config came written own kept h =
     (λ d. ServesFrom Plain (fault_in r) d then due (came ++ came_taken piece m r ∷ []) written) c.in-FirstLine.is same
     (λ opens. opening_haves k part self.haves then due m came piece r written plain c.read-in-Haves.ensures.serves c.read-in-Haves.ensures.records
     c.read-in-Haves.ensures.fault opens) h
+
+pub returns-in-Plain-clause-taken : goal.returns-in-Plain-clause-taken
+returns-in-Plain-clause-taken g c =
+    haves_taken (due_marks c.args.self.now) c.read.new.self c.args.piece.now c.read.result c.read.ensures.taken
+
+pub returns-in_ok-used-in-Answered-clause-taken : goal.returns-in_ok-used-in-Answered-clause-taken
+returns-in_ok-used-in-Answered-clause-taken g c =
+    let ok = c.in_ok-used-in-Answered in
+    let piece = c.args.piece.now in
+    let due = due_marks c.args.self.now in
+    subst (λ (l : List ℕ). TakesToLine (0 < length (first_due due l)) piece ok.used) (sym c.leave_out_if.ensures.due)
+    (haves_taken due c.read-in-Answered.new.self piece (Ok ok.used) ok.ensures.taken)
+
+pub returns-in_ok-marks-in-Question-clause-taken : goal.returns-in_ok-marks-in-Question-clause-taken
+returns-in_ok-marks-in-Question-clause-taken g c =
+    let marks = c.in_ok-marks-in-Question in
+    λ less. inr (marks_due c.config-config.result.now (marks_made c.read_lines.new.self) marks.marks.items
+    (due_give c.leave_out_if-then-has_asked.new.haves) marks.ensures)
+
+pub returns-else-has_asked-clause-taken : goal.returns-else-has_asked-clause-taken
+returns-else-has_asked-clause-taken g c =
+    λ less. let yes = c.has_asked.ensures.asked.1 (c.in_ok-used-in-Question.ensures.taken less) in let no = c.if-has_asked.false in absurd (cc)
+
+pub returns-in-Within-clause-taken : goal.returns-in-Within-clause-taken
+returns-in-Within-clause-taken g c =
+    haves_taken (due_marks c.args.self.now) c.read-in-Within.new.self c.args.piece.now c.read-in-Within.result c.read-in-Within.ensures.taken
+
+pub returns-in_ok-own-in-Sums-clause-taken : goal.returns-in_ok-own-in-Sums-clause-taken
+returns-in_ok-own-in-Sums-clause-taken g c =
+    let ends = rw c.in-Sums.is at c.in_ok-take_first_line-in-FirstLine.ensures.ok in
+    λ less. inl (line_feed (kept_part c.in-FirstLine.part) c.args.piece.now (written_header c.config-config.result.now) c.in-Sums.used ends)
+
+pub returns-in-Haves-clause-taken : goal.returns-in-Haves-clause-taken
+returns-in-Haves-clause-taken g c =
+    haves_taken (due_marks c.args.self.now) c.read-in-Haves.new.self c.args.piece.now c.read-in-Haves.result c.read-in-Haves.ensures.taken

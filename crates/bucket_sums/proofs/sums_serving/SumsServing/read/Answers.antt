@@ -1,8 +1,8 @@
 use Rattle.std.proofs.Common.{◌≡◌, ◌∙◌, sym, subst, ◌++◌, take}
 use Rattle.std.specs.Prelude.{None}
 use Rattle.replica_sync.specs.Pieces.{kept_part}
-use Rattle.bucket_sums.specs.Serving.{TakesQuestion}
-use Rattle.bucket_sums.proofs.QuestionFacts.{no_fault, part_more, part_stops}
+use Rattle.bucket_sums.specs.Serving.{HasAsked, TakesQuestion}
+use Rattle.bucket_sums.proofs.QuestionFacts.{no_fault, part_more, part_stops, question_taken}
 use Rattle.bucket_sums.proofs.sums_serving.SumsServing.read.Goals as goal
 
 pub returns-in-Ok-clause-takes : goal.returns-in-Ok-clause-takes
@@ -24,3 +24,7 @@ returns-in-Err-clause-takes c came before =
     let clear : self.fault ≡ None = no_fault self.fault c.in_default.not-Some in
     let part = subst (λ f. TakesQuestion f config self.question (kept_part self.part) came) clear before in
     part_stops config self c.args.piece.now came c.in-Err.why c.has_asked.ensures.all c.in-Err.ensures.refused part
+
+pub returns-in-Ok-clause-taken : goal.returns-in-Ok-clause-taken
+returns-in-Ok-clause-taken c =
+    question_taken c.args.config.now c.args.self.now c.advance.new.self c.args.piece.now c.in-Ok.used (HasAsked c.advance.new.self) c.in-Ok.ensures.ok
