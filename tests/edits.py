@@ -1,30 +1,34 @@
 #!/usr/bin/env python3
-"""Has the prover refuse wrong bodies: every edit of crates/*/must-fail/ and of crates/*/edits/.
+"""Has the prover refuse wrong bodies: the edits of crates/*/must-fail/ and of crates/*/edits/.
 
-An edit is a change of the code that turns its meaning; if the crate is still proved with it, a contract is too weak. The gate
-tries those of must-fail/, since each costs it up to 45 s of a processor. Those of edits/ have the same form and are tried only
-here. When each was last tried, and what came of it, is in tests/edits.ledger; tests/lib/ledger.py says what a line has. An edit
-is due if the ledger has no line of it, or if what its verdict rests on has changed.
+An edit is a change of the code that turns its meaning; if the crate is still proved with it, a contract is too weak. `rt ci`
+tries those of must-fail/, which a user would name, and proves their crates a second time for it. Those of edits/ are tried by
+waves: wrong bodies of different functions by one check, of just these functions (tests/lib/waves.py).
 
-Each crate is tried in a copy of the repository, some of them side by side, over the libraries that earlier checks left in out/;
-what is missing there is proved first. It needs rt and python3. A line for each edit, and at the end how many were refused; the
-status is 1 if one was not.
+When each was last tried, and what came of it, is in the ledger of its crate, crates/NAME/edits/ledger (tests/lib/ledger.py). An
+edit is due if what its verdict rests on has changed since (tests/lib/grounds.py), or if another kit tried it.
 
-usage: edits [--only-kept] [CRATE..]    --only-kept leaves out those of must-fail/; all crates if none is named. The ledger
-                                        stays as it is
+All are tried over the libraries that earlier checks left in out/, some crates side by side, each in a folder of its own. Change
+no source meanwhile. It needs rt, git and python3. A line for each edit that was not refused for its meaning, and at the end how
+many were tried; the status is 1 if one was accepted, or if nothing is known of one.
+
+usage: edits --gate        after `rt ci` passed: tries at most 60 edits that have no line or are due, and then a sample: the
+                           edits are cut into parts of 60, and the number of the commit says which part is tried, so that
+                           any 18 commits in a row try all. It writes nothing. It fails for one that is accepted, for one that
+                           cannot be applied any more, and for one that has no line and was not tried or was refused by a
+                           name alone. Those that are due are listed, and do not fail
        edits --due [--minutes N] [CRATE..]
-                                        tries those that are due and writes the ledger, until N minutes have passed: the crates
-                                        with most of them first, in each the edits that have no line before those with old
-                                        lines. Wrong bodies of different functions are tried by one check of their crate
-                                        (tests/lib/waves.py), over the crates below as `rt check` left them here. Change no
-                                        source meanwhile. SIGTERM ends it after what is just tried
-       edits --ledger                   proves nothing: it fails if the ledger has a line that says `proved`, that is of an edit
-                                        that is gone, or that --due did not write, if an edit has no line, or if more than 80
-                                        are due, and counts those that are due
-       edits --texts                    proves nothing: it checks that each edit can still be applied
+                           tries those that have no line or are due and writes the ledgers, until N minutes have passed: the
+                           crates with most of them first. SIGTERM ends it after what is just tried
+       edits --all [--minutes N] [CRATE..]
+                           the same for all edits
+       edits --ledger      proves nothing: it fails if a ledger has a line that says `proved`, that is of an edit that is gone,
+                           or that this script did not write, or if an edit has no line; and counts those that are due
+       edits --texts       proves nothing: it checks that each edit can still be applied
 """
 import datetime
 import re
+import resource
 import shutil
 import signal
 import subprocess
@@ -33,6 +37,7 @@ import tempfile
 import threading
 import time
 from concurrent.futures import ThreadPoolExecutor
+from dataclasses import dataclass
 from pathlib import Path
 
 TOP = Path(__file__).resolve().parent.parent
@@ -40,14 +45,12 @@ sys.dont_write_bytecode = True
 sys.path.insert(0, str(TOP / "tests/lib"))
 import ledger  # noqa: E402
 import waves  # noqa: E402
-from prover import Prover, lanes, link_or_copy  # noqa: E402
+from grounds import Grounds  # noqa: E402
+from prover import Prover, lanes  # noqa: E402
 
-# With how many edits due --ledger still passes.
-MOST_DUE = 80
-LEDGER = TOP / "tests/edits.ledger"
-REFUSED = "refused, as it must be"
-# What rt says if only a name is gone: the contract was not tried.
-SAYS_LITTLE = "says little of the contract"
+# How many edits that have no line or are due the gate tries, and how many others.
+MOST_DUE = 60
+SAMPLE = 60
 
 
 def stop(text):
@@ -61,78 +64,13 @@ def uses():
     return {name.split()[0]: [other for other in others.split() if other in named] for name, others in lines}
 
 
-def with_below(crate, used):
-    found = [crate]
-    for at in found:
-        found += [other for other in used[at] if other not in found]
-    return found
-
-
 def edits_of(crate, folders=("must-fail", "edits")):
     return [file for folder in folders for file in sorted((TOP / "crates" / crate / folder).glob("*.edit"))]
 
 
-def copy_repository(crate, used, room):
-    """Copies the crate and all below it, without the edits that rt tries."""
-    shutil.copy(TOP / "HANDLES", room)
-    for name in with_below(crate, used):
-        for part in ["src", "specs", "proofs"]:
-            if (TOP / "crates" / name / part).is_dir():
-                shutil.copytree(TOP / "crates" / name / part, room / "crates" / name / part)
-        kept = TOP / "crates" / name / "out/rlib"
-        if name != crate and kept.is_dir():
-            shutil.copytree(kept, room / "crates" / name / "out/rlib", copy_function=link_or_copy)
-    (room / "crates.txt").write_text("".join(f"{line}\n" for line in own_lines(with_below(crate, used))))
-
-
-def own_lines(names):
-    lines = (TOP / "crates.txt").read_text().splitlines()
-    return [line for line in lines if line.split(":")[0].split() and line.split(":")[0].split()[0] in names]
-
-
-def give_edits(room, crate, edits):
-    """Puts these edits into the place of those that rt tries."""
-    target = room / "crates" / crate / "must-fail"
-    shutil.rmtree(target, ignore_errors=True)
-    target.mkdir()
-    for file in edits:
-        shutil.copy(file, target / file.name)
-
-
-def run_rt(room, *words):
-    return subprocess.run(
-        ["rt", *words], cwd=room, stdin=subprocess.DEVNULL, capture_output=True, text=True, errors="replace"
-    )
-
-
-def tried_in(room, crate, edits):
-    """What rt says of each of these edits, in a copy of the repository."""
-    give_edits(room, crate, edits)
-    ran = run_rt(room, "must-fail", crate)
-    said = [line for line in ran.stdout.splitlines() if line.startswith("rt: must-fail ")]
-    if len(said) != len(edits):
-        said.append(
-            f"rt: must-fail {crate}: rt tried {len(said)} of {len(edits)} edits, and ended with status {ran.returncode}\n"
-            f"{(ran.stdout + ran.stderr)[-2000:]}"
-        )
-    return said
-
-
-def try_edits(crate, used, edits):
-    with tempfile.TemporaryDirectory() as name:
-        copy_repository(crate, used, Path(name))
-        return tried_in(Path(name), crate, edits)
-
-
-def try_all(work, used):
-    """Tries all edits of all crates, and prints a line for each, sorted."""
-    with ThreadPoolExecutor(lanes()) as pool:
-        said = pool.map(lambda item: try_edits(item[0], used, item[1]), sorted(work.items(), key=lambda item: -len(item[1])))
-        lines = sorted(line.removeprefix("rt: ") for lines in said for line in lines)
-    bad = [line for line in lines if REFUSED not in line or SAYS_LITTLE in line]
-    print(*lines, sep="\n")
-    print(f"{len(lines) - len(bad)} edits refused, {len(bad)} not")
-    sys.exit(1 if bad or not lines else 0)
+def output_of(*words):
+    ran = subprocess.run(words, cwd=TOP, stdin=subprocess.DEVNULL, capture_output=True, text=True, errors="replace")
+    return ran.stdout.strip()
 
 
 def stale(edit):
@@ -162,15 +100,24 @@ def logic_of_kit():
     """The kit's logic, as `rt version` names it, or None if there is no rt."""
     if not shutil.which("rt"):
         return None
-    return re.search(r"\blogic (\w+)", run_rt(TOP, "version").stdout)[1]
+    return re.search(r"\blogic (\w+)", output_of("rt", "version"))[1]
 
 
-def count_due(lines, logic):
-    """The edits without a line, those whose grounds have changed, and those that another kit tried, each oldest first."""
-    used = uses()
-    grounds = ledger.Grounds(TOP, used)
+@dataclass
+class Due:
+    """The (crate, edit) that have no line, that rest on something else now, and that another kit tried, each oldest first."""
+
+    none: list
+    changed: list
+    other: list
+
+    def all(self):
+        return [*self.none, *self.changed, *self.other]
+
+
+def find_due(lines, grounds, logic):
     none, changed, other = [], [], []
-    for crate in used:
+    for crate in grounds.used:
         for edit in edits_of(crate):
             line = lines.get((crate, edit.stem))
             if not line:
@@ -179,109 +126,168 @@ def count_due(lines, logic):
                 changed.append((line.day, crate, edit))
             elif logic and line.logic != logic:
                 other.append((line.day, crate, edit))
-    return sorted(none), sorted(changed), sorted(other)
+    return Due(*([(crate, edit) for _, crate, edit in sorted(found)] for found in (none, changed, other)))
 
 
-def check_ledger():
-    lines, faults = ledger.read(LEDGER)
-    there = {(crate, edit.stem) for crate in uses() for edit in edits_of(crate)}
+def ledger_faults():
+    """What is wrong with the ledgers, and their lines."""
+    used = uses()
+    lines, faults = ledger.read_all(TOP, used)
+    there = {(crate, edit.stem) for crate in used for edit in edits_of(crate)}
     for name, line in sorted(lines.items()):
         if name not in there:
             faults.append(f"{line.crate}/{line.edit}: the ledger has a line, and the edit is gone")
         elif line.verdict == ledger.PROVED:
             faults.append(f"{line.crate}/{line.edit}: the crate is still proved with it, so its contract is too weak")
-    none, changed, other = count_due(lines, logic_of_kit())
-    if none:
-        faults.append(f"{len(none)} edits have no line: tests/edits.py --due tries them")
-    if len(changed) > MOST_DUE:
-        faults.append(f"{len(changed)} edits are due, and {MOST_DUE} may be")
+    faults += [f"{crate}/{edit}: it has no line: tests/edits.py --due tries it" for crate, edit in sorted(there - set(lines))]
+    return faults, lines
+
+
+def check_ledger():
+    faults, lines = ledger_faults()
+    due = find_due(lines, Grounds(TOP, uses()), logic_of_kit())
     counts = {verdict: sum(line.verdict == verdict for line in lines.values()) for verdict in ledger.VERDICTS}
     print("\n".join([
-        *faults, *(f"{count} {verdict}" for verdict, count in counts.items() if count),
-        f"{len(there)} edits: {len(changed)} due, {len(none)} without a line, {len(other)} tried by another kit; {len(faults)} faults",
+        *faults, *(f"due: {crate}/{edit.stem}" for crate, edit in due.changed),
+        *(f"{count} {verdict}" for verdict, count in counts.items() if count),
+        f"{len(lines)} lines: {len(due.changed)} due, {len(due.none)} edits without a line, {len(due.other)} tried by another kit; "
+        f"{len(faults)} faults",
     ]))
-    sys.exit(1 if faults or not there else 0)
+    sys.exit(1 if faults or not lines else 0)
 
 
 class Trial:
-    """A run of --due: the ledger that its lanes write, and when they end."""
+    """A run that tries edits: what it knows of them, what came of those that it tried, and when it ends."""
 
-    def __init__(self, minutes):
-        self.used, self.logic, self.prover = uses(), logic_of_kit(), Prover(TOP)
-        self.grounds = ledger.Grounds(TOP, self.used)
-        self.end, self.alone, self.untold, self.bad = time.monotonic() + 60 * minutes, threading.Lock(), 0, 0
-        self.tried = {}
-        there = {(crate, edit.stem) for crate in self.used for edit in edits_of(crate)}
-        self.lines, self.faults = ledger.change(LEDGER, lambda lines: {name: line for name, line in lines.items() if name in there})
+    def __init__(self, writes, minutes=1_000_000):
+        self.logic, self.prover, self.grounds, self.writes = logic_of_kit(), Prover(TOP), Grounds(TOP, uses()), writes
+        if self.logic is None:
+            stop("rt is missing")
+        self.lines, self.faults = ledger.read_all(TOP, self.grounds.used)
         if self.faults:
             stop(self.faults[0])
+        self.due = find_due(self.lines, self.grounds, self.logic)
+        self.end, self.alone = time.monotonic() + 60 * minutes, threading.Lock()
+        self.said, self.bad, self.left_out = {}, [], []
 
-    def write(self):
-        """Adds what was tried to the ledger. While that has lines that are not valid, as within a merge, it is not
+    def is_over(self):
+        return time.monotonic() >= self.end
+
+    def write(self, crate, digests):
+        """Adds what was tried of a crate to its ledger. While that has lines that are not valid, as within a merge, it is not
         written."""
-        lines, self.faults = ledger.change(LEDGER, lambda lines: {**lines, **self.tried})
-        for fault in self.faults[:1]:
+        day = datetime.datetime.now(datetime.timezone.utc).date().isoformat()
+        there = {(crate, edit.stem) for edit in edits_of(crate)}
+        new = {(crate, name): ledger.Line(crate, name, digest, self.logic, day, self.said[crate, name])
+               for name, digest in digests.items() if self.said[crate, name]}
+        _, faults = ledger.change(
+            ledger.path_of(TOP, crate), lambda lines: {name: line for name, line in {**lines, **new}.items() if name in there})
+        self.faults += faults
+        for fault in faults[:1]:
             print(f"the ledger is not written: {fault}", flush=True)
-        if not self.faults:
-            self.lines = lines
+
+    def is_bad(self, crate, name, verdict):
+        """Whether this verdict fails the run: the gate is not failed by a name that is gone, unless the edit has no line."""
+        if verdict == ledger.BY_NAME:
+            return self.writes or (crate, name) not in self.lines
+        return verdict in (ledger.PROVED, None)
 
     def note(self, crate, digests, verdicts, said):
-        """Writes the verdicts on some edits of a crate into the ledger."""
-        day = datetime.datetime.now(datetime.timezone.utc).date().isoformat()
+        """Takes the verdicts on some edits of a crate."""
         with self.alone:
             for name, verdict in sorted(verdicts.items()):
-                print(f"{crate}/{name}: {verdict or 'nothing is known'}", flush=True)
-                if verdict:
-                    self.tried[crate, name] = ledger.Line(crate, name, digests[name], self.logic, day, verdict)
-                else:
-                    print(said[-2000:], flush=True)
-                self.untold += not verdict
-                self.bad += verdict in (ledger.PROVED, ledger.BY_NAME)
-            self.write()
+                self.said[crate, name] = verdict
+                is_bad = self.is_bad(crate, name, verdict)
+                if is_bad or self.writes or verdict == ledger.BY_NAME:
+                    print(f"{crate}/{name}: {verdict or f'nothing is known{chr(10)}{said[-2000:]}'}", flush=True)
+                self.bad += [f"{crate}/{name}"] * is_bad
+            if self.writes:
+                self.write(crate, {name: digests[name] for name in verdicts})
 
     def try_wave(self, tries, wave):
         """Tries a wave, and again those of its edits of which it says nothing."""
-        digests = {edit.name(): self.grounds.digest(tries.crate, edit.path) for edit in wave}
+        digests = {edit.name(): self.grounds.digest(tries.crate, edit.path) for edit in wave} if self.writes else {}
         verdicts, said = tries.verdicts(wave)
         again = [edit for edit in wave if verdicts[edit.name()] is None and len(wave) > 1]
         self.note(tries.crate, digests, {name: it for name, it in verdicts.items() if it or not again}, said)
         for part in waves.waves_again(again, said):
-            if time.monotonic() < self.end:
+            if not self.is_over():
                 self.try_wave(tries, part)
+
+    def leave_out(self, crate, edits, why):
+        with self.alone:
+            print(f"left out: {len(edits)} edits of {crate}: {why}", flush=True)
+            self.left_out += [(crate, edit.stem) for edit in edits]
 
     def try_crate(self, crate, edits):
         """Tries these edits of a crate over one check of it as it is, until the time is over."""
         lacking = self.prover.lacks(crate)
-        if lacking or time.monotonic() >= self.end:
-            why = f"{crate}: `rt check` has to prove {lacking[0]} first" if lacking else f"{crate}: the time is over"
-            print(why, flush=True)
+        if lacking or self.is_over():
+            self.leave_out(crate, edits, f"the library {lacking[0]} is not built from these sources" if lacking else "the time is over")
             return
         with tempfile.TemporaryDirectory() as room:
             tries = waves.Waves(self.prover, crate, room)
             unproved = tries.begin()
             if unproved:
-                print(f"{crate} is not proved, so none of its edits is tried\n{unproved[-2000:]}", flush=True)
-                self.untold += len(edits)
+                self.note(crate, {}, {edit.stem: None for edit in edits}, f"{crate} is not proved\n{unproved}")
                 return
             for wave in waves.in_waves([waves.read_edit(tries.folder, edit) for edit in edits]):
-                if time.monotonic() < self.end:
+                if not self.is_over():
                     self.try_wave(tries, wave)
 
-
-def try_due(minutes, names):
-    if logic_of_kit() is None:
-        stop("rt is missing")
-    trial, work = Trial(minutes), {}
-    for _, crate, edit in [edit for edits in count_due(trial.lines, trial.logic) for edit in edits]:
-        if not names or crate in names:
+    def run(self, chosen):
+        """Tries these (crate, edit), the crates with most of them first."""
+        work = {}
+        for crate, edit in chosen:
             work.setdefault(crate, []).append(edit)
-    for number in (signal.SIGINT, signal.SIGTERM):
-        signal.signal(number, lambda *_: setattr(trial, "end", 0))
-    with ThreadPoolExecutor(lanes()) as pool:
-        list(pool.map(lambda item: trial.try_crate(*item), sorted(work.items(), key=lambda item: -len(item[1]))))
-    left = [edit for edits in count_due(trial.lines, trial.logic) for edit in edits]
-    print(f"{len(left)} edits are left; of those tried {trial.bad} were not refused for their meaning, and of {trial.untold} nothing is known")
-    sys.exit(1 if trial.bad or trial.untold or trial.faults else 0)
+        for number in (signal.SIGINT, signal.SIGTERM):
+            signal.signal(number, lambda *_: setattr(self, "end", 0))
+        with ThreadPoolExecutor(lanes()) as pool:
+            list(pool.map(lambda item: self.try_crate(*item), sorted(work.items(), key=lambda item: -len(item[1]))))
+
+    def summary(self):
+        counts = {verdict: sum(it == verdict for it in self.said.values()) for verdict in ledger.VERDICTS}
+        words = [f"{count} {verdict}" for verdict, count in counts.items() if count]
+        used = resource.getrusage(resource.RUSAGE_CHILDREN)
+        return f"{len(self.said)} edits tried{''.join(f', {it}' for it in words)}, in {used.ru_utime + used.ru_stime:.0f} s of a processor"
+
+
+def part_of_commit(edits):
+    """The edits of the sample, and which part of all they are. The number of the commit says which; in a clone that does not
+    have all commits its name does."""
+    is_whole = output_of("git", "rev-parse", "--is-shallow-repository") == "false"
+    number = int(output_of("git", "rev-list", "--count", "HEAD") if is_whole else output_of("git", "rev-parse", "HEAD") or "0", 10 if is_whole else 16)
+    parts = max(1, -(-len(edits) // SAMPLE))
+    part = number % parts
+    return edits[part * SAMPLE : (part + 1) * SAMPLE], f"part {part + 1} of {parts}"
+
+
+def gate():
+    """Tries what is new or due, and the sample of this commit."""
+    trial = Trial(writes=False)
+    kept = [(crate, edit) for crate in sorted(trial.grounds.used) for edit in edits_of(crate, ["edits"])]
+    due = [it for it in trial.due.all() if it[1].parent.name == "edits"]
+    sample, part = part_of_commit(kept)
+    first = due[:MOST_DUE]
+    faults = [f"{crate}/{edit.stem}: {why}" for crate, edit in kept if (why := stale(edit))]
+    trial.run([*first, *(it for it in sample if it not in first)])
+    print(*(f"due: {crate}/{edit.stem}" for crate, edit in [*trial.due.changed, *trial.due.other]), *faults, sep="\n")
+    untried = [f"{crate}/{edit.stem}" for crate, edit in trial.due.none if not trial.said.get((crate, edit.stem)) and edit.parent.name == "edits"]
+    print(*(f"{name}: it has no line, and was not tried" for name in untried), sep="\n")
+    print(f"{trial.summary()}: {len(first)} of {len(due)} that are due or have no line, and {part}; "
+          f"{len(trial.left_out)} left out, {len(trial.bad) + len(faults) + len(untried)} faults")
+    sys.exit(1 if trial.bad or faults or untried else 0)
+
+
+def try_chosen(words, minutes, names):
+    """Tries the edits of these crates, all of them or those that are due, and writes the ledgers."""
+    trial = Trial(writes=True, minutes=minutes)
+    chosen = [(crate, edit) for crate in trial.grounds.used for edit in edits_of(crate)] if "--all" in words else trial.due.all()
+    chosen = [it for it in chosen if not names or it[0] in names]
+    trial.run(chosen)
+    left = sum((crate, edit.stem) not in trial.said for crate, edit in chosen)
+    print(f"{trial.summary()}; {left} are left, and {len(trial.bad)} were not refused for their meaning")
+    sys.exit(1 if trial.bad or trial.faults else 0)
 
 
 def number_after(words, option, default):
@@ -298,19 +304,15 @@ def number_after(words, option, default):
 def main():
     words = sys.argv[1:]
     minutes = number_after(words, "--minutes", 1_000_000)
-    if words == ["--texts"]:
-        check_texts()
-    if words == ["--ledger"]:
-        check_ledger()
-    used, names = uses(), [word for word in words if word not in ("--only-kept", "--due")]
-    unknown = [name for name in names if name not in used]
+    alone = {"--texts": check_texts, "--ledger": check_ledger, "--gate": gate}
+    if len(words) == 1 and words[0] in alone:
+        alone[words[0]]()
+    if words[:1] not in (["--due"], ["--all"]):
+        stop("usage: edits --gate, --due, --all, --ledger or --texts")
+    unknown = [name for name in words[1:] if name not in uses()]
     if unknown:
         stop(f"crates.txt names no {unknown[0]}")
-    if "--due" in words:
-        try_due(minutes, names)
-    folders = ["edits"] if "--only-kept" in words else ["must-fail", "edits"]
-    work = {crate: edits for crate in names or used if (edits := edits_of(crate, folders))}
-    try_all(work, used)
+    try_chosen(words, minutes, words[1:])
 
 
 if __name__ == "__main__":

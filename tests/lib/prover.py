@@ -57,9 +57,19 @@ class Prover:
         """How rt calls the prover to check the crate, by one job."""
         return [self.rtlib.RATTLE, "check", *self.crates[name].words(["--jobs", "1"])]
 
+    def is_built(self, name):
+        """Whether the crate's library is built of the sources that are there. `rt check` leaves a stamp with it; `rt ci` leaves
+        none, so there the library has to be younger than all sources."""
+        crate = self.crates[name]
+        made = Path(crate.rlib, "format")
+        if Path(crate.folder, "out/rlib/stamp").exists() or not made.exists():
+            return crate.is_built()
+        folders = [Path(it.folder, part) for it in [*crate.below(), crate] for part in self.rtlib.PARTS]
+        return all(file.stat().st_mtime < made.stat().st_mtime for folder in folders for file in folder.rglob("*") if file.is_file())
+
     def lacks(self, name):
         """The libraries below a crate that are not built from the sources that are there."""
-        return [it.name for it in self.crates[name].below() if not it.is_built()]
+        return [it.name for it in self.crates[name].below() if not self.is_built(it.name)]
 
     def check(self, name, texts, kept):
         """The status and the output of a check of the crate with these texts, over a folder of kept work."""
