@@ -99,6 +99,7 @@ UNITS = "deploy/*.service deploy/*.timer deploy/*.conf deploy/fedbundle-*"
 # In each part those that take longest come first, so that they do not end last.
 SCRIPTS = [
     Script("release.py", "", FIRST, "xz"),
+    Script("merge.py", "", FIRST, "git xz"),
     Script("pages.py", "", FIRST, "git", "cc"),
     Script("manual.py", "", FIRST, "bash", "man zsh rt"),
     Script("edits.py", "--ledger", FIRST),
