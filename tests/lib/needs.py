@@ -79,6 +79,11 @@ class Script:
         return f"{self.file} {self.words}".strip()
 
     @property
+    def has_program(self):
+        """Whether it runs the program."""
+        return self.when in (USUAL, BY_HAND) or "$FEDBUNDLE" in self.words
+
+    @property
     def key(self):
         """The name of its file in tests/passed/."""
         return f"{self.name.replace('/', '-').replace('.py', '').replace(' ', '_')}.txt"
@@ -87,11 +92,14 @@ class Script:
 # What a replica is made of.
 REPLICA = "crates/replica_* crates/fair_turns crates/wait_index crates/local_answers crates/request_lines crates/peer_talks"
 LIBRARY = "crates/fedbundle_c crates/*_c_calls include tools/library.sh"
+CORE = "crates/trust_closure crates/closure_* crates/wait_index crates/replica_core crates/replica_journal crates/replica_sync"
+ROWS = "tests/rows/programs/rows tests/rows/cases/rows"
 UNITS = "deploy/*.service deploy/*.timer deploy/*.conf deploy/fedbundle-*"
 
 # In each part those that take longest come first, so that they do not end last.
 SCRIPTS = [
     Script("release.py", "", FIRST, "xz"),
+    Script("merge.py", "", FIRST, "git xz"),
     Script("pages.py", "", FIRST, "git", "cc"),
     Script("manual.py", "", FIRST, "bash", "man zsh rt"),
     Script("edits.py", "--ledger", FIRST),
@@ -125,7 +133,7 @@ SCRIPTS = [
     Script("rows/play.py", "", PROVED, "rt"),
     Script("edits.py", "--gate", PROVED, "rt"),
 
-    Script("certificates.py", "", BY_HAND, "rt openssl python:cryptography", "", "crates/cert_key crates/pem_text"),
+    Script("certificates.py", "", BY_HAND, "rt openssl python:cryptography", "", "crates/cert_key crates/key_view crates/floor_rows"),
     Script("deploy.py", "", BY_HAND, "", "systemd-analyze stunnel4 openssl", f"deploy {REPLICA}"),
     Script("first_day.py", "", BY_HAND, "root mounts openssl systemd-sysusers systemd-tmpfiles", "", f"docs/OPERATING.md {UNITS}"),
     Script("health.py", "rules prometheus page slow", BY_HAND, "openssl curl", "promtool chromium",
@@ -140,8 +148,9 @@ SCRIPTS = [
            f"docs/OPERATING.md {UNITS}"),
     Script("site.py", "", BY_HAND, "openssl", "", "deploy/fedbundle-import deploy/fedbundle-fetch deploy/fedbundle-spire"),
     Script("systemd.py", "", BY_HAND, "root mounts /lib/systemd/systemd", "", UNITS),
-    Script("system/calls.py", "", BY_HAND, "cc nm rt", "", f"{LIBRARY} crates/replica_core crates/replica_sync"),
-    Script("system/calls.py", "all", BY_HAND, "cc nm rt", "", f"{LIBRARY} crates/replica_core crates/replica_sync"),
+    Script("rows/play.py", "schedules", BY_HAND, "rt", "", f"tests/rows/programs/simulation tests/rows/cases/simulation {CORE}"),
+    Script("system/calls.py", "", BY_HAND, "cc nm rt", "", f"{ROWS} {CORE}"),
+    Script("system/calls.py", "all", BY_HAND, "cc nm rt", "", f"{ROWS} {CORE} crates/command_rows crates/floor_rows"),
     Script("system/peers.py", "slow", BY_HAND, "", "", "crates/replica_client crates/replica_sync crates/replica_sockets"),
     Script("system/refusals.py", "all", BY_HAND, "cc nm", "", "crates/state_* crates/command_* crates/subcommands"),
     Script("system/replica.py", "20 three status limits wait idle log descriptors slow crowd signal refusals folds", BY_HAND,

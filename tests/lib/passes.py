@@ -38,11 +38,11 @@ def digest_of(script):
     return digest.hexdigest()[:16]
 
 
-def write(script, parts):
-    """Notes that a script has passed on the files as they are."""
+def write(script, parts, digest):
+    """Notes that a script has passed on files of this digest."""
     commit = subprocess.run(["git", "rev-parse", "--short=8", "HEAD"], cwd=TOP, capture_output=True, text=True).stdout.strip()
     FOLDER.mkdir(exist_ok=True)
-    (FOLDER / script.key).write_text(f"{datetime.date.today()} {commit or 'no-commit'} {parts} left out {digest_of(script)}\n")
+    (FOLDER / script.key).write_text(f"{datetime.date.today()} {commit or 'no-commit'} {parts} left out {digest}\n")
 
 
 def read(script):

@@ -477,7 +477,9 @@ def gone(program, above):
                     return
                 with stream:
                     begun.append(stream.recv(10, socket.MSG_WAITALL))
-                if not ends.is_set():
+                # Once the second connection of a session is ended too: else the relay would get that one, and be taken for a peer
+                # that does not know sums.
+                if not ends.is_set() and len(begun) % 2 == 0:
                     listener.close()
                     return
 
