@@ -296,7 +296,7 @@ def rolled_back(machine, old, new):
     """The commands of the page for a rollback by package."""
     before, lines = report(machine), section_blocks("sh", "### Rollback")[0].splitlines()
     for line in lines:
-        machine.run(f"cd {old.parent} && {line.replace('VERSION', EARLIER)}")
+        machine.run(f"cd {shlex.quote(str(old.parent))} && {line.replace('VERSION', EARLIER)}")
     version = machine.run("dpkg-query --show --showformat '${Version}' fedbundle", quiet=True)
     check(version == EARLIER, f"the package is {version} again")
     pid = property_of(machine, "fedbundle-replica.service", "MainPID")
