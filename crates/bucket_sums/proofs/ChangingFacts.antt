@@ -454,7 +454,7 @@ module _ (pulling : Pulling) (m held : Meaning) (config : Configuration) (came :
     from = from_all.each;
   }
 
-  -- Of each bucket the asker holds what the other held, or a receipt with the same id.
+  -- The asker holds of each bucket what the other held, or a receipt with the same id.
   receipt_there : (r : Receipt) → Contains least.held r → (s : Receipt) × Contains held.held s × (receipt_id_of s ≡ receipt_id_of r)
   receipt_there r c =
       let b = bucket_of_id r in

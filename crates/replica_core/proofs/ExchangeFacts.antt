@@ -51,7 +51,7 @@ receipts-is rules w i j b k ids l e =
     ap (λ (t : Bool). apply rules.limits w (where_so t (sends_give (without_records (w.now j)) j k (slice_get w.sent k)))) (replica-true rules j l)
     ∙ ap (λ (f : Option Message). apply rules.limits w (sends_give (without_records (w.now j)) j k f)) e
 
--- The same of both kinds of answer.
+-- The same for both kinds of answer.
 pub answered-with : (full : Bool) (rules : Rules) (w : World) (i j b k : ℕ) (ids : List (List ℕ)) → j < rules.replicas
     → slice_get w.sent k ≡ Some (have_sent i b ids)
     → happens rules w (answer_with full j k) ≡ with_message w (give_sent j k (content_of (shown_with full (w.now j)) b ids))
@@ -142,7 +142,7 @@ keeps-shown : (full : Bool) (state : State) → Keeps IsReceipt IsDistrust state
 keeps-shown true state s = s
 keeps-shown false state s = keeps-without IsReceipt IsDistrust state s
 
--- An answer is no restart.
+-- An answer is not a restart.
 pub no-restart-with : (full : Bool) (i j k : ℕ) → answer_with full j k ≢ Restart i
 no-restart-with true i j k e = cc
 no-restart-with false i j k e = cc

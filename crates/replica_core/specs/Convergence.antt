@@ -215,8 +215,8 @@ abbrev pub answerer_held : {p : Peers} {events : List Event} → Rules → World
     → Comparison p events → State
 answerer_held {p = p} rules start c = (at_marks rules start c).now p.answerer
 
--- Of each part, the records and each bucket, both held the same then, or the asker takes an answer
--- about it that is asked for later. The records are in an answer about any bucket that has them.
+-- For each part, the records and each bucket: both held the same then, or the asker takes an answer
+-- about it, which is asked for later. The records are in an answer about any bucket that has them.
 -- The exchanges come in any order, and other events between them.
 pub record SumsCourse (rules : Rules) (start : World) (p : Peers)
     (events : List Event) : Type 0 where

@@ -1,6 +1,6 @@
 //! What the lines of answers bring that was not held. Records of distrust wait, so that those that
 //! come together are taken together.
-ghost use Rattle.std.specs.Prelude.{◌≡◌, Contains, IsTrue};
+ghost use Rattle.std.specs.Prelude.{◌≡◌, [], Contains, IsTrue};
 ghost use Rattle.std.specs.declared.cmp.Ordering.TheVariants.{Less};
 ghost use Rattle.std.specs.List.{AllByRecursion};
 ghost use Rattle.std.specs.List.Sorted.{IsStrictlySortedBy};
@@ -56,6 +56,7 @@ impl News {
 
     /// Empties the journal.
     pub(crate) fn empty_journal(&mut self)
+        ensures journal { self.new.journal.items ≡ [] }
         ensures later { self.new.later ≡ self.old.later }
         ensures free { self.new.free ≡ self.old.free }
     {

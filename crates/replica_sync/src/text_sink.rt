@@ -11,11 +11,12 @@ pub(crate) struct TextSink {
 }
 
 impl TextSink {
-    ghost use Rattle.std.specs.Prelude.{◌≡◌, []};
+    ghost use Rattle.std.specs.Prelude.{◌≡◌, [], false};
     ghost use Rattle.replica_sync.specs.Inside.ServingSteps.{text_in};
 
     pub(crate) fn new(alloc: Global) -> TextSink
-        ensures { text_in result ≡ [] }
+        ensures text { text_in result ≡ [] }
+        ensures works { result.failed ≡ false }
     {
         TextSink {
             text: Vec::new(alloc),
