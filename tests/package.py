@@ -95,11 +95,8 @@ def archive_like(folder, change, more=()):
 
 def texts_here():
     """What is not compiled, as tools/release.py would put it into an archive of the sources here, by its name there."""
-    pages = [TOP / "README.md", TOP / "bench/RESULTS.md", *(path for path in (TOP / "docs").rglob("*") if path.suffix in (".md", ".png", ".svg"))]
-    found = {f"share/doc/fedbundle/{path.relative_to(TOP)}": path.read_bytes() for path in pages}
-    found["share/doc/fedbundle/fedbundle.default"] = (TOP / "deploy/fedbundle.default").read_bytes()
-    found.update({place: content for place, (content, _) in tool_of("release").plain_files().items()})
-    return {tool_of("package").ROOT + place: content for place, content in found.items()}
+    files = tool_of("release").plain_files()
+    return {tool_of("package").ROOT + place: content for place, (content, _) in files.items()}
 
 
 def archive_here(folder):

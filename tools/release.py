@@ -52,6 +52,9 @@ TEXTS = {
     "share/bash-completion/completions/fedbundle": "completions/fedbundle.bash",
     "share/doc/fedbundle/CHANGELOG.md": "CHANGELOG.md",
     "share/doc/fedbundle/LICENSE": "LICENSE",
+    "share/doc/fedbundle/README.md": "README.md",
+    "share/doc/fedbundle/bench/RESULTS.md": "bench/RESULTS.md",
+    "share/doc/fedbundle/fedbundle.default": "deploy/fedbundle.default",
     "share/doc/fedbundle/grafana-dashboard.json": "deploy/grafana-dashboard.json",
     "share/doc/fedbundle/prometheus-rules.yml": "deploy/prometheus-rules.yml",
     "share/doc/fedbundle/stunnel-pull.conf": "deploy/stunnel-pull.conf",
@@ -139,9 +142,15 @@ def units():
     return {f"lib/systemd/system/{name}": f"deploy/{name}" for name in names}
 
 
+def pages():
+    """The pages and their pictures, so that their links to each other hold."""
+    found = [path.relative_to(TOP) for path in (TOP / "docs").rglob("*") if path.suffix in (".md", ".png", ".svg")]
+    return {f"share/doc/fedbundle/{path}": str(path) for path in found}
+
+
 def plain_files():
     """What is not compiled: for each place in the archive the content and the mode."""
-    found = {place: ((TOP / path).read_bytes(), 0o644) for place, path in {**TEXTS, **units()}.items()}
+    found = {place: ((TOP / path).read_bytes(), 0o644) for place, path in {**TEXTS, **units(), **pages()}.items()}
     found.update({place: ((TOP / path).read_bytes(), 0o755) for place, path in SCRIPTS.items()})
     found["lib/pkgconfig/fedbundle.pc"] = PKG_CONFIG.format(version=version()).encode(), 0o644
     return found
