@@ -14,7 +14,7 @@ use state_files::{journal_path, load_state};
 use std::alloc::{AllocError, Global};
 use std::io::Read;
 use std::{fs, io};
-use trust_closure::IndexedClosure;
+use trust_closure::{Closure, IndexedClosure};
 
 /// The path of standard input as a file.
 const STANDARD_INPUT: &str = "/dev/stdin";
@@ -298,17 +298,19 @@ fn say_changed_state(
 }
 
 fn is_refused_so(rt: &HostRuntime, config: &Config, path: &str, error: &CommandError) -> bool {
-    let loaded: Result<IndexedClosure, CommandError> = load_state(
+    refusal_of::<IndexedClosure>(rt, config, path) == Some(*error)
+}
+
+// Why the state is refused, if it is.
+fn refusal_of<C: Closure>(rt: &HostRuntime, config: &Config, path: &str) -> Option<CommandError> {
+    let loaded: Result<C, CommandError> = load_state(
         rt,
         rt.alloc(),
         config,
         path,
         ProgressMode::Silent,
     );
-    match loaded {
-        Ok(_) => false,
-        Err(found) => found == *error,
-    }
+    loaded.err()
 }
 
 fn say_refused_state(
