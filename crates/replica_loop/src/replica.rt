@@ -48,13 +48,22 @@ pub fn run_replica<R: Runtime<File = File, A = Global> + Net>(
     configs: &GivenConfigs,
     settings: &Settings<'_, '_>,
 ) -> Result<(), Exit> {
+    run_over::<ExchangeClosure, R>(rt, configs, settings)
+}
+
+// The same over any closure.
+fn run_over<C: Closure, R: Runtime<File = File, A = Global> + Net>(
+    rt: &R,
+    configs: &GivenConfigs,
+    settings: &Settings<'_, '_>,
+) -> Result<(), Exit> {
     let alloc = rt.alloc();
     let mut errors = ErrorStream::new(rt, alloc);
     let lock = lock(rt, alloc, settings.state)?;
-    let settled = settle_previous::<ExchangeClosure, R>(rt, alloc, configs, settings.state);
+    let settled = settle_previous::<C, R>(rt, alloc, configs, settings.state);
     file_at_step(Step::Save, settled)?;
     let mut beginning = find(rt, alloc, settings)?;
-    let begun: BegunSides<ExchangeClosure> = load(
+    let begun: BegunSides<C> = load(
         rt,
         alloc,
         &mut errors,
