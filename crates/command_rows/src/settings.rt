@@ -56,8 +56,7 @@ fn answer_pieces(case: &Case<'_>, pieces: &[usize], answer: &mut String) -> Resu
     if case.words.starts_with("report\0") && case.input.len() <= MAX_CUT_BYTES {
         add_own(case, &mut answers)?;
     }
-    add_request::<IndexedClosure>(case, "indexed, as a request", &mut answers)?;
-    add_request::<PlainClosure>(case, "plain, as a request", &mut answers)?;
+    add_requests(case, ", as a request", &mut answers)?;
     answers.write(answer)
 }
 
@@ -78,9 +77,17 @@ pub(crate) fn answer_asked(
         is_request: true,
     };
     let mut answers = Answers::new(alloc);
-    add_request::<IndexedClosure>(&case, "indexed", &mut answers)?;
-    add_request::<PlainClosure>(&case, "plain", &mut answers)?;
+    add_requests(&case, "", &mut answers)?;
     answers.write(answer)
+}
+
+/// The same command sent to a running replica over each closure. The end of a setting's name is
+/// this.
+fn add_requests(case: &Case<'_>, end: &str, answers: &mut Answers) -> Result<(), AllocError> {
+    let setting = format!(in case.alloc; "indexed{end}")?;
+    add_request::<IndexedClosure>(case, setting.as_str(), answers)?;
+    let setting = format!(in case.alloc; "plain{end}")?;
+    add_request::<PlainClosure>(case, setting.as_str(), answers)
 }
 
 /// The same command sent to a running replica, if it answers such.
