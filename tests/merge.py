@@ -31,11 +31,11 @@ MOST_OF_OPTION = 30
 # A flag `--grouped` of `list`: in each file the text before which the new one is put.
 NAME, WORDS, HELP = "src/command_name.rt", "specs/Words.antt", "src/help_texts.rt"
 OPTION = [
-    (NAME, "    MostRecords,\n}", "    Grouped,\n"),
+    (NAME, "    MostReceipts,\n", "    Grouped,\n"),
     (NAME, '            OptionName::MostRecords => "most-records",\n', '            OptionName::Grouped => "grouped",\n'),
-    (NAME, "                | OptionName::Keys\n        )", "                | OptionName::Grouped\n"),
+    (NAME, "                | OptionName::Keys\n", "                | OptionName::Grouped\n"),
     (NAME, "    OptionName::Keys,\n", "    OptionName::Grouped,\n"),
-    (WORDS, "MostRecords}\n", "Grouped, "),
+    (WORDS, "MostReceipts}\n", "Grouped, "),
     (WORDS, 'option_text MostRecords = ', 'option_text Grouped = codes "grouped"\n'),
     (WORDS, "is_flag Keys = true\n", "is_flag Grouped = true\n"),
     (WORDS, "Keys ∷ Format", "Grouped ∷ "),
@@ -74,6 +74,14 @@ def replace(file, old, new):
 
 def line_of(grounds, crate, edit, verdict=ledger.REFUSED):
     return ledger.Line(crate, edit.stem, grounds.digest(crate, edit), "0" * 16, "2026-01-01", verdict)
+
+
+def begin_section(room):
+    """The first change after a release begins a section of CHANGELOG."""
+    changes = room / "CHANGELOG.md"
+    if "\n## Unreleased\n" not in changes.read_text():
+        changes.write_text(changes.read_text().replace("\n## ", "\n## Unreleased\n\n## ", 1))
+        git(room, "commit", "-q", "-a", "-m", "A section of CHANGELOG")
 
 
 def change_crate(room, crate, file):
@@ -166,6 +174,7 @@ def main():
         git(TOP, "clone", "-q", "--no-hardlinks", str(TOP), str(room))
         edits.TOP = room
         git(room, "checkout", "-q", "-b", "start")
+        begin_section(room)
         check_due(room)
         check_falsified(room)
         check_merge(room)
