@@ -20,9 +20,9 @@ use Rattle.replica_core.specs.declared.event.Event.TheVariants.{AnswerReceipts, 
 use Rattle.receipt_core.specs.Acceptance.{Meaning}
 
 -- A have names the ids that the asker holds of a bucket; an answer to it has the receipts of the
--- bucket that the answerer holds beyond those named, and all its records or none. Of sums, and of
--- the marks that answer them, nothing is kept: nothing that is held comes of them, and what they
--- tell is said of what both held when they were made.
+-- bucket that the answerer holds beyond those named, and all its records or none. Sums, and the
+-- marks that answer them, have no content here: nothing that is held comes of them. A law says what
+-- both held when they were made.
 pub data Message : Type 0 where
   have_sent : (asker bucket : ℕ) (ids : List (List ℕ)) → Message
   give_sent : (answerer place : ℕ) (content : State) → Message
