@@ -37,7 +37,7 @@ use Rattle.replica_sync.proofs.OwnMessageFacts.{answer-given, askable-have}
 use Rattle.replica_sync.proofs.PlanLawFacts.{gives_each, one_list}
 use Rattle.replica_sync.proofs.ServeLawFacts.{AnsweredEach, haves_in}
 use Rattle.replica_sync.proofs.SessionFacts.{give_texts, same-haves}
-use Rattle.bucket_sums.specs.Changing.{HoldsNoLess, IsPieceOf, OnlyGrows}
+use Rattle.bucket_sums.specs.Changing.{HoldsNoLess, IsOwnPiece, OnlyGrows}
 use Rattle.bucket_sums.specs.Quiet.{AnswersQuestion}
 use Rattle.bucket_sums.specs.QuietPulls.{AsksMarked}
 use Rattle.bucket_sums.specs.RecordsOnce.{shown_once}
@@ -241,7 +241,8 @@ module _ (plan : Option (List ℕ)) (config d : Configuration) (least : State) (
 
   -- After the answers, each receipt of a bucket that was asked about is held, or one with its id.
   pub receipt_brought : (gives : List PulledGive) (place : ℕ) (before : Meaning) (rest : List PulledPiece) (asked : List HaveAndHeld) (n : ℕ) (r : Receipt)
-      → AreGiven plan config d least after place before gives rest asked → n < length gives → Contains least.held r → bucket_of_id r ≡ bucket_at plan (place + n)
+      → AreGiven plan config d least after place before gives rest asked → n < length gives → Contains least.held r
+      → bucket_of_id r ≡ bucket_at plan (place + n)
       → (s : Receipt) × Contains after.held s × (receipt_id_of s ≡ receipt_id_of r)
   receipt_brought [] place before rest asked n r h within c e = absurd (omega (arith, within))
   receipt_brought (g ∷ gives) place before rest [] n r h within c e = absurd (let are = h.are in cc)
@@ -258,18 +259,18 @@ module _ (plan : Option (List ℕ)) (config d : Configuration) (least : State) (
 -- The haves of the asker are of each configuration with this digest.
 haves_form : (plan : Option (List ℕ)) (config d : Configuration) (place : ℕ) (before : Meaning) (gives : List PulledGive)
     → config_id_of config ≡ config_id_of d → before.config ≡ config → IsMeaning before
-    → AllByRecursion (IsPieceOf config) (flat_map pieces_of gives) → ((n : ℕ) → n < place + length gives → bucket_at plan n < 256)
+    → AllByRecursion (IsOwnPiece config) (flat_map pieces_of gives) → ((n : ℕ) → n < place + length gives → bucket_at plan n < 256)
     → AllByRecursion (IsHaveOf d) (haves_pulled plan before place gives)
 haves_form plan config d place before [] same own valid each below = tt
 haves_form plan config d place before (g ∷ gives) same own valid each below =
-    let first = all_front (IsPieceOf config) (pieces_of g) (flat_map pieces_of gives) each in
-    let last = (all_back (IsPieceOf config) g.before (g.last ∷ []) first).0 in (
+    let first = all_front (IsOwnPiece config) (pieces_of g) (flat_map pieces_of gives) each in
+    let last = (all_back (IsOwnPiece config) g.before (g.last ∷ []) first).0 in (
       record {
         askable = askable-have before (bucket_at plan place) valid (below place (omega arith));
         own = ap (λ (c : Configuration). config_id_of c) own ∙ same;
       },
       haves_form plan config d (place + 1) g.last.new gives same last.own last.new
-          (all_back (IsPieceOf config) (pieces_of g) (flat_map pieces_of gives) each) (λ n within. below n (omega (arith, within))),
+          (all_back (IsOwnPiece config) (pieces_of g) (flat_map pieces_of gives) each) (λ n within. below n (omega (arith, within))),
     )
 
 -- So are those that the other side took.
@@ -280,7 +281,7 @@ taken_form d least (a ∷ asked) from own =
     (record { askable = own.0.askable; own = own.0.own ∙ from.0.own }, taken_form d least asked from.1 own.1)
 
 -- What was held before each piece is what a replica can hold.
-old_of : (config : Configuration) (came : List PulledPiece) → AllByRecursion (IsPieceOf config) came → AllByRecursion MeantOld came
+old_of : (config : Configuration) (came : List PulledPiece) → AllByRecursion (IsOwnPiece config) came → AllByRecursion MeantOld came
 old_of config [] each = tt
 old_of config (c ∷ came) each = (each.0.old, old_of config came each.1)
 
@@ -349,7 +350,7 @@ module _ (pulling : Pulling) (m held : Meaning) (config : Configuration) (came :
     (marked : AsksMarked pulling m came written) (question : AnswersQuestion config asked said differ)
     (one : AreMarksOfBoth marked.marks differ m question.held (bytes_came later) marked.after (bytes_pulled marked.later ++ left) replied)
     (sums : HasDistinctSums (state_of m) (state_of question.held))
-    (only : OnlyGrows m came held) (each : AllByRecursion (IsPieceOf m.config) came)
+    (only : OnlyGrows m came held) (each : AllByRecursion (IsOwnPiece m.config) came)
     (whole : HasPulledAll (Some (buckets_asked marked.marks)) pulling.lines marked.then marked.later marked.after)
     (no_less : AllByRecursion (HoldsNoLess config question.held) later)
     (answered : AnsweredEach (shown_once differ [] later) replied) where
@@ -387,13 +388,13 @@ module _ (pulling : Pulling) (m held : Meaning) (config : Configuration) (came :
   own_held : IsPartOf (state_of m) (state_of held)
   own_held = grown m came held only all_grow
 
-  pieces : AllByRecursion (IsPieceOf m.config) ((marked.was.before ++ marked.was.last ∷ []) ++ asked_later)
-  pieces = subst (AllByRecursion (IsPieceOf m.config)) order each
+  pieces : AllByRecursion (IsOwnPiece m.config) ((marked.was.before ++ marked.was.last ∷ []) ++ asked_later)
+  pieces = subst (AllByRecursion (IsOwnPiece m.config)) order each
 
-  last_piece : IsPieceOf m.config marked.was.last
+  last_piece : IsOwnPiece m.config marked.was.last
   last_piece =
-      (all_back (IsPieceOf m.config) marked.was.before (marked.was.last ∷ [])
-      (all_front (IsPieceOf m.config) (marked.was.before ++ marked.was.last ∷ []) asked_later pieces)).0
+      (all_back (IsOwnPiece m.config) marked.was.before (marked.was.last ∷ [])
+      (all_front (IsOwnPiece m.config) (marked.was.before ++ marked.was.last ∷ []) asked_later pieces)).0
 
   then_means : IsMeaning marked.then
   then_means = subst IsMeaning marked.was.was last_piece.new
@@ -403,10 +404,10 @@ module _ (pulling : Pulling) (m held : Meaning) (config : Configuration) (came :
       subst (λ (t : Meaning). OnlyGrows t asked_later held) marked.was.was
       (grows_after m marked.was.before marked.was.last asked_later held (subst (λ (l : List PulledPiece). OnlyGrows m l held) order only))
 
-  given_pieces : AllByRecursion (IsPieceOf m.config) (flat_map pieces_of whole.gives)
+  given_pieces : AllByRecursion (IsOwnPiece m.config) (flat_map pieces_of whole.gives)
   given_pieces =
-      all_front (IsPieceOf m.config) (flat_map pieces_of whole.gives) whole.later
-      (all_back (IsPieceOf m.config) (marked.was.before ++ marked.was.last ∷ []) asked_later pieces)
+      all_front (IsOwnPiece m.config) (flat_map pieces_of whole.gives) whole.later
+      (all_back (IsOwnPiece m.config) (marked.was.before ++ marked.was.last ∷ []) asked_later pieces)
 
   from_all : Shows (HoldsReceipts config least) (HasAllRecords least) differ answered.asked
   from_all =
@@ -454,7 +455,7 @@ module _ (pulling : Pulling) (m held : Meaning) (config : Configuration) (came :
     from = from_all.each;
   }
 
-  -- The asker holds of each bucket what the other held, or a receipt with the same id.
+  -- The asker holds each receipt that the other held, or one with the same id.
   receipt_there : (r : Receipt) → Contains least.held r → (s : Receipt) × Contains held.held s × (receipt_id_of s ≡ receipt_id_of r)
   receipt_there r c =
       let b = bucket_of_id r in
@@ -498,7 +499,7 @@ module _ (pulling : Pulling) (m held : Meaning) (config : Configuration) (came :
 
 pub session_brings : (pulling : Pulling) (m held : Meaning) (config : Configuration) (came : List PulledPiece) (asked later : List Came)
     (written said replied left : List ℕ) (differ : Bool) (bucket : ℕ) → config_id_of m.config ≡ config_id_of config
-    → (marked : AsksMarked pulling m came written) → OnlyGrows m came held → AllByRecursion (IsPieceOf m.config) came
+    → (marked : AsksMarked pulling m came written) → OnlyGrows m came held → AllByRecursion (IsOwnPiece m.config) came
     → fault_of_pulling pulling ≡ None → IsOverPulling pulling → due_have pulling ≡ []
     → (question : AnswersQuestion config asked said differ) → AllByRecursion (HoldsNoLess config question.held) later
     → HasDistinctSums (state_of m) (state_of question.held) → AnsweredEach (shown_once differ [] later) replied

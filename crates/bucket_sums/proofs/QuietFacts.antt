@@ -43,7 +43,7 @@ pub came_bytes : (came : List Came) (c : Came) → bytes_came (came ++ c ∷ [])
 came_bytes came c =
     flat_map-append (λ (d : Came). d.bytes) came (c ∷ []) ∙ ap (λ (l : List ℕ). bytes_came came ++ l) (append-nil c.bytes)
 
--- What ended the first line has still ended it if more comes.
+-- With one piece more, the first line ended as before.
 ended_on : (came : List Came) (c : Came) (held : Meaning) → EndsFirstLine came held → EndsFirstLine (came ++ c ∷ []) held
 ended_on came c held ends = record {
   before = ends.before;

@@ -243,7 +243,8 @@ first_none [] later none = refl
 first_none (b ∷ due) later none = absurd (cc)
 
 -- The answer to a question is some bytes.
-pub marks_due : (config : Configuration) (marks : List Bool) (text later : List ℕ) → text ≡ sums_answer config marks → 0 < length (first_due (drop 0 text) later)
+pub marks_due : (config : Configuration) (marks : List Bool) (text later : List ℕ) → text ≡ sums_answer config marks
+    → 0 < length (first_due (drop 0 text) later)
 marks_due config marks text later is =
     let size = ap length is in
     let both = length-append (ended (written_header config)) (ended (marks_line marks)) in

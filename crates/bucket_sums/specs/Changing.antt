@@ -28,7 +28,7 @@ pub record AsksMarkedParts {p : Peers} {events : List Event} (rules : Rules) (st
 -- ---- between two machines
 
 -- Before and after the piece a replica of the configuration holds this.
-pub record IsPieceOf (config : Configuration) (c : PulledPiece) : Type 0 where
+pub record IsOwnPiece (config : Configuration) (c : PulledPiece) : Type 0 where
   pub own : c.new.config ≡ config
   pub old : IsMeaning c.old
   pub new : IsMeaning c.new

@@ -50,7 +50,7 @@ HasTakenQuestion config serving came = TakesQuestion (fault_of_question serving)
     serving.question (kept_part serving.part) came
 
 -- This many bytes of the piece are taken: all of them; or those up to the end of a line, so some;
--- or no more, since this holds already.
+-- or no more, since this is so.
 abbrev pub TakesToLine : Type 0 → List ℕ → ℕ → Type 0
 TakesToLine Ended piece used = used < length piece → EndsInFeed (take used piece) ⊎ Ended
 

@@ -27,7 +27,7 @@ ghost use Rattle.replica_sync.specs.SessionRun.{known_run};
 ghost use Rattle.replica_sync.specs.declared.piece_pulling.Pulling.{Pulling};
 ghost use Rattle.replica_sync.specs.declared.piece_serving.Serving.{Serving};
 ghost use Rattle.replica_texts.specs.SoleLines.{written_header};
-ghost use Rattle.bucket_sums.specs.Changing.{AsksMarkedParts, HoldsNoLess, IsPieceOf, OnlyGrows};
+ghost use Rattle.bucket_sums.specs.Changing.{AsksMarkedParts, HoldsNoLess, IsOwnPiece, OnlyGrows};
 ghost use Rattle.bucket_sums.specs.Keeping.{AreKeptSums, HasGrown};
 ghost use Rattle.bucket_sums.specs.declared.kept_sums.KeptSums.{KeptSums};
 ghost use Rattle.bucket_sums.specs.Lines.{part_count};
@@ -94,7 +94,8 @@ pub fn quiet_sessions()
 /// which the first answer has the records if they differ, and no other has any.
 ///
 /// - `compared`: whatever changes at either while it lasts, the marks that the asker got are those
-///   of what it held when it began, and of what the other held when the question's first line ended.
+///   of what it held when it began, and of what the other held when the first line of the
+///   question ended.
 /// - `marks`: so they are those of what both hold, if nothing changes at the other meanwhile.
 /// - `brings`: whatever else either of both takes meanwhile, after the session the asker holds each
 ///   receipt of each bucket that the other held when the question's first line ended, or one with
@@ -124,7 +125,7 @@ pub fn both_sides()
         (differ : Bool) (bucket : ℕ)
         → config_id_of m.config ≡ config_id_of config
         → (marked : AsksMarked p m came written) → OnlyGrows m came held
-        → AllByRecursion (IsPieceOf m.config) came
+        → AllByRecursion (IsOwnPiece m.config) came
         → fault_of_pulling p ≡ None → IsOverPulling p → due_have p ≡ []
         → (question : AnswersQuestion config asked said differ)
         → AllByRecursion (HoldsNoLess config question.held) later

@@ -51,7 +51,7 @@ receipts-is rules w i j b k ids l e =
     ap (λ (t : Bool). apply rules.limits w (where_so t (sends_give (without_records (w.now j)) j k (slice_get w.sent k)))) (replica-true rules j l)
     ∙ ap (λ (f : Option Message). apply rules.limits w (sends_give (without_records (w.now j)) j k f)) e
 
--- The same for both kinds of answer.
+-- So it is for both kinds of answer.
 pub answered-with : (full : Bool) (rules : Rules) (w : World) (i j b k : ℕ) (ids : List (List ℕ)) → j < rules.replicas
     → slice_get w.sent k ≡ Some (have_sent i b ids)
     → happens rules w (answer_with full j k) ≡ with_message w (give_sent j k (content_of (shown_with full (w.now j)) b ids))
@@ -149,7 +149,8 @@ no-restart-with false i j k e = cc
 
 -- After the exchange the asker has what the answerer showed of the bucket.
 pub exchange-gives : (full : Bool) (laws : Laws) (rules : Rules) (start : World) (inquiry : Inquiry) (events : List Event)
-    → IsInquiry rules.replicas inquiry → (x : ExchangeOf full rules start inquiry events) → Keeps IsReceipt IsDistrust ((at_give rules start x.course).now inquiry.answerer)
+    → IsInquiry rules.replicas inquiry → (x : ExchangeOf full rules start inquiry events)
+    → Keeps IsReceipt IsDistrust ((at_give rules start x.course).now inquiry.answerer)
     → Keeps IsReceipt IsDistrust ((at_taking rules start x.course).now inquiry.asker)
     → HasAll inquiry.bucket (shown_with full ((at_give rules start x.course).now inquiry.answerer))
     ((after_taking rules start x.course).now inquiry.asker)
@@ -165,7 +166,8 @@ exchange-gives full laws rules start inquiry events is x forms own =
     (subst (λ k. slice_get (happens rules w (Ask i b)).sent k ≡ Some (have_sent i b (ids_named (w.now i) b))) (sym x.asked_at)
     (asked-here rules w i b is.asker is.bucket))
     in
-    let a : slice_get u.sent x.course.give_place ≡ Some (give_sent j x.course.have_place (content_of (shown_with full (v.now j)) b (ids_named (w.now i) b))) =
+    let a : slice_get u.sent x.course.give_place
+    ≡ Some (give_sent j x.course.have_place (content_of (shown_with full (v.now j)) b (ids_named (w.now i) b))) =
     sent-stays rules x.course.answered (happens rules v (answer_with full j x.course.have_place)) x.course.give_place
     (give_sent j x.course.have_place (content_of (shown_with full (v.now j)) b (ids_named (w.now i) b)))
     (subst (λ k. slice_get (happens rules v (answer_with full j x.course.have_place)).sent k

@@ -294,7 +294,7 @@ none-sent config a =
     ap length (where-sent (is_replica rules 0 && rules.fits a) rules.limits empty_world (gains 0 (only_receipt a))
     (gains-sent rules.limits empty_world 0 (only_receipt a)))
 
--- If there are two replicas, the first asks the second, or the second the first.
+-- Among two replicas the first asks the second, or the second the first.
 both-ways : (p : Peers) → ArePeers 2 p → p.asker ≢ p.answerer
     → ((p.asker ≡ 0) × (p.answerer ≡ 1)) ⊎ ((p.asker ≡ 1) × (p.answerer ≡ 0))
 both-ways p are apart =

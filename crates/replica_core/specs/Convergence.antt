@@ -216,7 +216,7 @@ abbrev pub answerer_held : {p : Peers} {events : List Event} → Rules → World
 answerer_held {p = p} rules start c = (at_marks rules start c).now p.answerer
 
 -- For each part, the records and each bucket: both held the same then, or the asker takes an answer
--- about it, which is asked for later. The records are in an answer about any bucket that has them.
+-- about it that is asked for later. The records are in an answer about any bucket that has them.
 -- The exchanges come in any order, and other events between them.
 pub record SumsCourse (rules : Rules) (start : World) (p : Peers)
     (events : List Event) : Type 0 where
@@ -256,8 +256,8 @@ IsQuiet place (Save i) = ⊤
 IsQuiet place _ = ⊥
 
 -- The asker took the other's answers with all records about all buckets, or had a course by sums.
-abbrev pub HasPulled : Rules → World → Peers → List Event → Type 0
-HasPulled rules start p since = ((b : ℕ) → b ≤ 255 → Exchange rules start (about p b) since)
+abbrev pub HasPulledFrom : Rules → World → Peers → List Event → Type 0
+HasPulledFrom rules start p since = ((b : ℕ) → b ≤ 255 → Exchange rules start (about p b) since)
     ⊎ SumsCourse rules start p since
 
 -- From a point on it is quiet, no two receipts that were held anywhere at that point have one id,
@@ -267,4 +267,4 @@ pub record Settles (rules : Rules) (start : World) (since : List Event) : Type 0
   pub one_id : (i j : ℕ) (r s : Receipt) → Contains (start.now i).held r
       → Contains (start.now j).held s → receipt_id_of r ≡ receipt_id_of s → r ≡ s
   pub pulled : (p : Peers) → ArePeers rules.replicas p → p.asker ≢ p.answerer
-      → HasPulled rules start p since
+      → HasPulledFrom rules start p since

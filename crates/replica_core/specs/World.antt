@@ -21,8 +21,8 @@ use Rattle.receipt_core.specs.Acceptance.{Meaning}
 
 -- A have names the ids that the asker holds of a bucket; an answer to it has the receipts of the
 -- bucket that the answerer holds beyond those named, and all its records or none. Sums, and the
--- marks that answer them, have no content: nothing that is held comes of them, and what they mean is
--- said of what both held when they were made.
+-- marks that answer them, have no content here: nothing that is held comes of them. A law says what
+-- both held when they were made.
 pub data Message : Type 0 where
   have_sent : (asker bucket : ℕ) (ids : List (List ℕ)) → Message
   give_sent : (answerer place : ℕ) (content : State) → Message

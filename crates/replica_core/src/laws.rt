@@ -91,7 +91,7 @@ pub fn persistence()
 ///
 /// - `exchanged`: who takes another's whole answer to its own have holds each receipt of the
 ///   bucket that the other held when it answered, or one with its id, and each record.
-/// - `receipts`: if the answer leaves the records out, it holds all of that except the records.
+/// - `receipts`: so it does if the answer leaves the records out, except the records.
 pub fn exchange()
     ensures exchanged { (past : WorldRun) (since : List Event) (q : Inquiry)
         → AreEvents past.events → AreEvents since → IsInquiry past.replicas q
