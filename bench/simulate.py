@@ -15,14 +15,14 @@ import time
 
 from building import build_simulation
 
-ROWS = [
-    "scale mesh calm 1 100 1000 2",
-    "scale mesh calm 1 1000 100 2",
-    "scale mesh rough 1 1000 100 2",
-    "scale random rough 1 1000 100 2",
-    "scale star rough 1 1000 100 2",
-    "scale tree rough 1 1000 100 2",
-    "scale ring rough 1 100 100 2",
+# Sessions with sums beside sessions by haves, and then other peers and rough weather.
+ROWS = [f"scale {start} mesh calm 1 {replicas} 100 2" for replicas in (10, 100, 1_000) for start in ("sums", "haves")] + [
+    "scale sums mesh calm 1 100 1000 2",
+    "scale sums mesh rough 1 1000 100 2",
+    "scale sums random rough 1 1000 100 2",
+    "scale sums star rough 1 1000 100 2",
+    "scale sums tree rough 1 1000 100 2",
+    "scale sums ring rough 1 100 100 2",
 ]
 
 
@@ -39,7 +39,7 @@ def run(program, row):
     print(out, end="")
     print(f"  {time.monotonic() - start:.0f} s, of a processor {usage.ru_utime + usage.ru_stime:.0f} s, "
           f"{usage.ru_maxrss / 1_024:,.0f} MiB", flush=True)
-    replicas = row.split()[4]
+    replicas = row.split()[5]
     return process.returncode == 0 and f"{replicas} of {replicas} write" in out
 
 
