@@ -14,8 +14,8 @@ lines before say, and to tell their number.
 It prints of each case how many rows are as wanted, or the lines that differ (- wanted, + came), what each program took of a processor,
 and last how many cases are as wanted and how many not. It needs python3 and rt.
 
-usage: play [--all] [CASE..]   the cases of these names, or all but `schedules`, which takes an hour and of which `few_schedules` is a
-    part; --all: that one too. The status is 1 if a case is not as wanted
+usage: play [--all] [CASE..]   the cases of these names, or all but `schedules` and `errors`, which take hours and minutes;
+    `few_schedules` is a part of the first; --all: those too. The status is 1 if a case is not as wanted
 """
 import difflib
 import re
@@ -39,7 +39,7 @@ HERE = Path(__file__).resolve().parent
 PROGRAMS, CASES = HERE / "programs", HERE / "cases"
 # A case that takes so many seconds hangs.
 SECONDS = "7200"
-LONG = ["schedules"]
+LONG = ["schedules", "errors"]
 # The rows under whose calls devices fail, at how many places of a text, and what they call.
 DEVICES = {"devices": ("calls", 1_000, OVER_DEVICES), "exchange_devices": ("exchange", 6, OF_SESSIONS)}
 MOST_LINES = 60
