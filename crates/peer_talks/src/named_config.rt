@@ -13,8 +13,8 @@ const HAVE_CONFIG: &[u8] = b",\"config\":\"";
 /// How many hexadecimal digits a digest has.
 const DIGITS: usize = 64;
 
-/// How many bytes are looked at: a have has its digest in them, since its bucket has at most three
-/// digits, and the first line of a question has as many.
+/// How many bytes are looked at. The first line of a question has this length, and a have has its
+/// digest in them, since its bucket has at most three digits.
 const HEAD_BYTES: usize = 88;
 
 /// Whether more bytes have to come before it is known which configuration is named, if one is.
