@@ -5,8 +5,8 @@ Each program lies in tests/rows/programs, in files that end in .rt.txt, since `r
 copied next to the crates that it uses, and `rt try` compiles it with checks and runs it once on each of its cases: it stops at an
 overflow, an index out of bounds, a failed unwrap or a bad access. Nothing is proved, and nothing that is built is used.
 
-A case is a file of tests/rows/cases/PROGRAM. It is the program's standard input, its name the argument, and the output has to be that of
-the file NAME.stdout. Two cases are made of the rows `calls` and `exchange`: in `devices` and `exchange_devices` each read and each write
+A case is a file of tests/rows/cases/PROGRAM. It is the program's standard input, its name up to a hyphen the argument, and the output has to
+be that of the file NAME.stdout. Two cases are made of the rows `calls` and `exchange`: in `devices` and `exchange_devices` each read and each write
 of a call fails in turn, whole, in pieces and byte by byte; in the second at six places of a text. Such a call has to return the error of
 the device, or what it returns else; what it wrote has to be a beginning of what it writes else; and a `pull` has to hold what the whole
 lines before say, and to tell their number.
@@ -14,8 +14,8 @@ lines before say, and to tell their number.
 It prints of each case how many rows are as wanted, or the lines that differ (- wanted, + came), what each program took of a processor,
 and last how many cases are as wanted and how many not. It needs python3 and rt.
 
-usage: play [--all] [CASE..]   the cases of these names, or all but `schedules` and `errors`, which take hours and minutes;
-    `few_schedules` is a part of the first; --all: those too. The status is 1 if a case is not as wanted
+usage: play [--all] [CASE..]   the cases of these names, or all but `schedules`, `errors` and those that end in -large, which take minutes
+    to hours; `few_schedules` is a part of the first; --all: those too. The status is 1 if a case is not as wanted
 """
 import difflib
 import re
@@ -39,7 +39,7 @@ HERE = Path(__file__).resolve().parent
 PROGRAMS, CASES = HERE / "programs", HERE / "cases"
 # A case that takes so many seconds hangs.
 SECONDS = "7200"
-LONG = ["schedules", "errors"]
+LONG = ["schedules", "errors", "closure-large", "exchange-large"]
 # The rows under whose calls devices fail, at how many places of a text, and what they call.
 DEVICES = {"devices": ("calls", 1_000, OVER_DEVICES), "exchange_devices": ("exchange", 6, OF_SESSIONS)}
 MOST_LINES = 60
@@ -93,7 +93,7 @@ def stored_cases(program):
     for path in sorted((CASES / program).iterdir()):
         if path.suffix == "":
             wanted = path.with_name(f"{path.name}.stdout")
-            yield Case(path.name, path.name, path.read_text(), partial(differences, wanted))
+            yield Case(path.name, path.name.partition("-")[0], path.read_text(), partial(differences, wanted))
 
 
 def cases_of(program):
