@@ -148,7 +148,7 @@ SCRIPTS = [
            f"docs/OPERATING.md {UNITS}"),
     Script("site.py", "", BY_HAND, "openssl", "", "deploy/fedbundle-import deploy/fedbundle-fetch deploy/fedbundle-spire"),
     Script("systemd.py", "", BY_HAND, "root mounts /lib/systemd/systemd", "", UNITS),
-    Script("rows/play.py", "schedules errors closure-large exchange-large", BY_HAND, "rt", "", f"tests/rows/programs/simulation tests/rows/cases/simulation {CORE}"),
+    Script("rows/play.py", "schedules errors closure-large exchange-large devices exchange_devices", BY_HAND, "rt", "", f"tests/rows/programs/simulation tests/rows/cases/simulation {CORE}"),
     Script("system/calls.py", "", BY_HAND, "cc nm rt", "", f"{ROWS} {CORE}"),
     Script("system/calls.py", "all", BY_HAND, "cc nm rt", "", f"{ROWS} {CORE} crates/command_rows crates/floor_rows"),
     Script("system/peers.py", "slow", BY_HAND, "", "", "crates/replica_client crates/replica_sync crates/replica_sockets"),

@@ -14,8 +14,7 @@ lines before say, and to tell their number.
 It prints of each case how many rows are as wanted, or the lines that differ (- wanted, + came), what each program took of a processor,
 and last how many cases are as wanted and how many not. It needs python3 and rt.
 
-usage: play [--all] [CASE..]   the cases of these names, or all but `schedules`, `errors` and those that end in -large, which take minutes
-    to hours; `few_schedules` is a part of the first; --all: those too. The status is 1 if a case is not as wanted
+usage: play [--all] [CASE..]   the cases of these names, or all but those in LONG, which take minutes to hours; `few_schedules` is a part of the first; --all: those too. The status is 1 if a case is not as wanted
 """
 import difflib
 import re
@@ -39,7 +38,7 @@ HERE = Path(__file__).resolve().parent
 PROGRAMS, CASES = HERE / "programs", HERE / "cases"
 # A case that takes so many seconds hangs.
 SECONDS = "7200"
-LONG = ["schedules", "errors", "closure-large", "exchange-large"]
+LONG = ["schedules", "errors", "closure-large", "exchange-large", "devices", "exchange_devices"]
 # The rows under whose calls devices fail, at how many places of a text, and what they call.
 DEVICES = {"devices": ("calls", 1_000, OVER_DEVICES), "exchange_devices": ("exchange", 6, OF_SESSIONS)}
 MOST_LINES = 60
