@@ -233,7 +233,7 @@ def options_of(unit: str) -> dict[str, list[str]]:
 
 # What the units themselves give to their programs, and the file does not.
 GIVEN = {"replica": {"config", "previous", "state", "socket", "read-socket", "new", "listen-anywhere", "verbose"},
-         "serve": {"config", "state", "verbose"}, "pull": {"config", "state", "peer", "wait", "verbose"},
+         "serve": {"config", "state", "verbose"}, "pull": {"config", "state", "peer", "sums", "wait", "verbose"},
          "fedbundle-fetch": {"config", "state", "polls", "program", "once"},
          "fedbundle-spire": {"config", "state", "given", "program", "all", "allow"},
          "polls": {"at", "now", "config", "state", "format", "most-receipts", "most-records", "verbose"}}

@@ -344,7 +344,7 @@ def verbose():
     want(run(words("pull", "heard", "--peer", address)).returncode == 0, "pull")
     _, said = server.communicate(timeout=HANG)
     client = r"127\.0\.0\.1:\d+"
-    wanted = f"fedbundle: listens at {re.escape(address)}\nfedbundle: {client} came\nfedbundle: {client} was given 2 answers\n"
+    wanted = f"fedbundle: listens at {re.escape(address)}\nfedbundle: {client} came\nfedbundle: {client} was given 256 answers\n"
     want(re.fullmatch(wanted, said.decode()), "serve --verbose", said)
 
 

@@ -31,7 +31,6 @@ sys.dont_write_bytecode = True
 TOP = Path(__file__).resolve().parents[2]
 sys.path[:0] = [str(TOP / "tests/lib"), str(TOP / "bench")]
 import receipts  # noqa: E402
-import sums  # noqa: E402
 from harness import HANG, find_program, temporary  # noqa: E402
 
 # How long the program is stopped, or a peer pauses, and how long a command may take in all.
@@ -272,10 +271,6 @@ def answering(listener, of, pause_at):
     """Answers a pull, and pauses before the answer of a bucket."""
     stream, _ = listener.accept()
     with stream, stream.makefile("rb") as lines:
-        # The session begins with sums: all of them differ.
-        for _ in range(1 + sums.PARTS):
-            lines.readline()
-        stream.sendall(sums.answer(DIGEST, b"1" * sums.PARTS))
         for _ in range(BUCKETS):
             have = lines.readline()
             if not have:
