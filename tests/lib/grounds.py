@@ -15,6 +15,8 @@ Left out is the following, and this is why:
   breaks its contract. Yet a body that was refused only because its proof did not suit it, and breaks no promise, may be accepted
   with another lemma. Its contract was too weak before, and then the sample finds it, or `--all`.
 - What the function does not name, as a definition that only a lemma uses: a contract cannot name one of proofs/.
+- Variants of enums, and equations by cases on them, that nothing reached names: what is said of other variants does not say anything of
+  these. That is an argument and no proof: a clause that says that there is some variant can escape it.
 - The kit, which a line of the ledger has by itself.
 """
 import hashlib
