@@ -40,7 +40,7 @@ try:
 except ImportError:
     yaml = None
 DEPLOY = TOP / "deploy"
-SCRIPTS = ["fedbundle-every", "fedbundle-fetch", "fedbundle-spire"]
+SCRIPTS = ["fedbundle-every", "fedbundle-fetch", "fedbundle-spire", "fedbundle_scripts.py"]
 HELPS = {}
 SECRET = {"fedbundle-tls": {"tls.crt", "tls.key", "ca.crt"}}
 reported = 0

@@ -38,6 +38,7 @@ import time
 from importlib.machinery import SourceFileLoader
 from importlib.util import module_from_spec, spec_from_loader
 from pathlib import Path
+from types import SimpleNamespace
 
 sys.dont_write_bytecode = True
 sys.path.insert(0, str(Path(__file__).resolve().parent / "lib"))
@@ -73,9 +74,8 @@ def packages_of(folder, archive=None, words=(), **environment):
 
 # ---- the packages as files
 
-def archive_like(folder, change, more=()):
-    """An archive like the released one, after a change of its members and with more of them, with its sums next to it."""
-    folder.mkdir(parents=True)
+def archive_like(folder, change):
+    """An archive like the released one, after a change of its members, with its sums next to it."""
     tool, made = tool_of("package"), io.BytesIO()
     with tarfile.open(tool.ARCHIVE, mode="r:xz") as old, tarfile.open(fileobj=made, mode="w") as new:
         for entry in old:
@@ -83,28 +83,25 @@ def archive_like(folder, change, more=()):
             content = change(entry.name, content)
             entry.size = len(content)
             new.addfile(entry, io.BytesIO(content))
-        for name, content in more:
-            entry = tarfile.TarInfo(name)
-            entry.size, entry.mode = len(content), 0o644
-            new.addfile(entry, io.BytesIO(content))
-    path = folder / tool.ARCHIVE.name
-    path.write_bytes(lzma.compress(made.getvalue(), preset=0))
-    (folder / "SHA256SUMS").write_text(f"{hashlib.sha256(path.read_bytes()).hexdigest()}  {path.name}\n")
+    return archive_with_sums(folder, lzma.compress(made.getvalue(), preset=0))
+
+
+def archive_with_sums(folder, content):
+    """Writes an archive, with its sums next to it."""
+    folder.mkdir(parents=True)
+    path = folder / tool_of("package").ARCHIVE.name
+    path.write_bytes(content)
+    (folder / "SHA256SUMS").write_text(f"{hashlib.sha256(content).hexdigest()}  {path.name}\n")
     return path
-
-
-def texts_here():
-    """What is not compiled, as tools/release.py would put it into an archive of the sources here, by its name there."""
-    files = tool_of("release").plain_files()
-    return {tool_of("package").ROOT + place: content for place, (content, _) in files.items()}
 
 
 def archive_here(folder):
     """An archive with the released programs and libraries, and the texts, scripts and units that are here."""
-    texts = texts_here()
-    with tarfile.open(tool_of("package").ARCHIVE, mode="r:xz") as old:
-        more = sorted(set(texts) - set(old.getnames()))
-    return archive_like(folder, lambda name, content: texts.get(name, content), [(name, texts[name]) for name in more])
+    release, package = tool_of("release"), tool_of("package")
+    # As fast as can be.
+    release.lzma = SimpleNamespace(compress=lambda content, preset: lzma.compress(content, preset=0), PRESET_EXTREME=0)
+    files, _ = package.read_archive(package.ARCHIVE)
+    return archive_with_sums(folder, release.archive_of({**{place: files[place] for place in release.COMPILED}, **release.plain_files()}))
 
 
 def files_of(package):
@@ -321,6 +318,7 @@ def remove(machine):
     machine.run("dpkg --remove fedbundle")
     check(machine.attempt("pgrep --exact fedbundle").returncode == 1, "after remove nothing runs")
     check(machine.attempt("command -v fedbundle fedbundle-fetch").returncode != 0, "and the programs are gone")
+    check(machine.attempt("test -e /usr/lib/fedbundle").returncode == 1, "with the folder of the scripts")
     names = machine.run(f"ls {STATE}", quiet=True).split()
     check({"config.json", "state", "state.journal"} <= set(names), f"remove leaves {' '.join(names)}")
 

@@ -142,9 +142,9 @@ class Replica(Machine):
         super().__init__(world.folder / name, name)
         self.number = number
         local = self.path("/usr/local")
-        for program, source in (("fedbundle", world.program), ("fedbundle-fetch", TOP / "deploy/fedbundle-fetch"),
-                                ("fedbundle-spire", TOP / "deploy/fedbundle-spire")):
-            shutil.copy(source, local / "bin" / program)
+        shutil.copy(world.program, local / "bin/fedbundle")
+        for script in ("fedbundle-fetch", "fedbundle-spire", "fedbundle_scripts.py"):
+            shutil.copy(TOP / "deploy" / script, local / "bin")
         for name in ("systemctl", "journalctl"):
             shutil.copy(TOP / "tests/lib/systemctl", local / "sbin" / name)
         units = local / "lib/systemd/system"

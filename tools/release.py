@@ -43,8 +43,10 @@ ROOT = "fedbundle/"
 LEVELS = {"x86-64-v2": "bin/fedbundle", "x86-64-v3": "bin/fedbundle-x86-64-v3"}
 LIBRARIES = ["lib/libfedbundle.a", "lib/libfedbundle.so.0"]
 COMPILED = [*LEVELS.values(), *LIBRARIES]
-LINKS = {"lib/libfedbundle.so": "libfedbundle.so.0"}
-SCRIPTS = {f"bin/{name}": f"deploy/{name}" for name in ("fedbundle-every", "fedbundle-fetch", "fedbundle-import", "fedbundle-spire")}
+# Scripts that share a module lie next to it.
+SHARING = ["fedbundle-fetch", "fedbundle-import", "fedbundle-spire"]
+LINKS = {"lib/libfedbundle.so": "libfedbundle.so.0", **{f"bin/{name}": f"../lib/fedbundle/{name}" for name in SHARING}}
+SCRIPTS = {"bin/fedbundle-every": "deploy/fedbundle-every", **{f"lib/fedbundle/{name}": f"deploy/{name}" for name in SHARING}}
 TEXTS = {
     "include/fedbundle.h": "include/fedbundle.h",
     "lib/sysusers.d/fedbundle.conf": "deploy/fedbundle.sysusers",
@@ -61,6 +63,7 @@ TEXTS = {
     "share/doc/fedbundle/stunnel-serve.conf": "deploy/stunnel-serve.conf",
     "share/man/man1/fedbundle.1": "docs/fedbundle.1",
     "share/zsh/site-functions/_fedbundle": "completions/_fedbundle",
+    "lib/fedbundle/fedbundle_scripts.py": "deploy/fedbundle_scripts.py",
 }
 # Found by its own place, so that the prefix may be any.
 PKG_CONFIG = """\
