@@ -26,10 +26,12 @@ PACKAGES = {
     "git": "git",
     "go": "golang-go",
     "cargo": "cargo",
+    "gpg": "gnupg",
     "ip": "iproute2",
     "jq": "jq",
     "lintian": "lintian",
     "man": "man-db",
+    "minisign": "minisign",
     "nm": "binutils",
     "openssl": "openssl",
     "pkg-config": "pkgconf",
@@ -98,7 +100,7 @@ UNITS = "deploy/*.service deploy/*.timer deploy/*.conf deploy/fedbundle-* deploy
 
 # In each part those that take longest come first, so that they do not end last.
 SCRIPTS = [
-    Script("release.py", "", FIRST, "xz"),
+    Script("release.py", "", FIRST, "xz", "minisign gpg"),
     Script("merge.py", "", FIRST, "git xz"),
     Script("pages.py", "", FIRST, "git", "cc"),
     Script("manual.py", "", FIRST, "bash", "man zsh rt"),
