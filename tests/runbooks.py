@@ -1,5 +1,6 @@
 #!/usr/bin/env python3
-"""Plays the runbooks of docs/OPERATING.md: brings each trouble about, and follows the page to its end.
+"""Plays the runbooks of the page of docs/ that has the heading "Runbooks": brings each trouble about, and follows the page to
+its end.
 
 The commands are those of the page, and what the page shows is what they have to print. A `console` block has lines that
 begin with `# ` for root and with `$ ` for the user fedbundle, both in /var/lib/fedbundle. The lines below a command have
@@ -44,7 +45,9 @@ from machine import Machine, mount  # noqa: E402
 from needs import require  # noqa: E402
 
 TOP = Path(__file__).resolve().parent.parent
-PAGE = TOP / "docs/OPERATING.md"
+HEADING = re.compile(r"^(#+) Runbooks$", re.M)
+# The page of which the runbooks are a part, or all.
+PAGE = next(path for path in sorted((TOP / "docs").glob("*.md")) if HEADING.search(path.read_text()))
 HOME = "/var/lib/fedbundle"
 UNIT = "fedbundle-replica.service"
 # What is repeated until it prints what the page shows.
@@ -120,10 +123,13 @@ def commands(block):
 
 
 def runbooks():
-    """The blocks of each runbook of the page, by its title: kinds and texts."""
-    section = PAGE.read_text().split("\n## Runbooks\n")[1].split("\n## ")[0]
-    parts = section.split("\n### ")[1:]
-    return {part.split("\n")[0]: blocks_of(part) for part in parts}
+    """The blocks of each runbook of the page, by its title: kinds and texts. A title is one level below the heading of all."""
+    page = PAGE.read_text()
+    heading = HEADING.search(page)
+    marks, section = heading[1], page[heading.end():]
+    # Below the first level of a page there is no other part. A command of root looks like such a heading.
+    section = section if marks == "#" else section.split(f"\n{marks} ")[0]
+    return {part.split("\n")[0]: blocks_of(part) for part in section.split(f"\n{marks}# ")[1:]}
 
 
 def blocks_of(part):
