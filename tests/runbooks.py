@@ -560,21 +560,41 @@ def domain_removed(world):
     world.config = with_another_domain(world)
     one = world.replica("one")
     with_spire(one)
+    key = world.fetch.sha256(b"stolen").hexdigest()
+    one.run(f"fedbundle distrust --at /run/fedbundle/socket --domain c.test --key {key}")
     status, _ = one.run("systemctl start fedbundle-spire.service")
     told = one.run("journalctl -u fedbundle-spire.service -n 3")[1]
     want((status, "c.test: given, sequence 2" in told) == (0, True), "the bundle at SPIRE wanted", told)
     one.give("config.new", json.dumps(less))
     world.follow(one)
-    for place in (1, 2):
-        world.borrow("A domain is added", place, one)
+    world.borrow("A domain is added", 1, one)
+    one.run("cp previous.json kept.json && cp state.previous kept", by_root=False)
+    world.borrow("A domain is added", 2, one)
     told = one.run(f"journalctl -u {UNIT} -n 100")[1]
-    want("event=carry-over taken=1 unfit=1 no-place=0\n" in told, "a receipt that does not fit wanted", told)
+    want("event=carry-over taken=1 unfit=2 no-place=0\n" in told, "a receipt and a record that do not fit wanted", told)
     end_change(one)
     world.follow(one)
     world.follow(one)
     want(one.sequence() == 2, "the other domain wanted", one.sequence())
     given = [path.name for path in one.path("/var/lib/fedbundle-spire/given").iterdir()]
     want("b.test.json" in given and not any(name.startswith("c.test") for name in given), "nothing of it wanted", given)
+    added_again(world, one, key)
+
+
+def added_again(world, one, key):
+    """The domain is added again, with its record of distrust, which only the state that was kept has."""
+    record = f"distrust {key} domain c.test"
+    one.give("config.new", json.dumps(world.config))
+    for place in (1, 2):
+        world.borrow("A domain is added", place, one)
+    end_change(one)
+    told = one.run("fedbundle list --at /run/fedbundle/socket --domain c.test")[1]
+    want(record not in told, "no record wanted", told)
+    one.run("fedbundle migrate --config kept.json --state kept --to config.json > whole", by_root=False)
+    status, told = one.run("fedbundle merge --at /run/fedbundle/socket < whole", by_root=False)
+    want(status == 0, "a merge wanted", told)
+    told = one.run("fedbundle list --at /run/fedbundle/socket --domain c.test")[1]
+    want(record in told and one.sequence("c.test") == 2, "the record and the bundle wanted", told)
 
 
 @runbook("The disk is full")
