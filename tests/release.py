@@ -386,7 +386,7 @@ def check_signed(room, top):
         folder_with(folder, "python3", "sha256sum", name, "gpg-agent")
         known = {**os.environ, **variables}
         subprocess.run(make.split(), cwd=room / "keys", env=known, capture_output=True, check=True)
-        ran = signed(top, folder, variables, key.format(room / "keys"))
+        ran = signed(top, folder, variables, key)
         check(ran.returncode == 0 and not [*faults_of_sums(tool)], f"{name} signs: {(ran.stdout + ran.stderr).strip().splitlines()[-1]}")
         seen = [subprocess.run(look.format(room / "keys").split(), cwd=tool.DIST, env=known, capture_output=True).returncode for _ in change_once(tool.DIST / tool.SUMS)]
         check(seen[0] == 0 and seen[1] != 0, f"its signature is good, and refused once a byte has changed: {seen}")
@@ -396,7 +396,7 @@ def check_signed(room, top):
 
 # For each tool what makes a key, what names it, and what looks at a signature.
 SIGNING = {
-    "minisign": ("minisign -G -W -p key.pub -s key", "{0}/key", "minisign -V -p {0}/key.pub -m SHA256SUMS"),
+    "minisign": ("minisign -G -W -p key.pub -s key", "key", "minisign -V -p {0}/key.pub -m SHA256SUMS"),
     "gpg": ("gpg --batch --passphrase= --quick-generate-key releases@fedbundle.example", "releases@fedbundle.example",
             "gpg --verify SHA256SUMS.asc SHA256SUMS"),
 }
@@ -412,7 +412,7 @@ def folder_with(folder, *names):
 
 def signed(top, path, variables, *key):
     return subprocess.run([sys.executable, top / "tools/release.py", "--sign", *key], capture_output=True, text=True,
-                          env={**os.environ, **variables, "PATH": str(path)})
+                          env={**os.environ, **variables, "PATH": str(path)}, cwd=variables.get("HOME"))
 
 
 def change_once(path):

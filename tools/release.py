@@ -260,7 +260,7 @@ def write(programs, library):
 
 
 def sign(key):
-    """Signs SHA256SUMS with the first tool that is there."""
+    """Signs SHA256SUMS with the first tool that is there. A key may be the path of a file, from the folder in which this runs."""
     tool = next((name for name in SIGNERS if shutil.which(name)), None)
     if not tool:
         stop(f"nothing is signed, as there is neither {' nor '.join(SIGNERS)}")
@@ -269,6 +269,7 @@ def sign(key):
     before, option, after, made = SIGNERS[tool]
     for old in SIGNATURES:
         (DIST / old).unlink(missing_ok=True)
+    key = os.path.abspath(key) if os.path.isfile(key) else key
     if subprocess.run([tool, *before, *([option, key] if key else []), *after], cwd=DIST).returncode or not (DIST / made).exists():
         stop(f"nothing is signed, as {tool} failed")
     print(f"{(DIST / made).stat().st_size:9} bytes  dist/{made}")
