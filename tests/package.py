@@ -5,12 +5,12 @@
   archive with a changed byte is refused. Each file of the archive is in one of the packages, with the bytes that it had, or
   those that the head of tools/package.py names.
 - lintian: it finds no error. What it warns of is printed.
-- pages: a package of the texts and scripts that are here has the pages, so that the links of docs/OPERATING.md to others
+- pages: a package of the texts and scripts that are here has the pages, so that the links of the operator's pages to others
   lead somewhere, and the file of options as a conffile.
 - life: in a copy of this machine in which systemd runs, a package of an earlier number is installed, the replica, the
   fetcher and its timer are started, and a bundle is observed. An upgrade starts the replica again with the new program, and
   it reports the same; of one that is stopped the files stay, byte for byte. Options are changed and a package is rolled back
-  as docs/OPERATING.md says. After `remove` nothing runs and the state is there; `purge` names what it removes. The earlier
+  as docs/INSTALL.md and docs/OPERATING.md say. After `remove` nothing runs and the state is there; `purge` names what it removes. The earlier
   package has the released files, and a byte more at the end of its program; the later one has the texts, scripts and units
   that are here, with the released program.
 - library: a program in C is compiled in the copy by what pkg-config says, with the shared and with the static library.
@@ -46,6 +46,7 @@ from needs import has, left_out, require, why_not  # noqa: E402
 
 EARLIER = "0.1.99"
 STATE = "/var/lib/fedbundle"
+OF_OPERATORS = ["INSTALL", "OPERATING", "RUNBOOKS", "FETCHING", "MONITORING", "KUBERNETES", "REFERENCE"]
 AS_USER = "runuser -u fedbundle --"
 reported = 0
 
@@ -161,9 +162,10 @@ def made(room):
 def pages(room):
     package = packages_of(room / "packages", archive_here(room / "archive"))["fedbundle"]
     there, folder = files_of(package), "usr/share/doc/fedbundle"
-    check({f"{folder}/docs/OPERATING.md", f"{folder}/docs/page.png", f"{folder}/README.md"} <= set(there), "the package has the pages and a picture of the page of health")
-    check("\n## Runbooks\n" in there.get(f"{folder}/docs/OPERATING.md", (b"", 0))[0].decode(), "and the runbooks")
-    links = re.findall(r"\]\(([^)#:]+\.(?:md|png|svg))[#)]", there[f"{folder}/docs/OPERATING.md"][0].decode())
+    wanted = {f"{folder}/docs/{name}.md" for name in OF_OPERATORS}
+    check({*wanted, f"{folder}/docs/page.png", f"{folder}/README.md"} <= set(there), "the package has the operator's pages and a picture of the page of health")
+    text = "".join(there[name][0].decode() for name in wanted & set(there))
+    links = re.findall(r"\]\(([^)#:]+\.(?:md|png|svg))[#)]", text)
     lost = [link for link in links if os.path.normpath(f"{folder}/docs/{link}") not in there]
     check(links and not lost, f"each of its {len(links)} links to a page or a picture leads to one of the package {lost or ''}")
     control = subprocess.run(["dpkg-deb", "--info", package, "conffiles"], capture_output=True, text=True).stdout
@@ -263,15 +265,15 @@ def upgrade(machine, package):
     check(property_of(machine, "fedbundle-fetch.timer", "ActiveState") == "active", "the timer is active")
 
 
-def section_blocks(kind, title):
-    """The blocks of this kind below a title of docs/OPERATING.md."""
-    text = (TOP / "docs/OPERATING.md").read_text().split(f"\n{title}\n")[1].split("\n## ")[0].split("\n### ")[0]
+def section_blocks(kind, page, title):
+    """The blocks of this kind below a title of a page."""
+    text = (TOP / "docs" / page).read_text().split(f"\n{title}\n")[1].split("\n## ")[0].split("\n### ")[0]
     return re.findall(rf"^```{kind}\n(.*?)^```", text, re.M | re.S)
 
 
 def options(machine, package):
-    """Options are changed as the page of health says, and no upgrade takes the change back."""
-    line = section_blocks("ini", "## Health, metrics and a page")[0]
+    """Options are changed as INSTALL says, and no upgrade takes the change back."""
+    line = section_blocks("ini", "INSTALL.md", "## 4. Options")[0]
     machine.run(f"printf %s {shlex.quote(line)} >/etc/default/fedbundle", quiet=True)
     before = property_of(machine, "fedbundle-replica.service", "MainPID")
     ran = machine.attempt("systemctl reload fedbundle-replica.service")
@@ -291,7 +293,7 @@ def options(machine, package):
 
 def rolled_back(machine, old, new):
     """The commands of the page for a rollback by package."""
-    before, lines = report(machine), section_blocks("sh", "### Rollback")[0].splitlines()
+    before, lines = report(machine), section_blocks("sh", "OPERATING.md", "## Go back to an earlier release")[0].splitlines()
     for line in lines:
         machine.run(f"cd {shlex.quote(str(old.parent))} && {line.replace('VERSION', EARLIER)}")
     version = machine.run("dpkg-query --show --showformat '${Version}' fedbundle", quiet=True)

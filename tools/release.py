@@ -53,6 +53,7 @@ TEXTS = {
     "share/doc/fedbundle/CHANGELOG.md": "CHANGELOG.md",
     "share/doc/fedbundle/LICENSE": "LICENSE",
     "share/doc/fedbundle/README.md": "README.md",
+    "share/doc/fedbundle/SECURITY.md": "SECURITY.md",
     "share/doc/fedbundle/bench/RESULTS.md": "bench/RESULTS.md",
     "share/doc/fedbundle/fedbundle.default": "deploy/fedbundle.default",
     "share/doc/fedbundle/grafana-dashboard.json": "deploy/grafana-dashboard.json",

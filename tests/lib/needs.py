@@ -135,7 +135,7 @@ SCRIPTS = [
 
     Script("certificates.py", "", BY_HAND, "rt openssl python:cryptography", "", "crates/cert_key crates/key_view crates/floor_rows"),
     Script("deploy.py", "", BY_HAND, "", "systemd-analyze stunnel4 openssl", f"deploy {REPLICA}"),
-    Script("first_day.py", "", BY_HAND, "root mounts openssl systemd-sysusers systemd-tmpfiles", "", f"docs/OPERATING.md {UNITS}"),
+    Script("first_day.py", "", BY_HAND, "root mounts openssl systemd-sysusers systemd-tmpfiles", "", f"docs/INSTALL.md docs/OPERATING.md {UNITS}"),
     Script("health.py", "rules prometheus page slow", BY_HAND, "openssl curl", "promtool chromium",
            "crates/health_pages web deploy/prometheus-rules.yml deploy/grafana-dashboard.json tests/prometheus-rules.test.yml"),
     Script("image.py", "", BY_HAND, "root mounts bwrap openssl dpkg-deb", "umoci crun", "tools/image.py tools/package.py dist"),
@@ -145,7 +145,7 @@ SCRIPTS = [
            f"tools/package.py tools/debian dist {UNITS}"),
     Script("reproducible.py", "", BY_HAND, "rt xz", "", "tools/build.py tools/library.sh crates.txt crates dist"),
     Script("runbooks.py", "", BY_HAND, "root mounts openssl jq cc runuser systemd-sysusers systemd-tmpfiles", "",
-           f"docs/OPERATING.md {UNITS}"),
+           f"docs/RUNBOOKS.md docs/OPERATING.md {UNITS}"),
     Script("site.py", "", BY_HAND, "openssl", "", "deploy/fedbundle-import deploy/fedbundle-fetch deploy/fedbundle-spire"),
     Script("systemd.py", "", BY_HAND, "root mounts /lib/systemd/systemd", "", UNITS),
     Script("rows/play.py", "schedules errors closure-large exchange-large devices exchange_devices", BY_HAND, "rt", "", f"tests/rows/programs/simulation tests/rows/cases/simulation {CORE}"),
