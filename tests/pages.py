@@ -13,10 +13,10 @@ has each kind of warning. Each law that a page names is in a crate. docs/trust-f
 tools/site-picture.py draws. Each decision has a number of its own, and each number that the repository cites is that of a
 decision. Two pages never have figures of the same work over the same number of receipts, records or bytes.
 
-A page has at most the words of BUDGET. Two sentences of two pages are alike if the cosine of their counts of words is 0.45 or more.
-Words that many sentences have do not count, nor do paths and numbers, and a sentence has at least eight others. ALIKE says how many
-such pairs two pages may have; the history of releases may repeat any page. If there is one more, say it on one page, and lead there
-from the other. `--alike` prints all.
+A page has at most the words of BUDGET. Two sentences of two pages, of at least eight words each, are alike if the cosine of their
+counts of words is 0.45 or more. A word counts by how rare it is; one that many sentences have makes two only less alike, and paths and
+numbers do not count. ALIKE says how many such pairs two pages may have; the history of releases may repeat any page. If there is one
+more, say it on one page, and lead there from the other. `--alike` prints all.
 
 Some words make a text hard to read for those whose first language is another. For each it prints how many uses are left on all
 pages, without code, and in all comments of the crates, without what is in backticks, and how many there may be. A new text uses
@@ -24,6 +24,7 @@ none of them, and whoever takes a use away lowers the number here.
 
 usage: pages [--alike]     the exit status is 1 if something is missing, or more is there than may be
 """
+import math
 import re
 import subprocess
 import sys
@@ -108,7 +109,7 @@ COUNT = re.compile(r"(?<![\w.,])\d{1,3}(?:,\d{3})+(?![\d,]*\d)")
 MADE = re.compile(r"<!-- made: .*?<!-- end -->", re.S)
 # The most words of each page but the history of releases.
 BUDGET = {
-    "CONTRIBUTING.md": 1031, "README.md": 1781, "SECURITY.md": 795, "bench/README.md": 3180,
+    "CONTRIBUTING.md": 1038, "README.md": 1781, "SECURITY.md": 795, "bench/README.md": 3180,
     "bench/RESULTS.md": 6217, "bindings/go/README.md": 510, "bindings/python/README.md": 490, "bindings/rust/README.md": 180,
     "docs/ARCHITECTURE.md": 5894, "docs/DECISIONS.md": 6833, "docs/FETCHING.md": 1700, "docs/GUARANTEES.md": 12793,
     "docs/INSTALL.md": 1400, "docs/KUBERNETES.md": 700, "docs/LIBRARY.md": 4046, "docs/MODEL.md": 6540,
@@ -118,35 +119,54 @@ BUDGET = {
 # From which cosine on two sentences of so many words are alike, and how many such pairs two pages may have; others none.
 LIKENESS, LEAST_WORDS = 0.45, 8
 ALIKE = {
-    ("CONTRIBUTING.md", "docs/DECISIONS.md"): 2, ("CONTRIBUTING.md", "docs/TESTING.md"): 1,
-    ("CONTRIBUTING.md", "tests/README.md"): 1, ("README.md", "SECURITY.md"): 3, ("README.md", "docs/ARCHITECTURE.md"): 2,
-    ("README.md", "docs/FETCHING.md"): 1, ("README.md", "docs/GUARANTEES.md"): 5, ("README.md", "docs/INSTALL.md"): 1,
-    ("README.md", "docs/LIBRARY.md"): 1, ("README.md", "docs/MODEL.md"): 1, ("README.md", "docs/OPERATING.md"): 1,
-    ("README.md", "docs/TESTING.md"): 5, ("README.md", "tests/README.md"): 1, ("SECURITY.md", "docs/DECISIONS.md"): 2,
-    ("SECURITY.md", "docs/INSTALL.md"): 1, ("SECURITY.md", "docs/OPERATING.md"): 1, ("bench/README.md", "bench/RESULTS.md"): 1,
-    ("bench/README.md", "docs/DECISIONS.md"): 1, ("bench/README.md", "docs/GUARANTEES.md"): 4,
-    ("bench/README.md", "docs/MODEL.md"): 6, ("bench/README.md", "docs/REFERENCE.md"): 1,
-    ("bench/README.md", "docs/TESTING.md"): 2, ("bench/RESULTS.md", "docs/DECISIONS.md"): 1,
-    ("bench/RESULTS.md", "docs/FETCHING.md"): 1, ("bench/RESULTS.md", "docs/MODEL.md"): 1,
-    ("bench/RESULTS.md", "docs/TESTING.md"): 1, ("bindings/go/README.md", "bindings/python/README.md"): 2,
-    ("bindings/python/README.md", "docs/LIBRARY.md"): 1, ("docs/ARCHITECTURE.md", "docs/DECISIONS.md"): 3,
-    ("docs/ARCHITECTURE.md", "docs/FETCHING.md"): 1, ("docs/ARCHITECTURE.md", "docs/GUARANTEES.md"): 33,
-    ("docs/ARCHITECTURE.md", "docs/LIBRARY.md"): 1, ("docs/ARCHITECTURE.md", "docs/MODEL.md"): 9,
-    ("docs/ARCHITECTURE.md", "docs/TESTING.md"): 3, ("docs/ARCHITECTURE.md", "tests/README.md"): 1,
-    ("docs/DECISIONS.md", "docs/GUARANTEES.md"): 10, ("docs/DECISIONS.md", "docs/LIBRARY.md"): 1,
-    ("docs/DECISIONS.md", "docs/MODEL.md"): 5, ("docs/DECISIONS.md", "docs/OPERATING.md"): 1,
-    ("docs/DECISIONS.md", "docs/REFERENCE.md"): 5, ("docs/DECISIONS.md", "docs/TESTING.md"): 4,
-    ("docs/FETCHING.md", "docs/LIBRARY.md"): 2, ("docs/FETCHING.md", "docs/MODEL.md"): 1,
-    ("docs/FETCHING.md", "docs/RUNBOOKS.md"): 1, ("docs/FETCHING.md", "docs/TESTING.md"): 1,
-    ("docs/FETCHING.md", "examples/README.md"): 1, ("docs/GUARANTEES.md", "docs/LIBRARY.md"): 4,
-    ("docs/GUARANTEES.md", "docs/MODEL.md"): 54, ("docs/GUARANTEES.md", "docs/MONITORING.md"): 1,
-    ("docs/GUARANTEES.md", "docs/OPERATING.md"): 1, ("docs/GUARANTEES.md", "docs/REFERENCE.md"): 4,
-    ("docs/GUARANTEES.md", "docs/TESTING.md"): 7, ("docs/INSTALL.md", "docs/REFERENCE.md"): 1,
-    ("docs/INSTALL.md", "docs/RUNBOOKS.md"): 2, ("docs/INSTALL.md", "docs/TESTING.md"): 1,
-    ("docs/LIBRARY.md", "docs/MODEL.md"): 4, ("docs/LIBRARY.md", "docs/REFERENCE.md"): 3,
-    ("docs/LIBRARY.md", "docs/TESTING.md"): 1, ("docs/MODEL.md", "docs/REFERENCE.md"): 8,
-    ("docs/MODEL.md", "docs/TESTING.md"): 1, ("docs/OPERATING.md", "docs/RUNBOOKS.md"): 1,
-    ("docs/REFERENCE.md", "docs/TESTING.md"): 2,
+    ("CONTRIBUTING.md", "README.md"): 4, ("CONTRIBUTING.md", "bench/RESULTS.md"): 2,
+    ("CONTRIBUTING.md", "docs/ARCHITECTURE.md"): 4, ("CONTRIBUTING.md", "docs/DECISIONS.md"): 1,
+    ("CONTRIBUTING.md", "docs/INSTALL.md"): 1, ("CONTRIBUTING.md", "docs/TESTING.md"): 3,
+    ("CONTRIBUTING.md", "tests/README.md"): 1, ("README.md", "SECURITY.md"): 1, ("README.md", "bindings/go/README.md"): 3,
+    ("README.md", "bindings/python/README.md"): 3, ("README.md", "bindings/rust/README.md"): 3,
+    ("README.md", "docs/ARCHITECTURE.md"): 1, ("README.md", "docs/FETCHING.md"): 1, ("README.md", "docs/GUARANTEES.md"): 1,
+    ("README.md", "docs/INSTALL.md"): 4, ("README.md", "docs/KUBERNETES.md"): 1, ("README.md", "docs/LIBRARY.md"): 1,
+    ("README.md", "docs/MODEL.md"): 1, ("README.md", "docs/MONITORING.md"): 1, ("README.md", "docs/OPERATING.md"): 2,
+    ("README.md", "docs/TESTING.md"): 2, ("README.md", "docs/TOUR.md"): 2, ("README.md", "examples/README.md"): 1,
+    ("README.md", "tests/README.md"): 1, ("SECURITY.md", "docs/DECISIONS.md"): 1, ("SECURITY.md", "docs/MODEL.md"): 1,
+    ("SECURITY.md", "docs/MONITORING.md"): 1, ("SECURITY.md", "docs/REFERENCE.md"): 1,
+    ("bench/README.md", "bench/RESULTS.md"): 8, ("bench/README.md", "bindings/python/README.md"): 1,
+    ("bench/README.md", "docs/ARCHITECTURE.md"): 1, ("bench/README.md", "docs/DECISIONS.md"): 2,
+    ("bench/README.md", "docs/FETCHING.md"): 1, ("bench/README.md", "docs/GUARANTEES.md"): 1,
+    ("bench/README.md", "docs/LIBRARY.md"): 1, ("bench/README.md", "docs/REFERENCE.md"): 3,
+    ("bench/README.md", "docs/TESTING.md"): 4, ("bench/RESULTS.md", "docs/DECISIONS.md"): 1,
+    ("bench/RESULTS.md", "docs/GUARANTEES.md"): 3, ("bench/RESULTS.md", "docs/MODEL.md"): 3,
+    ("bench/RESULTS.md", "docs/OPERATING.md"): 3, ("bindings/go/README.md", "bindings/python/README.md"): 12,
+    ("bindings/go/README.md", "bindings/rust/README.md"): 2, ("bindings/go/README.md", "docs/ARCHITECTURE.md"): 1,
+    ("bindings/go/README.md", "docs/LIBRARY.md"): 2, ("bindings/go/README.md", "docs/TOUR.md"): 1,
+    ("bindings/python/README.md", "bindings/rust/README.md"): 2, ("bindings/python/README.md", "docs/ARCHITECTURE.md"): 1,
+    ("bindings/python/README.md", "docs/FETCHING.md"): 1, ("bindings/python/README.md", "docs/LIBRARY.md"): 1,
+    ("bindings/python/README.md", "docs/RUNBOOKS.md"): 1, ("bindings/rust/README.md", "docs/ARCHITECTURE.md"): 1,
+    ("docs/ARCHITECTURE.md", "docs/DECISIONS.md"): 11, ("docs/ARCHITECTURE.md", "docs/GUARANTEES.md"): 34,
+    ("docs/ARCHITECTURE.md", "docs/INSTALL.md"): 1, ("docs/ARCHITECTURE.md", "docs/LIBRARY.md"): 6,
+    ("docs/ARCHITECTURE.md", "docs/MODEL.md"): 5, ("docs/ARCHITECTURE.md", "docs/MONITORING.md"): 2,
+    ("docs/ARCHITECTURE.md", "docs/OPERATING.md"): 3, ("docs/ARCHITECTURE.md", "docs/REFERENCE.md"): 3,
+    ("docs/ARCHITECTURE.md", "docs/TESTING.md"): 6, ("docs/ARCHITECTURE.md", "docs/TOUR.md"): 1,
+    ("docs/DECISIONS.md", "docs/GUARANTEES.md"): 7, ("docs/DECISIONS.md", "docs/MODEL.md"): 9,
+    ("docs/DECISIONS.md", "docs/REFERENCE.md"): 8, ("docs/DECISIONS.md", "docs/RUNBOOKS.md"): 1,
+    ("docs/DECISIONS.md", "tests/README.md"): 1, ("docs/FETCHING.md", "docs/LIBRARY.md"): 1,
+    ("docs/FETCHING.md", "docs/MODEL.md"): 3, ("docs/FETCHING.md", "docs/RUNBOOKS.md"): 1,
+    ("docs/FETCHING.md", "docs/TESTING.md"): 1, ("docs/FETCHING.md", "docs/TOUR.md"): 1,
+    ("docs/FETCHING.md", "examples/README.md"): 1, ("docs/GUARANTEES.md", "docs/KUBERNETES.md"): 1,
+    ("docs/GUARANTEES.md", "docs/LIBRARY.md"): 4, ("docs/GUARANTEES.md", "docs/MODEL.md"): 24,
+    ("docs/GUARANTEES.md", "docs/MONITORING.md"): 2, ("docs/GUARANTEES.md", "docs/REFERENCE.md"): 4,
+    ("docs/GUARANTEES.md", "docs/TESTING.md"): 2, ("docs/GUARANTEES.md", "examples/README.md"): 2,
+    ("docs/GUARANTEES.md", "tests/README.md"): 1, ("docs/INSTALL.md", "docs/OPERATING.md"): 1,
+    ("docs/INSTALL.md", "docs/REFERENCE.md"): 1, ("docs/INSTALL.md", "docs/RUNBOOKS.md"): 5,
+    ("docs/KUBERNETES.md", "docs/TESTING.md"): 1, ("docs/LIBRARY.md", "docs/MODEL.md"): 4,
+    ("docs/LIBRARY.md", "docs/REFERENCE.md"): 1, ("docs/LIBRARY.md", "docs/TOUR.md"): 1,
+    ("docs/MODEL.md", "docs/REFERENCE.md"): 5, ("docs/MODEL.md", "docs/RUNBOOKS.md"): 5,
+    ("docs/MODEL.md", "docs/TESTING.md"): 1, ("docs/MODEL.md", "docs/TOUR.md"): 3, ("docs/MODEL.md", "examples/README.md"): 1,
+    ("docs/MONITORING.md", "docs/RUNBOOKS.md"): 1, ("docs/OPERATING.md", "docs/REFERENCE.md"): 1,
+    ("docs/OPERATING.md", "docs/RUNBOOKS.md"): 7, ("docs/OPERATING.md", "docs/TESTING.md"): 1,
+    ("docs/OPERATING.md", "docs/TOUR.md"): 1, ("docs/OPERATING.md", "examples/README.md"): 1,
+    ("docs/REFERENCE.md", "docs/RUNBOOKS.md"): 2, ("docs/RUNBOOKS.md", "docs/TOUR.md"): 1,
+    ("docs/RUNBOOKS.md", "examples/README.md"): 1, ("docs/TESTING.md", "tests/README.md"): 4,
 }
 # Words of the third column that are no name of the code, and parts of paths that stand for any name.
 PLAIN = {"SpiffeId", "NAME"}
@@ -435,7 +455,7 @@ def sentences():
     """The sentences of all pages, and the cells of tables, each with its page and the counts of its words."""
     for name, page in lasting_pages().items():
         text = re.sub(r"\]\([^)]*\)", "]", MADE.sub("", BLOCK.sub("", page.read_text())))
-        for sentence in re.split(r"(?<=[.:;?!]) |\||\n(?:[#>*-]|\s*\n|\s*\d+\.)", text):
+        for sentence in re.split(r"(?<=[.?!]) |\||\n(?:[#>*-]|\s*\n|\s*\d+\.)", text):
             words = Counter(re.findall(r"[a-z][a-z'-]+", re.sub(r"`[^`]*[/.:][^`]*`", "", sentence.lower())))
             if words.total() >= LEAST_WORDS:
                 yield name, " ".join(sentence.split()), words
@@ -445,15 +465,16 @@ def alike():
     """The pairs of sentences of two pages that are alike, by their pages."""
     found, pairs, places = list(sentences()), defaultdict(list), defaultdict(list)
     spread = Counter(word for _, _, words in found for word in words)
+    weights = {word: math.log(len(found) / count) for word, count in spread.items()}
     for page, sentence, words in found:
-        rare = {word: count for word, count in words.items() if spread[word] < len(found) / 25}
-        if sum(rare.values()) < LEAST_WORDS:
-            continue
-        size, products = sum(count * count for count in rare.values()) ** 0.5, Counter()
-        for word, count in rare.items():
+        vector = {word: count * weights[word] for word, count in words.items()}
+        size, products = sum(part * part for part in vector.values()) ** 0.5, Counter()
+        for word, part in vector.items():
+            if spread[word] > len(found) / 25:
+                continue
             for other in places[word]:
-                products[other[:3]] += count * other[3]
-            places[word].append((page, sentence, size, count))
+                products[other[:3]] += part * other[3]
+            places[word].append((page, sentence, size, part))
         for (there, other, length), product in products.items():
             if there != page and product >= LIKENESS * size * length:
                 pairs[tuple(sorted((there, page)))].append((other, sentence))

@@ -32,7 +32,7 @@ LIMITS = [
     ("`--most-records`", "receipt_core", "MOST_RECORDS", ""),
     ("peers of a replica", "fedbundle_cli", "MOST_PEERS", ""),
     ("connections of a replica", "replica_connections", "MOST_CONNECTIONS", ""),
-    ("requests of the own machine", "replica_connections", "MOST_LOCAL", ""),
+    ("requests of the own machine, at both sockets", "replica_connections", "MOST_LOCAL", ""),
     ("connections on which other replicas ask", "replica_connections", "MOST_SERVED", ""),
     ("connections at the address of `--health`", "replica_connections", "MOST_PAGES", ""),
     ("the arguments of a request", "request_lines", "MOST_WORDS", "bytes"),
