@@ -145,7 +145,7 @@ ALIKE = {
     ("docs/ARCHITECTURE.md", "docs/DECISIONS.md"): 11, ("docs/ARCHITECTURE.md", "docs/GUARANTEES.md"): 34,
     ("docs/ARCHITECTURE.md", "docs/INSTALL.md"): 1, ("docs/ARCHITECTURE.md", "docs/LIBRARY.md"): 6,
     ("docs/ARCHITECTURE.md", "docs/MODEL.md"): 5, ("docs/ARCHITECTURE.md", "docs/MONITORING.md"): 2,
-    ("docs/ARCHITECTURE.md", "docs/OPERATING.md"): 3, ("docs/ARCHITECTURE.md", "docs/REFERENCE.md"): 3,
+    ("docs/ARCHITECTURE.md", "docs/OPERATING.md"): 3, ("docs/ARCHITECTURE.md", "docs/REFERENCE.md"): 4,
     ("docs/ARCHITECTURE.md", "docs/TESTING.md"): 6, ("docs/ARCHITECTURE.md", "docs/TOUR.md"): 1,
     ("docs/DECISIONS.md", "docs/GUARANTEES.md"): 7, ("docs/DECISIONS.md", "docs/MODEL.md"): 9,
     ("docs/DECISIONS.md", "docs/REFERENCE.md"): 8, ("docs/DECISIONS.md", "docs/RUNBOOKS.md"): 1,

@@ -481,9 +481,10 @@ def two_configurations(world):
     want(one.run("fedbundle config --at /run/fedbundle/socket")[1] != two.run("fedbundle config --at /run/fedbundle/socket")[1], "two wanted", "one")
     one.give("theirs.json", right)
     world.follow(one)
-    one.run("cp -p config.json previous.json && cp theirs.json config.json", by_root=False)
-    one.run(f"systemctl reload {UNIT}")
+    world.follow(one)
     same_reports(one, two)
+    one.run(f"rm previous.json && systemctl reload {UNIT}")
+    end_change(one)
 
 
 @runbook("The state is refused")
