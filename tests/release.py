@@ -37,7 +37,7 @@ sys.dont_write_bytecode = True
 TOP = Path(__file__).resolve().parent.parent
 # What the checks and the launcher read.
 READ = ["fedbundle", "tools", "crates.txt", "HANDLES", "crates", "dist", "deploy", "completions", "include", "LICENSE",
-        "CHANGELOG.md", "README.md", "docs", "bench/RESULTS.md"]
+        "CHANGELOG.md", "README.md", "SECURITY.md", "docs", "bench/RESULTS.md"]
 UNRELEASED = "Unreleased"
 SOURCE = "crates/spiffe_name/src/lib.rt"
 VERSION_SOURCE = "crates/command_line/src/help_texts.rt"
