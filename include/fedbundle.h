@@ -57,7 +57,7 @@ typedef struct fedbundle_outcome {
 
 /* What a call returns. Below 0 it is the number of a code, as -204 for B4: its hundreds stand for the letter (N 1, B 2, C 3,
  * L 4, G 5, O 6, S 7, E 9), the rest is its number. A code in another one is added to 1,000 of these: -605204 is O5 with
- * B4 in it. docs/OPERATING.md says what each code means; L1 is NotCanonical, L2 TooLong, L3 NoMemory, of a receipt's line.
+ * B4 in it. docs/REFERENCE.md says what each code means; L1 is NotCanonical, L2 TooLong, L3 NoMemory, of a receipt's line.
  * A call returns no other codes than those that are named at it, and FEDBUNDLE_USAGE. */
 #define FEDBUNDLE_DONE 0
 #define FEDBUNDLE_NEEDS_ROOM 1 /* the text has more bytes than the buffer; nothing has changed */

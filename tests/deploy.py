@@ -639,7 +639,9 @@ STAND_IN_FEDBUNDLE = """\
 cd "$(dirname "$0")" && echo "$*" >>fedbundle.words
 [ ! -e refuse ] || { echo 'fedbundle: C1 NotJson' >&2; exit 1; }
 [ -e "bundle.$7" ] || {
-    echo "fedbundle: no current bundle${FEDBUNDLE_VERBOSE:+ and more}" >&2; exit 1; }
+    echo "fedbundle: no current bundle" >&2
+    [ -z "$FEDBUNDLE_VERBOSE" ] || echo '  config config.json: and more' >&2
+    exit 1; }
 cat "bundle.$7"
 """
 
@@ -850,7 +852,7 @@ def spire_stops(folder: Path) -> None:
     spire.bundle("a.test", 1)
     (folder / "refuse").touch()
     status, lines, calls = spire.run()
-    told = [f"fedbundle-spire: {folder}/fedbundle bundle failed: C1 NotJson"]
+    told = [f"fedbundle-spire: {folder}/fedbundle bundle refused its input: C1 NotJson"]
     want((status, lines, calls) == (3, told, []), "a stop wanted", lines)
     (folder / "refuse").unlink()
     for text in ("", "[]", '{"relationships":[{}]}', '{"relationships":[{"domain":1}]}'):

@@ -43,6 +43,8 @@ from needs import require  # noqa: E402
 
 TOP = Path(__file__).resolve().parent.parent
 FETCH = TOP / "deploy/fedbundle-fetch"
+# Where the module lies that the scripts share.
+sys.path.insert(0, str(FETCH.parent))
 ENDPOINT = "spiffe://b.test/spire/server"
 NO_PATH = "the certificate's path ends in no authority of the current bundle of b.test"
 
@@ -1315,7 +1317,7 @@ def count_refused(fetch: object, texts: list[bytes], reason: str = "") -> int:
     for text in texts:
         try:
             fetch.read_leaf(text)
-        except fetch.FetchError as error:
+        except fetch.BadCertificate as error:
             refused += reason in str(error)
     return refused
 
@@ -1333,7 +1335,7 @@ def der_values(room: Room) -> None:
     for text in bad:
         try:
             want(False, "a refusal wanted", (text[:8], fetch.values(text)))
-        except fetch.FetchError:
+        except fetch.BadCertificate:
             pass
     for bits, place, has in [(b"\x01\x06", 5, True), (b"\x01\x06", 6, True), (b"\x07\x80", 0, True),
                              (b"\x07\x80", 5, False), (b"", 5, False), (b"\x00", 5, False)]:

@@ -1,10 +1,12 @@
 #!/usr/bin/env python3
-"""Follows "The first day" of docs/OPERATING.md: from two empty machines to two replicas that agree.
+"""Follows docs/INSTALL.md, and "Without a daemon" of docs/OPERATING.md: from two empty machines to two replicas that agree.
 
 A machine is a copy of this one, in which all changes are thrown away: an overlay over its root, and a change of root. Both
 have one network, so the second reaches the first over loopback. The foreign domain is a TLS server of tests/fetch.py. The
-commands are those of the page, block by block, and are counted. The first ones make and install the package. Then one of
-the machines follows the first block of "With systemd", to which the page leads, but for what starts units: no systemd runs.
+commands are those of the pages, block by block, and are counted. The first ones make and install the package, and write the
+configuration and a state. Then one machine serves a session without a daemon, and the other one pulls. At last both follow
+INSTALL to its checks: tests/lib/systemctl stands in for systemd, and the replicas reach each other without stunnel, at ports of
+their own.
 
 It needs root, Linux with overlayfs, Debian 12 with dpkg-deb, apt-get and systemd, python3 and openssl. The program is the
 one in the archive of dist/.
@@ -15,6 +17,7 @@ import importlib.machinery
 import importlib.util
 import json
 import re
+import shutil
 import sys
 import time
 from pathlib import Path
@@ -23,7 +26,7 @@ sys.dont_write_bytecode = True
 sys.path.insert(0, str(Path(__file__).resolve().parent / "lib"))
 from machine import Machine, TOP, in_own_mounts, mount, raise_loopback  # noqa: E402
 
-PAGE = TOP / "docs/OPERATING.md"
+INSTALL, OPERATING = TOP / "docs/INSTALL.md", TOP / "docs/OPERATING.md"
 
 
 def fetch_tests():
@@ -35,10 +38,40 @@ def fetch_tests():
     return made
 
 
-def blocks(title):
+def blocks(page, title, kind="sh"):
     """The commands of each block of a section."""
-    section = PAGE.read_text().split(f"\n{title}\n")[1].split("\n## ")[0].split("\n### ")[0]
-    return [block.strip().split("\n") for block in re.findall(r"```sh\n(.*?)```", section, re.S)]
+    section = page.read_text().split(f"\n## {title}\n")[1].split("\n## ")[0].split("\n### ")[0]
+    return [block.replace("\\\n", " ").strip().split("\n") for block in re.findall(rf"```{kind}\n(.*?)```", section, re.S)]
+
+
+def daemons(*machines):
+    """Follows steps 3 to 6 of INSTALL: both machines start, have a session with each other, and pass the checks."""
+    options = blocks(INSTALL, "4. Options", "ini")[0][0]
+    for number, machine in enumerate(machines):
+        machine.run("mkdir -p /etc/stunnel", quiet=True)
+        own, other = 8471 + number, 8472 - number
+        text = options.replace("8472,127.0.0.1:8473", str(other)).replace("--listen 127.0.0.1:8471", f"--listen 127.0.0.1:{own}")
+        machine.path("/etc/default/fedbundle").write_text(f"{text.replace('9463', str(9463 + number))}\n")
+        machine.path("/etc/more-words").write_text("--every 1\n")
+        shutil.copy(TOP / "tests/lib/systemctl", machine.path("/usr/local/sbin/systemctl"))
+        # The package is of the last release, whose units may not be these.
+        for unit in (TOP / "deploy").glob("*.[st]*"):
+            text = unit.read_text().replace("/usr/local/bin/fedbundle", "/usr/bin/fedbundle")
+            machine.path(f"/etc/systemd/system/{unit.name}").write_text(text)
+        for command in [*blocks(INSTALL, "3. TLS between replicas")[0], *blocks(INSTALL, "5. Start")[0]]:
+            if "stunnel@" not in command:
+                machine.run(command)
+    looks, end = blocks(INSTALL, "6. Check")[0], time.monotonic() + 300
+    while True:
+        told = [[machine.attempt(command).stdout for command in looks] for machine in machines]
+        well = [re.search(r"^peer \S+ ended-well \d", status, re.M) and "\nwarning" not in status and " sequence 2 " in status for status, _ in told]
+        if all(well) and told[0][1] == told[1][1]:
+            break
+        if time.monotonic() > end:
+            sys.exit(f"the checks of the page do not pass: {told}")
+        time.sleep(0.5)
+    for machine in machines:
+        machine.run("systemctl stop fedbundle-replica.service", quiet=True)
 
 
 def follow(folder):
@@ -60,7 +93,8 @@ def follow(folder):
         # The manual's index would be rebuilt, which takes half a minute.
         (machine.root / "var/lib/man-db/auto-update").unlink(missing_ok=True)
     began = time.monotonic()
-    each, first, second, looks = blocks("## The first day")
+    each = [*blocks(INSTALL, "1. The program")[0], *blocks(INSTALL, "2. The configuration")[-1]]
+    first, second, looks = blocks(OPERATING, "Without a daemon")[1:]
     for machine in (one, two):
         for command in each:
             machine.run(command)
@@ -78,13 +112,8 @@ def follow(folder):
     print(reports[0][0], end="")
     count = 2 * len(each) + len(first) + len(second) + 2 * len(looks)
     print(f"{count} commands in {took:.0f} s: two replicas hold the same, and the bundle that was fetched is current")
-    one.run("mkdir -p /etc/stunnel", quiet=True)
-    for command in blocks("### With systemd")[0]:
-        if not command.startswith("systemctl "):
-            one.run(command)
-    if one.run(looks[0]) != reports[0][0]:
-        sys.exit("after the next section of the page another report")
-    print("the next section goes on from there")
+    daemons(one, two)
+    print("two daemons pass the checks of the page")
 
 
 def main():

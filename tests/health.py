@@ -553,9 +553,6 @@ def look_at_texts(scene, room):
         used = set(re.findall(r"\b(?:fedbundle_\w+|up|scrape_\w+)\b(?=[{\[ )])", re.sub(r'"[^"]*"', '""', text) + " "))
         check(used and used <= known, f"{name}: the metrics that it names are served", used - known)
     look_at_panels()
-    named = set(re.findall(r'runbook: "(.*)"', RULES.read_text()))
-    heads = set(re.findall(r"^#+ (.*)$", (TOP / "docs/OPERATING.md").read_text(), re.M))
-    check(named <= heads, "each runbook is a section of OPERATING", named - heads)
 
 
 def look_at_rules(scene, room):

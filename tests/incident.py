@@ -1,5 +1,5 @@
 #!/usr/bin/env python3
-"""Plays the incident of a withdrawn key to its safe end, with two replicas, by the steps of docs/OPERATING.md.
+"""Plays the incident of a withdrawn key to its safe end, with two replicas, by the steps of docs/RUNBOOKS.md, over files.
 
 A domain publishes sequence 1 (key abc), 2 (keys abc and hello) and 3 (key hello). Then the private key of `hello` is
 stolen. The operator distrusts it on replica one; sequence 3 stays current if a chain under abc leads to it; otherwise

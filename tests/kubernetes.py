@@ -1,15 +1,18 @@
 #!/usr/bin/env python3
-"""Renders deploy/kubernetes by `kubectl kustomize`, checks what comes, and runs its three pods as processes. No cluster is used.
+"""Renders deploy/kubernetes by `kubectl kustomize`, checks what comes, and runs its pods as processes. No cluster is used.
 
 - objects: each volume, ConfigMap, port, label, service and name that one object or file names is there in another; each
   path of a command line is in a volume that its container has; the Secret has the three files that stunnel reads.
   Each command line, those of probes too, has only options that the program's --help names. With the component for health the
-  address, the probes over HTTP and the port fit, too.
-- falsified: twenty changes of the rendered objects are each found so.
+  address, the probes over HTTP and the port fit, too. So they do with the component for one of several sites, with its files and
+  those that it says for the other sites.
+- falsified: twenty changes of the rendered objects are each found so, and six of those of a site.
 - pods: three pods, each a copy of this machine with a network of its own, run all five containers with the rendered words,
   files and rights, as the pod's user, under tini. A bundle that is observed in one comes to all three, whose reports are the
   same then; the probes end with 0; the pusher gives the bundle to a stand-in for a SPIRE server; a replica that is ended by
   SIGTERM is gone within a second, and comes back with what it had.
+- sites: three pods of three sites, each with the files and the certificate of its own site. A bundle that is observed in one
+  comes to all three; one that gets a certificate with another name is refused by the others.
 
 It needs python3 with yaml, kubectl, and for the pods root, overlayfs, ip, stunnel4, tini and openssl. What is not there
 leaves out a part, as a line says. $KUBECTL names another kubectl. The program is the one that $FEDBUNDLE names, or else the
@@ -40,10 +43,16 @@ try:
 except ImportError:
     yaml = None
 DEPLOY = TOP / "deploy"
-SCRIPTS = ["fedbundle-every", "fedbundle-fetch", "fedbundle-spire"]
+SCRIPTS = ["fedbundle-every", "fedbundle-fetch", "fedbundle-spire", "fedbundle_scripts.py"]
 HELPS = {}
 SECRET = {"fedbundle-tls": {"tls.crt", "tls.key", "ca.crt"}}
+# The sites of the component `site`, and their names in certificates.
+SITES = ["one", "two", "three"]
 reported = 0
+
+
+def name_of(site):
+    return f"{site}.replicas.internal"
 
 
 def check(is_so, what):
@@ -61,19 +70,24 @@ def render(folder=DEPLOY / "kubernetes"):
 
 
 class Objects:
-    """The rendered objects, and what is often asked of them."""
+    """The rendered objects, and what is often asked of them. A site has the names of the others: without them the peers are the
+    pods."""
 
-    def __init__(self, listed):
-        self.listed = listed
+    def __init__(self, listed, others=None):
+        self.listed, self.is_site = listed, others is not None
         self.set = self.of("StatefulSet")
         self.pod = self.set["spec"]["template"]["spec"]
         self.containers = {one["name"]: one for one in self.pod["containers"]}
         self.labels = self.set["spec"]["template"]["metadata"]["labels"]
         self.maps = {one["metadata"]["name"]: one["data"] for one in listed if one["kind"] == "ConfigMap"}
-        self.names = [f"{self.set['metadata']['name']}-{number}.{self.set['spec']['serviceName']}" for number in range(self.set["spec"]["replicas"])]
+        pods_ = [f"{self.set['metadata']['name']}-{number}.{self.set['spec']['serviceName']}" for number in range(self.set["spec"]["replicas"])]
+        self.names = others or pods_
 
     def of(self, kind):
-        return next(one for one in self.listed if one["kind"] == kind)
+        return self.all(kind)[0]
+
+    def all(self, kind):
+        return [one for one in self.listed if one["kind"] == kind]
 
     def stunnel(self, name):
         """The values of a word in a file of stunnel."""
@@ -154,17 +168,17 @@ def faults_of_paths(found):
 def faults_of_ports(found):
     serve, pull = found.stunnel("serve.conf"), found.stunnel("pull.conf")
     ports = {one["name"]: one["containerPort"] for container in found.containers.values() for one in container.get("ports", [])}
-    service = found.of("Service")["spec"]
-    if [int(one.split(":")[1]) for one in serve("accept")] != [ports.get(one["targetPort"]) for one in service["ports"]]:
-        yield "the Service leads to another port than that of serve.conf"
+    for service in (one["spec"] for one in found.all("Service")):
+        if [int(one.split(":")[1]) for one in serve("accept")] != [ports.get(one["targetPort"]) for one in service["ports"]]:
+            yield "the Service leads to another port than that of serve.conf"
     if serve("connect") != [found.option("replica", "--listen")]:
         yield "serve.conf leads elsewhere than the replica listens"
     if pull("accept") != found.option("replica", "--peers").split(","):
         yield "the replica's peers are not those of pull.conf"
     if pull("connect") != [f"{name}:{one['port']}" for name in found.names for one in service["ports"]]:
-        yield "pull.conf does not lead to each pod"
+        yield "pull.conf does not lead to each peer"
     if pull("checkHost") != found.names or serve("checkHost") != found.names:
-        yield "the names that stunnel checks are not those of the pods"
+        yield "the names that stunnel checks are not those of the peers"
     if pull("delay") != ["yes"]:
         yield "pull.conf looks names up once alone"
     policy = found.of("NetworkPolicy")["spec"]
@@ -178,11 +192,22 @@ def faults_of_ports(found):
 
 def faults_of_labels(found):
     policy = found.of("NetworkPolicy")["spec"]
-    selectors = {"StatefulSet": found.set["spec"]["selector"]["matchLabels"], "Service": found.of("Service")["spec"]["selector"],
-                 "PodDisruptionBudget": found.of("PodDisruptionBudget")["spec"]["selector"]["matchLabels"],
-                 "NetworkPolicy": policy["podSelector"]["matchLabels"],
-                 "ingress": policy["ingress"][0]["from"][0]["podSelector"]["matchLabels"],
-                 "egress": policy["egress"][0]["to"][0]["podSelector"]["matchLabels"]}
+    selectors = {"StatefulSet": found.set["spec"]["selector"]["matchLabels"], "NetworkPolicy": policy["podSelector"]["matchLabels"],
+                 **{one["metadata"]["name"]: one["spec"]["selector"] for one in found.all("Service")}}
+    if found.is_site:
+        # Peers come from outside, and nobody else does without a rule of its own.
+        if [one["ports"] for one in policy["ingress"] if "from" not in one] != [[{"protocol": "TCP", "port": "gossip"}]]:
+            yield "the NetworkPolicy lets in others than peers"
+        if {"protocol": "TCP", "port": found.all("Service")[0]["spec"]["ports"][0]["port"]} not in policy["egress"][0]["ports"]:
+            yield "the NetworkPolicy keeps the replica from its peers"
+        if found.set["spec"]["replicas"] != 1 or found.all("PodDisruptionBudget"):
+            yield "there is not one replica"
+        if "LoadBalancer" not in [one["spec"].get("type") for one in found.all("Service")]:
+            yield "no address leads to the replica from outside"
+    else:
+        selectors |= {"PodDisruptionBudget": found.of("PodDisruptionBudget")["spec"]["selector"]["matchLabels"],
+                      "ingress": policy["ingress"][0]["from"][0]["podSelector"]["matchLabels"],
+                      "egress": policy["egress"][0]["to"][0]["podSelector"]["matchLabels"]}
     for name, labels in selectors.items():
         if not labels or not labels.items() <= found.labels.items():
             yield f"{name} selects other pods"
@@ -224,9 +249,9 @@ def faults_of_words(found):
             yield f"{container}: there is no {' '.join(called)}"
 
 
-def faults_of(listed):
+def faults_of(listed, others=None):
     try:
-        found = Objects(listed)
+        found = Objects(listed, others)
         parts = (faults_of_volumes, faults_of_paths, faults_of_ports, faults_of_labels, faults_of_rights, faults_of_words)
         return [fault for part in parts for fault in part(found)]
     except (KeyError, IndexError, StopIteration, ValueError, TypeError) as why:
@@ -237,6 +262,9 @@ def objects(_room):
     found = render()
     faults = faults_of(found)
     health_component(found)
+    for site in SITES:
+        faults_there = faults_of(rendered_site(site), others_of(site))
+        check(not faults_there, f"the objects of site {site} fit together {faults_there or ''}")
     check(not faults, f"{len(found)} objects fit together, and the programs take their words: {', '.join(sorted(one['kind'] for one in found))} {faults or ''}")
 
 
@@ -252,14 +280,21 @@ CHANGES = [('"mountPath": "/var/lib/fedbundle", "name": "state"', '"mountPath": 
            ('"mountPath": "/run/fedbundle"', '"mountPath": "/run/other"')]
 
 
+# The same of a site.
+CHANGES_OF_SITE = [("connect = two.replicas.internal:8470", "connect = three.replicas.internal:8470"), ("checkHost = three.replicas.internal", "checkHost = four.replicas.internal"),
+                   ("127.0.0.1:8472,127.0.0.1:8473", "127.0.0.1:8472"), ('"type": "LoadBalancer"', '"type": "ClusterIP"'), ('"replicas": 1', '"replicas": 2'),
+                   ('"ports": [{"port": 8470, "protocol": "TCP"}]', '"ports": [{"port": 8480, "protocol": "TCP"}]')]
+
+
 def falsified(_room):
-    text = json.dumps(render())
-    for before, after in CHANGES:
-        if before not in text:
-            check(False, f"{before} is in the objects")
-            continue
-        found = faults_of(json.loads(text.replace(before, after)))
-        check(found, f"{after}: {found[0] if found else 'no fault was found'}")
+    for listed, others, changes in ((render(), None, CHANGES), (rendered_site("one"), others_of("one"), CHANGES_OF_SITE)):
+        text = json.dumps(listed)
+        for before, after in changes:
+            if before not in text:
+                check(False, f"{before} is in the objects")
+                continue
+            found = faults_of(json.loads(text.replace(before, after)), others)
+            check(found, f"{after}: {found[0] if found else 'no fault was found'}")
 
 
 # ---- the pods
@@ -268,30 +303,37 @@ def openssl(*words):
     subprocess.run(["openssl", *map(str, words)], check=True, capture_output=True)
 
 
-def make_secret(folder, names):
-    """The files of the Secret."""
+CURVE = ["-newkey", "ec", "-pkeyopt", "ec_paramgen_curve:P-256", "-nodes", "-days", "10"]
+
+
+def make_authority(folder):
+    """The authority of the replicas."""
     folder.mkdir()
-    curve = ["-newkey", "ec", "-pkeyopt", "ec_paramgen_curve:P-256", "-nodes", "-days", "10"]
-    authority = ["-addext", "keyUsage=critical,keyCertSign,cRLSign", "-keyout", folder / "ca.key", "-out", folder / "ca.crt"]
-    openssl("req", "-x509", *curve, "-subj", "/CN=replicas", *authority)
-    alternative = ",".join(f"DNS:{name}" for name in names)
-    openssl("req", "-x509", *curve, "-subj", "/CN=fedbundle", "-CA", folder / "ca.crt", "-CAkey", folder / "ca.key", "-addext", f"subjectAltName={alternative}",
-            "-addext", "basicConstraints=critical,CA:FALSE", "-keyout", folder / "tls.key", "-out", folder / "tls.crt")
-    (folder / "ca.key").unlink()
-    return {path.name: path.read_bytes() for path in folder.iterdir()}
+    more = ["-addext", "keyUsage=critical,keyCertSign,cRLSign", "-keyout", folder / "ca.key", "-out", folder / "ca.crt"]
+    openssl("req", "-x509", *CURVE, "-subj", "/CN=replicas", *more)
+    return folder
+
+
+def make_secret(authority, names):
+    """The files of a Secret with a certificate for these names."""
+    alternative, by = ",".join(f"DNS:{name}" for name in names), ["-CA", authority / "ca.crt", "-CAkey", authority / "ca.key"]
+    openssl("req", "-x509", *CURVE, "-subj", "/CN=fedbundle", *by, "-addext", f"subjectAltName={alternative}",
+            "-addext", "basicConstraints=critical,CA:FALSE", "-keyout", authority / "tls.key", "-out", authority / "tls.crt")
+    return {name: (authority / name).read_bytes() for name in SECRET["fedbundle-tls"]}
 
 
 class Pod(Machine):
-    """A copy of this machine with a network of its own, in which the containers of a pod run as processes."""
+    """A copy of this machine with a network of its own, in which the containers of a pod run as processes. The hosts are the names
+    of all pods in their order."""
 
-    def __init__(self, folder, found, number, secret):
+    def __init__(self, folder, found, number, secret, hosts):
         super().__init__(folder / f"pod-{number}", f"{number}")
-        self.found, self.running = found, {}
+        self.found, self.running, self.number = found, {}, number
         self.user = found.pod["securityContext"]["runAsUser"]
         self.holder = subprocess.Popen(["unshare", "--net", "sleep", "1000"])
         self.connect(number)
-        hosts = [f"10.97.0.{10 + other} {name}\n" for other, name in enumerate(found.names)]
-        (self.root / "etc/hosts").write_text("127.0.0.1 localhost\n" + "".join(hosts))
+        known = [f"10.97.0.{10 + other} {name}\n" for other, name in enumerate(hosts)]
+        (self.root / "etc/hosts").write_text("127.0.0.1 localhost\n" + "".join(known))
         for name in ["fedbundle", *SCRIPTS]:
             path = self.root / "usr/bin" / name
             text = Path(find_program() if name == "fedbundle" else DEPLOY / name).read_bytes()
@@ -351,6 +393,7 @@ class Pod(Machine):
         for process in [*self.running.values(), self.holder]:
             process.kill()
             process.wait()
+        subprocess.run(["ip", "link", "del", f"pod{self.number}"], check=False)
 
 
 def until(right, what):
@@ -392,12 +435,30 @@ def first_start(pod, number):
     pod.begin("replica")
 
 
-def rendered_with(component):
-    """The objects with a component of the base."""
+def rendered_with(component, files=()):
+    """The objects with a component of the base, and with other files of stunnel."""
     with tempfile.TemporaryDirectory(dir=DEPLOY, prefix=".overlay-") as folder:
         text = {"resources": ["../kubernetes"], "components": [f"../kubernetes/{component}"]}
-        (Path(folder) / "kustomization.yaml").write_text(json.dumps(text))
+        if files:
+            text["configMapGenerator"] = [{"name": "fedbundle-stunnel", "behavior": "replace", "files": [*files]}]
+        for name, content in {**dict(files), "kustomization.yaml": json.dumps(text)}.items():
+            (Path(folder) / name).write_text(content)
         return render(folder)
+
+
+def others_of(site):
+    """The names of the other sites."""
+    return [name_of(other) for other in SITES if other != site]
+
+
+def rendered_site(site):
+    """The objects of a site: with the files of site one, changed as they say."""
+    first, second = (other for other in SITES if other != site)
+    files = {}
+    for name in ("pull.conf", "serve.conf"):
+        text = (DEPLOY / "kubernetes/site" / name).read_text()
+        files[name] = re.sub(r"\b(two|three)(?=\.replicas|\])", lambda found: {"two": first, "three": second}[found[1]], text)
+    return rendered_with("site", files)
 
 
 def first_start_component():
@@ -472,26 +533,79 @@ def pods(room):
         if not has(tool):
             raise Lacking(why_not(tool))
     first_start_component()
-    found, made = Objects(render()), []
-    found.containers["replica"]["args"] += ["--every", "1"]
-    subprocess.run(["ip", "link", "add", "pods", "type", "bridge"], check=True)
-    subprocess.run(["ip", "link", "set", "pods", "up"], check=True)
-    secret = make_secret(room / "secret", found.names)
-    try:
-        for number in range(len(found.names)):
-            made.append(Pod(room, found, number, secret))
-            first_start(made[-1], number)
-        until(lambda: all(pod.ask("fedbundle", "polls", "--at", "/run/fedbundle/socket", "--now", "0").returncode == 0 for pod in made), "three replicas answer")
+    found = Objects(render())
+    secret = make_secret(make_authority(room / "secret"), found.names)
+    with Pods(room, [(found, secret)] * len(found.names), found.names) as made:
         together(made, found)
         ending(made[2])
-    finally:
+
+
+class Pods:
+    """Pods with these objects and Secrets on one bridge, until the end of a `with`. All replicas answer."""
+
+    def __init__(self, room, wanted, hosts):
+        self.room, self.wanted, self.hosts, self.made = room, wanted, hosts, []
+
+    def __enter__(self):
+        subprocess.run(["ip", "link", "add", "pods", "type", "bridge"], check=True)
+        subprocess.run(["ip", "link", "set", "pods", "up"], check=True)
+        for found in {id(found): found for found, _ in self.wanted}.values():
+            found.containers["replica"]["args"] += ["--every", "1"]
+        try:
+            for number, (found, secret) in enumerate(self.wanted):
+                self.made.append(Pod(self.room, found, number, secret, self.hosts))
+                first_start(self.made[-1], number)
+            probe = ("fedbundle", "polls", "--at", "/run/fedbundle/socket", "--now", "0")
+            until(lambda: all(pod.ask(*probe).returncode == 0 for pod in self.made), "three replicas answer")
+        except BaseException:
+            self.__exit__()
+            raise
+        return self.made
+
+    def __exit__(self, *_):
         if reported:
-            print("".join(f"  {path}: {line}\n" for pod in made for path in sorted(pod.folder.glob("*.log")) for line in path.read_text().splitlines()[-3:]), end="")
-        for pod in made:
+            logs = [(path, line) for pod in self.made for path in sorted(pod.folder.glob("*.log")) for line in path.read_text().splitlines()[-3:]]
+            print("".join(f"  {path}: {line}\n" for path, line in logs), end="")
+        for pod in self.made:
             pod.close()
+        subprocess.run(["ip", "link", "del", "pods"], check=True)
 
 
-PARTS = {"objects": objects, "falsified": falsified, "pods": pods}
+def sites(room):
+    for tool in ("ip", "stunnel4", "tini", "openssl"):
+        if not has(tool):
+            raise Lacking(why_not(tool))
+    authority = make_authority(room / "secret")
+    found = [Objects(rendered_site(site), others_of(site)) for site in SITES]
+    wanted = [(one, make_secret(authority, [name_of(site)])) for one, site in zip(found, SITES)]
+    with Pods(room, wanted, [name_of(site) for site in SITES]) as made:
+        observe(made[0])
+        for pod in made:
+            for name in ("tls-serve", "tls-pull"):
+                pod.begin(name)
+
+        def reports():
+            return {pod.ask("fedbundle", "report", "--at", "/run/fedbundle/socket").stdout for pod in made}
+        until(lambda: len(reports()) == 1 and b"\nreceipts 1 " in next(iter(reports())), "three sites report the same, with the receipt")
+        peers = [re.findall(r"^peer (\S+) ended-well \d", pod.ask("fedbundle", "status", "--at", "/run/fedbundle/socket").stdout.decode(), re.M) for pod in made]
+        check(all(peers), f"each had a session that ended well: {peers}")
+        refuses_stranger(made[2], make_secret(authority, [name_of("four")]))
+
+
+def refuses_stranger(pod, secret):
+    """A certificate of the authority with a name that no site expects does not reach the others."""
+    pod.running["tls-pull"].terminate()
+    pod.running.pop("tls-pull").wait(300)
+    for name, content in secret.items():
+        (pod.root / "etc/fedbundle/tls" / name).write_bytes(content)
+    pod.begin("tls-pull")
+
+    def faults():
+        return re.findall(r"^peer \S+ ended-well \d+ fault (S\d+)", pod.ask("fedbundle", "status", "--at", "/run/fedbundle/socket").stdout.decode(), re.M)
+    until(lambda: len(faults()) == 2, "a certificate with another name reaches neither of the others")
+
+
+PARTS = {"objects": objects, "falsified": falsified, "pods": pods, "sites": sites}
 
 
 def main():

@@ -5,12 +5,12 @@
   archive with a changed byte is refused. Each file of the archive is in one of the packages, with the bytes that it had, or
   those that the head of tools/package.py names.
 - lintian: it finds no error. What it warns of is printed.
-- pages: a package of the texts and scripts that are here has the pages, so that the links of docs/OPERATING.md to others
+- pages: a package of the texts and scripts that are here has the pages, so that the links of the operator's pages to others
   lead somewhere, and the file of options as a conffile.
 - life: in a copy of this machine in which systemd runs, a package of an earlier number is installed, the replica, the
   fetcher and its timer are started, and a bundle is observed. An upgrade starts the replica again with the new program, and
   it reports the same; of one that is stopped the files stay, byte for byte. Options are changed and a package is rolled back
-  as docs/OPERATING.md says. After `remove` nothing runs and the state is there; `purge` names what it removes. The earlier
+  as docs/INSTALL.md and docs/OPERATING.md say. After `remove` nothing runs and the state is there; `purge` names what it removes. The earlier
   package has the released files, and a byte more at the end of its program; the later one has the texts, scripts and units
   that are here, with the released program.
 - library: a program in C is compiled in the copy by what pkg-config says, with the shared and with the static library.
@@ -38,6 +38,7 @@ import time
 from importlib.machinery import SourceFileLoader
 from importlib.util import module_from_spec, spec_from_loader
 from pathlib import Path
+from types import SimpleNamespace
 
 sys.dont_write_bytecode = True
 sys.path.insert(0, str(Path(__file__).resolve().parent / "lib"))
@@ -46,6 +47,7 @@ from needs import has, left_out, require, why_not  # noqa: E402
 
 EARLIER = "0.1.99"
 STATE = "/var/lib/fedbundle"
+OF_OPERATORS = ["INSTALL", "OPERATING", "RUNBOOKS", "FETCHING", "MONITORING", "KUBERNETES", "REFERENCE"]
 AS_USER = "runuser -u fedbundle --"
 reported = 0
 
@@ -73,9 +75,8 @@ def packages_of(folder, archive=None, words=(), **environment):
 
 # ---- the packages as files
 
-def archive_like(folder, change, more=()):
-    """An archive like the released one, after a change of its members and with more of them, with its sums next to it."""
-    folder.mkdir(parents=True)
+def archive_like(folder, change):
+    """An archive like the released one, after a change of its members, with its sums next to it."""
     tool, made = tool_of("package"), io.BytesIO()
     with tarfile.open(tool.ARCHIVE, mode="r:xz") as old, tarfile.open(fileobj=made, mode="w") as new:
         for entry in old:
@@ -83,28 +84,25 @@ def archive_like(folder, change, more=()):
             content = change(entry.name, content)
             entry.size = len(content)
             new.addfile(entry, io.BytesIO(content))
-        for name, content in more:
-            entry = tarfile.TarInfo(name)
-            entry.size, entry.mode = len(content), 0o644
-            new.addfile(entry, io.BytesIO(content))
-    path = folder / tool.ARCHIVE.name
-    path.write_bytes(lzma.compress(made.getvalue(), preset=0))
-    (folder / "SHA256SUMS").write_text(f"{hashlib.sha256(path.read_bytes()).hexdigest()}  {path.name}\n")
+    return archive_with_sums(folder, lzma.compress(made.getvalue(), preset=0))
+
+
+def archive_with_sums(folder, content):
+    """Writes an archive, with its sums next to it."""
+    folder.mkdir(parents=True)
+    path = folder / tool_of("package").ARCHIVE.name
+    path.write_bytes(content)
+    (folder / "SHA256SUMS").write_text(f"{hashlib.sha256(content).hexdigest()}  {path.name}\n")
     return path
-
-
-def texts_here():
-    """What is not compiled, as tools/release.py would put it into an archive of the sources here, by its name there."""
-    files = tool_of("release").plain_files()
-    return {tool_of("package").ROOT + place: content for place, (content, _) in files.items()}
 
 
 def archive_here(folder):
     """An archive with the released programs and libraries, and the texts, scripts and units that are here."""
-    texts = texts_here()
-    with tarfile.open(tool_of("package").ARCHIVE, mode="r:xz") as old:
-        more = sorted(set(texts) - set(old.getnames()))
-    return archive_like(folder, lambda name, content: texts.get(name, content), [(name, texts[name]) for name in more])
+    release, package = tool_of("release"), tool_of("package")
+    # As fast as can be.
+    release.lzma = SimpleNamespace(compress=lambda content, preset: lzma.compress(content, preset=0), PRESET_EXTREME=0)
+    files, _ = package.read_archive(package.ARCHIVE)
+    return archive_with_sums(folder, release.archive_of({**{place: files[place] for place in release.COMPILED}, **release.plain_files()}))
 
 
 def files_of(package):
@@ -161,9 +159,10 @@ def made(room):
 def pages(room):
     package = packages_of(room / "packages", archive_here(room / "archive"))["fedbundle"]
     there, folder = files_of(package), "usr/share/doc/fedbundle"
-    check({f"{folder}/docs/OPERATING.md", f"{folder}/docs/page.png", f"{folder}/README.md"} <= set(there), "the package has the pages and a picture of the page of health")
-    check("\n## Runbooks\n" in there.get(f"{folder}/docs/OPERATING.md", (b"", 0))[0].decode(), "and the runbooks")
-    links = re.findall(r"\]\(([^)#:]+\.(?:md|png|svg))[#)]", there[f"{folder}/docs/OPERATING.md"][0].decode())
+    wanted = {f"{folder}/docs/{name}.md" for name in OF_OPERATORS}
+    check({*wanted, f"{folder}/docs/page.png", f"{folder}/README.md"} <= set(there), "the package has the operator's pages and a picture of the page of health")
+    text = "".join(there[name][0].decode() for name in wanted & set(there))
+    links = re.findall(r"\]\(([^)#:]+\.(?:md|png|svg))[#)]", text)
     lost = [link for link in links if os.path.normpath(f"{folder}/docs/{link}") not in there]
     check(links and not lost, f"each of its {len(links)} links to a page or a picture leads to one of the package {lost or ''}")
     control = subprocess.run(["dpkg-deb", "--info", package, "conffiles"], capture_output=True, text=True).stdout
@@ -263,15 +262,15 @@ def upgrade(machine, package):
     check(property_of(machine, "fedbundle-fetch.timer", "ActiveState") == "active", "the timer is active")
 
 
-def section_blocks(kind, title):
-    """The blocks of this kind below a title of docs/OPERATING.md."""
-    text = (TOP / "docs/OPERATING.md").read_text().split(f"\n{title}\n")[1].split("\n## ")[0].split("\n### ")[0]
+def section_blocks(kind, page, title):
+    """The blocks of this kind below a title of a page."""
+    text = (TOP / "docs" / page).read_text().split(f"\n{title}\n")[1].split("\n## ")[0].split("\n### ")[0]
     return re.findall(rf"^```{kind}\n(.*?)^```", text, re.M | re.S)
 
 
 def options(machine, package):
-    """Options are changed as the page of health says, and no upgrade takes the change back."""
-    line = section_blocks("ini", "## Health, metrics and a page")[0]
+    """Options are changed as INSTALL says, and no upgrade takes the change back."""
+    line = section_blocks("ini", "INSTALL.md", "## 4. Options")[0]
     machine.run(f"printf %s {shlex.quote(line)} >/etc/default/fedbundle", quiet=True)
     before = property_of(machine, "fedbundle-replica.service", "MainPID")
     ran = machine.attempt("systemctl reload fedbundle-replica.service")
@@ -291,7 +290,7 @@ def options(machine, package):
 
 def rolled_back(machine, old, new):
     """The commands of the page for a rollback by package."""
-    before, lines = report(machine), section_blocks("sh", "### Rollback")[0].splitlines()
+    before, lines = report(machine), section_blocks("sh", "OPERATING.md", "## Go back to an earlier release")[0].splitlines()
     for line in lines:
         machine.run(f"cd {shlex.quote(str(old.parent))} && {line.replace('VERSION', EARLIER)}")
     version = machine.run("dpkg-query --show --showformat '${Version}' fedbundle", quiet=True)
@@ -321,6 +320,7 @@ def remove(machine):
     machine.run("dpkg --remove fedbundle")
     check(machine.attempt("pgrep --exact fedbundle").returncode == 1, "after remove nothing runs")
     check(machine.attempt("command -v fedbundle fedbundle-fetch").returncode != 0, "and the programs are gone")
+    check(machine.attempt("test -e /usr/lib/fedbundle").returncode == 1, "with the folder of the scripts")
     names = machine.run(f"ls {STATE}", quiet=True).split()
     check({"config.json", "state", "state.journal"} <= set(names), f"remove leaves {' '.join(names)}")
 

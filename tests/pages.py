@@ -7,16 +7,24 @@ with its whole path below crates/, each function, law and definition that a row 
 clause after a function's name in the contract of a function of that name. The code that docs/LIBRARY.md shows is that of
 crates/library_examples (D-213) and of bindings/, and the code that the README of a binding shows is that of a file next to it;
 that in C is what cc takes with the header. The contracts that LIBRARY quotes are those of the sources, whole, and each of their
-terms has a row with its file. The table at the head of docs/OPERATING.md has a row for each part of the page. Each law that a
-page names is in a crate. docs/trust-flow.svg is what tools/picture.py draws of docs/trust-flow.dot, and docs/site.svg what
+terms has a row with its file. The tables of docs/REFERENCE.md are what tools/reference.py makes. Each alert of
+deploy/prometheus-rules.yml has a row in the first table of docs/RUNBOOKS.md, which leads to the section that the alert names, and so
+has each kind of warning. Each law that a page names is in a crate. docs/trust-flow.svg is what tools/picture.py draws of docs/trust-flow.dot, and docs/site.svg what
 tools/site-picture.py draws. Each decision has a number of its own, and each number that the repository cites is that of a
 decision. Two pages never have figures of the same work over the same number of receipts, records or bytes.
+
+A page has at most the words of BUDGET. Two sentences of two pages, of at least eight words each, are alike if the cosine of their
+counts of words is 0.45 or more. A word counts by how rare it is; one that many sentences have makes two only less alike, and paths and
+numbers do not count. ALIKE says how many such pairs two pages may have; the history of releases may repeat any page. If there is one
+more, say it on one page, and lead there from the other. `--alike` prints all.
 
 Some words make a text hard to read for those whose first language is another. For each it prints how many uses are left on all
 pages, without code, and in all comments of the crates, without what is in backticks, and how many there may be. A new text uses
 none of them, and whoever takes a use away lowers the number here.
-The exit status is 1 if something is missing, or a word has more uses than it may have.
+
+usage: pages [--alike]     the exit status is 1 if something is missing, or more is there than may be
 """
+import math
 import re
 import subprocess
 import sys
@@ -94,11 +102,46 @@ MEASURED |= {command: re.compile(rf"`{command}(?: [^`]*)?`|\b{words}\b", re.I) f
     ("report", "reports?"), ("session", "sessions?"))}
 # What the parts of bench/RESULTS.md measure, even if a sentence there does not name it.
 RESULTS = {"canon", "explain", "report"}
-# With how many receipts one page may say it of the files, and another one of a running replica.
-MEASURED_TWICE = {("bundle", "16,384")}
 # A number with its unit, or a column of a table that has the unit in its head.
 FIGURE = re.compile(r"(?<![\w.,])\d[\d,]*(?:\.\d+)? ?(?:ns|us|ms|s|kB|MB|MiB|GB)\b|^\|.*, (?:ns|us|ms|s|kB|MB|MiB|GB) \|")
 COUNT = re.compile(r"(?<![\w.,])\d{1,3}(?:,\d{3})+(?![\d,]*\d)")
+# A table that a script makes of the sources.
+MADE = re.compile(r"<!-- made: .*?<!-- end -->", re.S)
+# The most words of each page but the history of releases.
+BUDGET = {
+    "CONTRIBUTING.md": 800, "README.md": 1200, "SECURITY.md": 950, "bench/README.md": 850, "bench/RESULTS.md": 2350,
+    "bindings/go/README.md": 510, "bindings/python/README.md": 490, "bindings/rust/README.md": 180, "docs/ARCHITECTURE.md": 2000,
+    "docs/DECISIONS.md": 2700, "docs/FETCHING.md": 1700, "docs/GUARANTEES.md": 5200, "docs/INSTALL.md": 1400,
+    "docs/KUBERNETES.md": 800, "docs/LIBRARY.md": 3550, "docs/MODEL.md": 2500, "docs/MONITORING.md": 900,
+    "docs/OPERATING.md": 2800, "docs/REFERENCE.md": 5000, "docs/RUNBOOKS.md": 3500, "docs/TESTING.md": 1350, "docs/TOUR.md": 800,
+    "examples/README.md": 623, "tests/README.md": 250,
+}
+# From which cosine on two sentences of so many words are alike, and how many such pairs two pages may have; others none.
+LIKENESS, LEAST_WORDS = 0.45, 8
+ALIKE = {
+    ("CONTRIBUTING.md", "README.md"): 1, ("CONTRIBUTING.md", "docs/ARCHITECTURE.md"): 1,
+    ("CONTRIBUTING.md", "docs/TESTING.md"): 1, ("README.md", "docs/GUARANTEES.md"): 1, ("README.md", "docs/INSTALL.md"): 2,
+    ("README.md", "docs/MONITORING.md"): 1, ("README.md", "docs/OPERATING.md"): 2, ("README.md", "docs/REFERENCE.md"): 1,
+    ("SECURITY.md", "docs/DECISIONS.md"): 1, ("SECURITY.md", "docs/REFERENCE.md"): 1, ("bench/README.md", "bench/RESULTS.md"): 1,
+    ("bindings/go/README.md", "bindings/python/README.md"): 12, ("bindings/go/README.md", "bindings/rust/README.md"): 2,
+    ("bindings/go/README.md", "docs/TOUR.md"): 1, ("bindings/python/README.md", "bindings/rust/README.md"): 2,
+    ("bindings/python/README.md", "docs/FETCHING.md"): 1, ("bindings/python/README.md", "docs/LIBRARY.md"): 1,
+    ("bindings/python/README.md", "docs/RUNBOOKS.md"): 1, ("docs/ARCHITECTURE.md", "docs/GUARANTEES.md"): 4,
+    ("docs/ARCHITECTURE.md", "docs/LIBRARY.md"): 2, ("docs/ARCHITECTURE.md", "docs/MODEL.md"): 1,
+    ("docs/ARCHITECTURE.md", "docs/MONITORING.md"): 1, ("docs/ARCHITECTURE.md", "docs/OPERATING.md"): 1,
+    ("docs/ARCHITECTURE.md", "docs/REFERENCE.md"): 2, ("docs/FETCHING.md", "docs/LIBRARY.md"): 1,
+    ("docs/FETCHING.md", "docs/MODEL.md"): 3, ("docs/FETCHING.md", "docs/RUNBOOKS.md"): 1,
+    ("docs/FETCHING.md", "docs/TOUR.md"): 1, ("docs/FETCHING.md", "examples/README.md"): 1,
+    ("docs/GUARANTEES.md", "docs/LIBRARY.md"): 2, ("docs/GUARANTEES.md", "docs/MODEL.md"): 6,
+    ("docs/GUARANTEES.md", "docs/REFERENCE.md"): 3, ("docs/INSTALL.md", "docs/OPERATING.md"): 1,
+    ("docs/INSTALL.md", "docs/RUNBOOKS.md"): 5, ("docs/KUBERNETES.md", "docs/TESTING.md"): 1,
+    ("docs/KUBERNETES.md", "docs/TOUR.md"): 1, ("docs/LIBRARY.md", "docs/MODEL.md"): 3, ("docs/MODEL.md", "docs/REFERENCE.md"): 4,
+    ("docs/MODEL.md", "docs/RUNBOOKS.md"): 3, ("docs/MODEL.md", "docs/TOUR.md"): 2, ("docs/MODEL.md", "examples/README.md"): 2,
+    ("docs/MONITORING.md", "docs/OPERATING.md"): 1, ("docs/MONITORING.md", "docs/RUNBOOKS.md"): 2,
+    ("docs/OPERATING.md", "docs/RUNBOOKS.md"): 4, ("docs/OPERATING.md", "docs/TOUR.md"): 1,
+    ("docs/REFERENCE.md", "docs/RUNBOOKS.md"): 1, ("docs/RUNBOOKS.md", "docs/TOUR.md"): 1,
+    ("docs/RUNBOOKS.md", "examples/README.md"): 1, ("docs/TESTING.md", "tests/README.md"): 2,
+}
 # Words of the third column that are no name of the code, and parts of paths that stand for any name.
 PLAIN = {"SpiffeId", "NAME"}
 
@@ -200,16 +243,6 @@ def missing_clauses(text, clauses):
             for clause in CODE.findall(named) if colon else []:
                 if clause not in known:
                     yield f"the clause {clause} of {', '.join(sorted(names))}"
-
-
-def missing_parts(text):
-    """The parts of docs/OPERATING.md of which the table at its head does not say what they rest on, and rows of no part."""
-    head, *others = (heading for heading, _ in parts(text))
-    rows = re.findall(r"^\| ([^|]+) \|.*$", next(parts(text))[1], re.M)
-    named = [row.replace("`", "") for row in rows if row not in ("Part", "---")]
-    wanted = [heading.replace("`", "") for heading in others]
-    yield from (f"a row for the part {part}" for part in wanted if part not in named)
-    yield from (f"the part {part}" for part in named if part not in wanted)
 
 
 def missing_code(text, languages, paths):
@@ -344,7 +377,7 @@ def faults_of_figures():
         for measure in measured(page):
             homes[measure].add(str(page.relative_to(TOP)))
     for (work, count), names in sorted(homes.items()):
-        if len(names) > 1 and (work, count) not in MEASURED_TWICE:
+        if len(names) > 1:
             yield f"{' and '.join(sorted(names))} have figures of {work} over {count}: one page has them"
 
 
@@ -357,9 +390,84 @@ def comments():
             yield from (sign.sub("", comment).replace("\n", " ") for comment in whole.findall(path.read_text()))
 
 
+def faults_of_tables():
+    """What tools/reference.py says of docs/REFERENCE.md."""
+    yield from subprocess.run([TOP / "tools/reference.py", "--check"], capture_output=True, text=True).stdout.splitlines()
+
+
+def faults_of_alerts():
+    """Alerts and warnings that the first table of docs/RUNBOOKS.md lacks, or sends elsewhere than the alert."""
+    rows = [line for line in next(parts((TOP / "docs/RUNBOOKS.md").read_text()))[1].splitlines() if line.startswith("| ")]
+    rules = re.findall(r'- alert: (\w+)$.*?^ +runbook: "(.*?)"$', (TOP / "deploy/prometheus-rules.yml").read_text(), re.M | re.S)
+    for alert, place in rules:
+        leads = {f"{target or 'RUNBOOKS.md'}#{to}" for row in rows if f"`{alert}`" in row for target, to in LINK.findall(row)}
+        if leads != {place}:
+            yield f"RUNBOOKS.md: the alert {alert} leads to {place}, and its rows to {sorted(leads)}"
+    source = (TOP / "crates/status_warnings/specs/WarningLines.antt").read_text()
+    for kind in re.findall(r'^kind_(?:of_fault|name) .*= codes "([a-z-]+)"$', source, re.M):
+        if not any(re.search(rf"`(?:warning: )?{kind}`", row) for row in rows):
+            yield f"RUNBOOKS.md: no row for the warning {kind}"
+
+
+def lasting_pages():
+    """The pages without the history of releases, each with its name."""
+    return {str(page.relative_to(TOP)): page for page in pages() if page.name != "CHANGELOG.md"}
+
+
+def faults_of_sizes():
+    """Pages with more words than BUDGET allows, and those that it lacks or that are gone. What has no letter and no digit, as the bar
+    of a table, is no word."""
+    sizes = {name: sum(bool(re.search(r"\w", word)) for word in page.read_text().split()) for name, page in lasting_pages().items()}
+    for name in sorted(sizes.keys() ^ BUDGET.keys()):
+        yield f"{name}: it is not a page, or BUDGET has no number for it"
+    for name, size in sizes.items():
+        if size > BUDGET.get(name, size):
+            yield f"{name}: {size} words, and {BUDGET[name]} may be there"
+
+
+def sentences():
+    """The sentences of all pages, and the cells of tables, each with its page and the counts of its words."""
+    for name, page in lasting_pages().items():
+        text = re.sub(r"\]\([^)]*\)", "]", MADE.sub("", BLOCK.sub("", page.read_text())))
+        for sentence in re.split(r"(?<=[.?!]) |\||\n(?:[#>*-]|\s*\n|\s*\d+\.)", text):
+            words = Counter(re.findall(r"[a-z][a-z'-]+", re.sub(r"`[^`]*[/.:][^`]*`", "", sentence.lower())))
+            if words.total() >= LEAST_WORDS:
+                yield name, " ".join(sentence.split()), words
+
+
+def alike():
+    """The pairs of sentences of two pages that are alike, by their pages."""
+    found, pairs, places = list(sentences()), defaultdict(list), defaultdict(list)
+    spread = Counter(word for _, _, words in found for word in words)
+    weights = {word: math.log(len(found) / count) for word, count in spread.items()}
+    for page, sentence, words in found:
+        vector = {word: count * weights[word] for word, count in words.items()}
+        size, products = sum(part * part for part in vector.values()) ** 0.5, Counter()
+        for word, part in vector.items():
+            if spread[word] > len(found) / 25:
+                continue
+            for other in places[word]:
+                products[other[:3]] += part * other[3]
+            places[word].append((page, sentence, size, part))
+        for (there, other, length), product in products.items():
+            if there != page and product >= LIKENESS * size * length:
+                pairs[tuple(sorted((there, page)))].append((other, sentence))
+    return pairs
+
+
+def faults_of_likeness(printed):
+    """Two pages with more sentences that are alike than ALIKE allows; with `printed` it prints all."""
+    for names, pairs in sorted(alike().items()):
+        most, shown = ALIKE.get(names, 0), "".join(f"\n    {one}\n    = {other}" for one, other in pairs)
+        if printed:
+            print(f"{len(pairs)} of {most} {' '.join(names)}{shown}")
+        if len(pairs) > most:
+            yield f"{' and '.join(names)}: {len(pairs)} pairs of sentences are alike, and {most} may be{shown}"
+
+
 def uses_of_words():
     """Where each avoided word is looked for, how many uses there are outside of code, and how many there may be."""
-    texts = [BLOCK.sub("", page.read_text()) for page in pages()]
+    texts = [MADE.sub("", BLOCK.sub("", page.read_text())) for page in pages()]
     prose = [CODE.sub("", "\n".join(part)) for part in (texts, comments())]
     for word, (pattern, *most) in AVOIDED.items():
         uses = [len(re.findall(pattern, part, re.M | re.I)) for part in prose]
@@ -377,10 +485,10 @@ def main():
         if page.name == "GUARANTEES.md":
             missing += list(missing_contracts(text, words)) + list(missing_clauses(text, clauses))
         missing += missing_code_of(page, text)
-        missing += list(missing_parts(text)) if page.name == "OPERATING.md" else []
         faults += [f"{page.relative_to(TOP)}: {what} is not there" for what in missing]
     faults += [*faults_of_decisions(), *faults_of_c()]
-    faults += [*faults_of_pictures(), *faults_of_figures()]
+    faults += [*faults_of_pictures(), *faults_of_figures(), *faults_of_tables(), *faults_of_alerts(), *faults_of_sizes()]
+    faults += faults_of_likeness("--alike" in sys.argv[1:])
     for place, word, uses, most in uses_of_words():
         print(f"{uses:4} uses of {most:4} {place}  {word}")
         faults += [f"{word}: {uses} uses {place}, and {most} may be there"] if uses > most else []

@@ -7,11 +7,13 @@ then it is `Unreleased`.
 - On each commit the files of dist/ are those that SHA256SUMS names; what was compiled has the length and the SHA-256 that
   MANIFEST names; MANIFEST's version is that of the sources and of the newest release in CHANGELOG.md, both here and in
   the archive, in which that section is the first. If git has the history, the last commit that changed dist/ is a release.
-- On a release, dist/ is also that of the sources: MANIFEST has their digests, and each other file of the archive is the one of
-  the tree. With PROGRAM, which the gate built of these sources: under the kit that MANIFEST names it equals the released
+- On a release, dist/ is also that of the sources: MANIFEST has their digests, the bill of materials has what SPDX 2.3 requires and
+  the toolchain's crates, and each other file of the archive is the one of the tree. With PROGRAM, which the gate built of these sources: under the kit that MANIFEST names it equals the released
   program; under another kit a line says so, and nothing is compared.
 - Copies of the tree, one that is a release of its sources and one with a section Unreleased, are falsified in one thing at a
   time, and each fault is found; a changed source is one only on a release.
+- SHA256SUMS is signed with minisign and with gpg, as far as they are there. The scripts of an archive of the tree run below
+  any prefix.
 - In copies, `./fedbundle` runs a fresh build, else the released program, with a line if a source changed, also if the user may
   not write there, and `rt` is never called. Where it cannot, it says why in a line. `--which` prints a program of these sources
   alone. `--prove` says what it wants of the machine; what it started ends with it, and what was proved stays.
@@ -20,8 +22,10 @@ usage: release [PROGRAM]      the status is 1 if something is not so
 """
 import contextlib
 import io
+import json
 import lzma
 import os
+import re
 import shutil
 import subprocess
 import sys
@@ -35,9 +39,11 @@ from types import SimpleNamespace
 
 sys.dont_write_bytecode = True
 TOP = Path(__file__).resolve().parent.parent
+sys.path.insert(0, str(TOP / "tests/lib"))
+from needs import can  # noqa: E402
 # What the checks and the launcher read.
 READ = ["fedbundle", "tools", "crates.txt", "HANDLES", "crates", "dist", "deploy", "completions", "include", "LICENSE",
-        "CHANGELOG.md", "README.md", "docs", "bench/RESULTS.md"]
+        "CHANGELOG.md", "README.md", "SECURITY.md", "docs", "bench/RESULTS.md"]
 UNRELEASED = "Unreleased"
 SOURCE = "crates/spiffe_name/src/lib.rt"
 VERSION_SOURCE = "crates/command_line/src/help_texts.rt"
@@ -93,7 +99,7 @@ def is_release(tool):
 def faults_of_sums(tool):
     lines = (tool.DIST / "SHA256SUMS").read_text().splitlines()
     sums = dict(reversed(line.split("  ", 1)) for line in lines)
-    there = {path.name for path in tool.DIST.iterdir()} - {"SHA256SUMS"}
+    there = {path.name for path in tool.DIST.iterdir()} - {tool.SUMS, *tool.SIGNATURES}
     if sums.keys() != there:
         yield f"SHA256SUMS names {sorted(sums)}, and dist/ has {sorted(there)}"
     for name in sums.keys() & there:
@@ -127,6 +133,48 @@ def faults_of_sources(tool, said):
         crates = tool.crates_of(name)
         if (said[f"{kind}sources"], said[f"{kind}crates"]) != (tool.digest_of(crates), " ".join(crates)):
             yield f"the {kind}sources are not those of MANIFEST"
+
+
+def faults_of_bill(tool, said):
+    """What keeps the bill of materials from being one of SPDX 2.3, or that of the sources and of MANIFEST."""
+    bill = json.loads((tool.DIST / tool.bill.NAME).read_bytes())
+    packages = {one["SPDXID"]: one for one in bill["packages"]}
+    wanted = {"spdxVersion": "SPDX-2.3", "dataLicense": "CC0-1.0", "SPDXID": "SPDXRef-DOCUMENT", "name": f"fedbundle-{said['release']}"}
+    yield from (f"the bill's {name} is {bill.get(name)}" for name, text in wanted.items() if bill.get(name) != text)
+    if not re.fullmatch(r"https://[^#\s]+", bill["documentNamespace"]):
+        yield f"the bill's namespace is {bill['documentNamespace']}"
+    made = bill["creationInfo"]
+    if not re.fullmatch(r"\d{4}-\d\d-\d\dT\d\d:\d\d:\d\dZ", made["created"]) or not all(one.startswith("Tool: ") for one in made["creators"]):
+        yield f"the bill was made {made}"
+    for name, one in packages.items():
+        if not re.fullmatch(r"SPDXRef-[A-Za-z0-9.-]+", name) or one["filesAnalyzed"] or not (one["name"] and one["downloadLocation"]):
+            yield f"the bill has a package {one}"
+    if len(packages) != len(bill["packages"]):
+        yield "the bill has an id twice"
+    ends = {one[end] for one in bill["relationships"] for end in ("spdxElementId", "relatedSpdxElement")}
+    if ends != packages.keys() | {"SPDXRef-DOCUMENT"}:
+        yield f"the bill's relations have other ends: {sorted(ends ^ (packages.keys() | {'SPDXRef-DOCUMENT'}))}"
+    yield from faults_of_materials(tool, said, bill)
+
+
+def faults_of_materials(tool, said, bill):
+    """What the bill lacks of the sources and of MANIFEST."""
+    versions = {one["name"]: one["versionInfo"] for one in bill["packages"]}
+    crates = tool.toolchain_crates(tool.PROGRAM) | tool.toolchain_crates(tool.LIBRARY)
+    wanted = {**dict.fromkeys(crates, said["kit"]), "compiler": said["compiler"], **dict.fromkeys(["fedbundle", "libfedbundle"], said["release"])}
+    if versions != wanted:
+        yield f"the bill has other packages: {sorted(versions.items() ^ wanted.items())}"
+    for program, name in {"fedbundle": tool.PROGRAM, "libfedbundle": tool.LIBRARY}.items():
+        of_program = [one for one in bill["relationships"] if one["spdxElementId"] == tool.bill.spdx_id(program)]
+        linked = {one["relatedSpdxElement"] for one in of_program if one["relationshipType"] == "STATIC_LINK"}
+        if linked != {tool.bill.spdx_id(crate) for crate in tool.toolchain_crates(name)}:
+            yield f"the bill has other crates of {program}: {sorted(linked)}"
+        described = {"spdxElementId": "SPDXRef-DOCUMENT", "relationshipType": "DESCRIBES", "relatedSpdxElement": tool.bill.spdx_id(program)}
+        if described not in bill["relationships"]:
+            yield f"the bill does not describe {program}"
+    sums = {one["checksums"][0]["checksumValue"] for one in bill["packages"] if "checksums" in one}
+    if sums != {tool.sha256((tool.DIST / tool.ARCHIVE).read_bytes())}:
+        yield "the bill has another sum of the archive"
 
 
 def faults_of_tree(tool, listed, files, links):
@@ -171,7 +219,7 @@ def faults_of(top, program=None):
         (said, listed), (files, links) = manifest_of(tool), members_of(tool)
         faults = [*faults_of_sums(tool), *faults_of_version(tool, said, files), *faults_of_compiled(tool, listed, files)]
         if is_release(tool):
-            faults += [*faults_of_sources(tool, said), *faults_of_tree(tool, listed, files, links)]
+            faults += [*faults_of_sources(tool, said), *faults_of_tree(tool, listed, files, links), *faults_of_bill(tool, said)]
             faults += [*faults_of_program(tool, said, listed, program)] if program else []
         elif has_history(top):
             faults += [*faults_of_history(tool)]
@@ -242,6 +290,16 @@ def falsify_manifest(top, key):
     edit(top / "dist/SHA256SUMS", before, tool.sha256(path.read_bytes()))
 
 
+def falsify_bill(top, change):
+    """Another bill of materials, with its sum; nothing where there is none yet."""
+    tool = tool_of(top)
+    path = tool.DIST / tool.bill.NAME
+    before, bill = tool.sha256(path.read_bytes()), json.loads(path.read_bytes())
+    change(bill)
+    path.write_text(json.dumps(bill))
+    edit(tool.DIST / tool.SUMS, before, tool.sha256(path.read_bytes()))
+
+
 def falsify_source(top):
     (top / SOURCE).write_text((top / SOURCE).read_text() + "\n")
 
@@ -255,6 +313,11 @@ FALSIFIED = {
     "a byte of the archive": falsify_archive,
     "the digest of the sources": lambda top: falsify_manifest(top, "sources"),
     "the version of the release": lambda top: falsify_manifest(top, "release"),
+    "a crate of the bill": lambda top: falsify_bill(top, lambda bill: bill["packages"].pop(3)),
+    "a relation of the bill": lambda top: falsify_bill(top, lambda bill: bill["relationships"].pop(3)),
+    "the kit in the bill": lambda top: falsify_bill(top, lambda bill: bill["packages"][3].update(versionInfo="another")),
+    "the moment of the bill": lambda top: falsify_bill(top, lambda bill: bill["creationInfo"].update(created="today")),
+    "the id of a package of the bill": lambda top: falsify_bill(top, lambda bill: bill["packages"][3].update(SPDXID="SPDXRef-a_b")),
     "a source": falsify_source,
     "the version of the sources": falsify_version,
     "dist/ made anew": make_dist,
@@ -303,6 +366,77 @@ def check_other_program(room, program):
         shutil.copy2(program, room / "other")
         flip_byte(room / "other")
         check(faults_of(TOP, room / "other"), "a program of other bytes is found")
+
+
+# ---- signatures
+
+def check_signed(room, top):
+    """SHA256SUMS is signed with minisign, or else with gpg, and its signature is refused once a byte has changed."""
+    tool = tool_of(top)
+    without, there = room / "no signers", (room / "a signer", {"HOME": str(room / "keys"), "GNUPGHOME": str(room / "keys")})
+    (room / "keys").mkdir(mode=0o700)
+    folder_with(without, "python3", "sha256sum")
+    ran = signed(top, without, {})
+    check(ran.returncode == 1 and "neither minisign nor gpg" in ran.stderr, f"without a tool nothing is signed: {ran.stderr.strip()}")
+    for name, (make, key, look) in SIGNING.items():
+        if not can(name, f"signing with {name}"):
+            continue
+        folder, variables = there
+        shutil.rmtree(folder, ignore_errors=True)
+        folder_with(folder, "python3", "sha256sum", name, "gpg-agent")
+        known = {**os.environ, **variables}
+        subprocess.run(make.split(), cwd=room / "keys", env=known, capture_output=True, check=True)
+        ran = signed(top, folder, variables, key)
+        check(ran.returncode == 0 and not [*faults_of_sums(tool)], f"{name} signs: {(ran.stdout + ran.stderr).strip().splitlines()[-1]}")
+        seen = [subprocess.run(look.format(room / "keys").split(), cwd=tool.DIST, env=known, capture_output=True).returncode for _ in change_once(tool.DIST / tool.SUMS)]
+        check(seen[0] == 0 and seen[1] != 0, f"its signature is good, and refused once a byte has changed: {seen}")
+        for made in tool.SIGNATURES:
+            (tool.DIST / made).unlink(missing_ok=True)
+
+
+# For each tool what makes a key, what names it, and what looks at a signature.
+SIGNING = {
+    "minisign": ("minisign -G -W -p key.pub -s key", "key", "minisign -V -p {0}/key.pub -m SHA256SUMS"),
+    "gpg": ("gpg --batch --passphrase= --quick-generate-key releases@fedbundle.example", "releases@fedbundle.example",
+            "gpg --verify SHA256SUMS.asc SHA256SUMS"),
+}
+
+
+def folder_with(folder, *names):
+    """A folder in which only these programs of the machine are."""
+    folder.mkdir()
+    for name in names:
+        if found := shutil.which(name):
+            (folder / name).symlink_to(found)
+
+
+def signed(top, path, variables, *key):
+    return subprocess.run([sys.executable, top / "tools/release.py", "--sign", *key], capture_output=True, text=True,
+                          env={**os.environ, **variables, "PATH": str(path)}, cwd=variables.get("HOME"))
+
+
+def change_once(path):
+    """Before and after a change of one byte."""
+    text = path.read_bytes()
+    yield
+    flip_byte(path)
+    yield
+    path.write_bytes(text)
+
+
+# ---- the scripts
+
+def check_scripts(room):
+    """Each script of an archive of the tree runs below any prefix, and leaves nothing there."""
+    tool, prefix = tool_of(TOP), room / "a prefix"
+    tool.lzma = SimpleNamespace(compress=lambda content, preset: lzma.compress(content, preset=0), PRESET_EXTREME=0)
+    with tarfile.open(fileobj=io.BytesIO(tool.archive_of(tool.plain_files())), mode="r:xz") as tar:
+        tar.extractall(prefix, filter="fully_trusted")
+    before, names = sorted(prefix.rglob("*")), [f"bin/{name}" for name in ("fedbundle-every", *tool.SHARING)]
+    for name in names:
+        ran = subprocess.run([prefix / tool.ROOT / name, "--help"], capture_output=True, text=True)
+        check(ran.returncode == 0 and not ran.stderr, f"the archive's {name} runs below a prefix {ran.stderr.strip()[-100:]}")
+    check(sorted(prefix.rglob("*")) == before, "the scripts leave nothing there")
 
 
 # ---- the launcher
@@ -442,6 +576,8 @@ def main():
         commit(released, "a release")
         check_committed(released)
         check_other_program(room, program)
+        check_scripts(room)
+        check_signed(room, released)
         check_released(clone, version)
         check_changed(clone, version)
         check_built(clone)

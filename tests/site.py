@@ -99,6 +99,7 @@ class Runner:
         try:
             os.chdir(folder)
             time.time, sys.argv = lambda: now, [script, *words]
+            sys.path.insert(0, str(DEPLOY))
             exec(compile(Path(script).read_text(), script, "exec", dont_inherit=True), {"__name__": "__main__"})
             status = 0
         except SystemExit as end:

@@ -77,7 +77,7 @@ def furnish(machine, program):
         shutil.rmtree(wanted)
     local = root / "usr/local"
     shutil.copy(program, local / "bin/fedbundle")
-    for name in ("fedbundle-fetch", "fedbundle-spire"):
+    for name in ("fedbundle-fetch", "fedbundle-spire", "fedbundle_scripts.py"):
         shutil.copy(TOP / "deploy" / name, local / "bin")
     (local / "bin/spire-server").write_text(SPIRE)
     (local / "bin/spire-server").chmod(0o755)

@@ -1,5 +1,5 @@
 #!/usr/bin/env python3
-"""Runs each console block of README.md and docs/TOUR.md, and compares what it prints.
+"""Runs each console block of README.md, docs/TOUR.md and docs/FETCHING.md, and compares what it prints.
 
 All blocks of a page run in one shell, in a folder that has the examples and the program: $FEDBUNDLE, or the one that
 ./fedbundle runs. A line after `$ ` is a command, and the lines below it are what it prints, standard error as well. A
@@ -44,7 +44,7 @@ def run(page, room):
 
 def main():
     faults, count, program = 0, 0, find_program()
-    for page in [TOP / "README.md", TOP / "docs/TOUR.md"]:
+    for page in [TOP / "README.md", TOP / "docs/TOUR.md", TOP / "docs/FETCHING.md"]:
         with tempfile.TemporaryDirectory() as room:
             os.symlink(TOP / "examples", Path(room) / "examples")
             os.symlink(program, Path(room) / "fedbundle")

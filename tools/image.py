@@ -105,7 +105,7 @@ def compiled(files, moment):
 
 def files_of(archive, debs, package):
     """All files of the image, and the version of the release."""
-    released, _ = package.read_archive(archive)
+    released, links = package.read_archive(archive)
     files = {}
     for path in sorted(debs.glob("*.deb")):
         name, found = files_of_package(path)
@@ -114,8 +114,9 @@ def files_of(archive, debs, package):
     if missing:
         sys.exit(f"image: {debs} has no package of {', '.join(missing)}")
     for place, (content, mode) in released.items():
-        if place.startswith("bin/"):
+        if place.startswith(("bin/", "lib/fedbundle/")):
             files[f"usr/{place}"] = package.changed(place, content), mode
+    files |= {f"usr/{place}": target for place, target in links.items() if place.startswith("bin/")}
     files["usr/share/doc/fedbundle/LICENSE"] = released["share/doc/fedbundle/LICENSE"]
     files |= {place: (text.encode(), 0o644) for place, text in TEXTS.items()}
     version = package.version_of(released)

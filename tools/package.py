@@ -38,6 +38,7 @@ TRIPLET = "x86_64-linux-gnu"
 PLACES = [
     ("bin/", PROGRAM, "usr/bin/"),
     ("include/", LIBRARY, "usr/include/"),
+    ("lib/fedbundle/", PROGRAM, "usr/lib/fedbundle/"),
     ("lib/libfedbundle", LIBRARY, f"usr/lib/{TRIPLET}/libfedbundle"),
     ("lib/pkgconfig/", LIBRARY, f"usr/lib/{TRIPLET}/pkgconfig/"),
     ("lib/systemd/system/", PROGRAM, "lib/systemd/system/"),

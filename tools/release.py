@@ -1,7 +1,7 @@
 #!/usr/bin/env python3
 """Makes dist/, the release of the sources here, out of a proved build (D-392).
 
-dist/ has fedbundle-x86_64-linux.tar.xz, MANIFEST and SHA256SUMS. The archive has one folder, fedbundle/, laid out as below
+dist/ has fedbundle-x86_64-linux.tar.xz, MANIFEST, fedbundle.spdx.json and SHA256SUMS. The archive has one folder, fedbundle/, laid out as below
 a prefix: the program for two levels of processors, the deploy programs, the units, the manual page, the completions,
 the library for C with its header, the rules for Prometheus and the dashboard for Grafana, and the licence. Its files have no time, no owner and one order, so the same files give
 the same archive.
@@ -13,6 +13,8 @@ MANIFEST has a line for each of these:
 - `kit` and `compiler`: what proved and compiled both
 - `file` the bytes, the SHA-256 and the path of each file that was compiled
 
+fedbundle.spdx.json is the bill of materials, of which tools/bill.py says more.
+
 The digest of sources (D-393) is the SHA-256 of lines as sha256sum writes them, one for HANDLES, for crates.txt, and for each file
 in src/, specs/ and proofs/ of the crates, in the order of the paths' bytes.
 
@@ -20,6 +22,9 @@ usage: release                        the programs that `./fedbundle --prove` bu
        release PROGRAM V3 LIBRARY     programs for x86-64-v2 and x86-64-v3 that were proved and built of these sources, and a
                                       folder that tools/library.sh made; tests/release.py compares the first program with the one
                                       that the gate built
+       release --sign [KEY]           signs SHA256SUMS of dist/ with minisign, or else with gpg. KEY is minisign's file of the secret
+                                      key, or the user's ID of gpg's; their own choice unless given. It writes
+                                      SHA256SUMS.minisig or SHA256SUMS.asc
 """
 import hashlib
 import io
@@ -33,6 +38,10 @@ import tarfile
 import tempfile
 from pathlib import Path
 
+sys.dont_write_bytecode = True
+sys.path.insert(0, str(Path(__file__).resolve().parent))
+import bill  # noqa: E402
+
 TOP = Path(__file__).resolve().parent.parent
 DIST = TOP / "dist"
 ARCHIVE = "fedbundle-x86_64-linux.tar.xz"
@@ -42,17 +51,26 @@ ROOT = "fedbundle/"
 # What is compiled, by its place in the archive.
 LEVELS = {"x86-64-v2": "bin/fedbundle", "x86-64-v3": "bin/fedbundle-x86-64-v3"}
 LIBRARIES = ["lib/libfedbundle.a", "lib/libfedbundle.so.0"]
+SUMS = "SHA256SUMS"
+# What signs it: for each tool its words before and after those of the key, the option of these, and the file that it writes.
+SIGNERS = {"minisign": (["-S"], "-s", ["-m", SUMS], f"{SUMS}.minisig"),
+           "gpg": (["--armor", "--detach-sign"], "--local-user", [SUMS], f"{SUMS}.asc")}
+SIGNATURES = [made for *_, made in SIGNERS.values()]
 COMPILED = [*LEVELS.values(), *LIBRARIES]
-LINKS = {"lib/libfedbundle.so": "libfedbundle.so.0"}
-SCRIPTS = {f"bin/{name}": f"deploy/{name}" for name in ("fedbundle-every", "fedbundle-fetch", "fedbundle-import", "fedbundle-spire")}
+# Scripts that share a module lie next to it.
+SHARING = ["fedbundle-fetch", "fedbundle-import", "fedbundle-spire"]
+LINKS = {"lib/libfedbundle.so": "libfedbundle.so.0", **{f"bin/{name}": f"../lib/fedbundle/{name}" for name in SHARING}}
+SCRIPTS = {"bin/fedbundle-every": "deploy/fedbundle-every", **{f"lib/fedbundle/{name}": f"deploy/{name}" for name in SHARING}}
 TEXTS = {
     "include/fedbundle.h": "include/fedbundle.h",
+    "lib/fedbundle/fedbundle_scripts.py": "deploy/fedbundle_scripts.py",
     "lib/sysusers.d/fedbundle.conf": "deploy/fedbundle.sysusers",
     "lib/tmpfiles.d/fedbundle.conf": "deploy/fedbundle.tmpfiles",
     "share/bash-completion/completions/fedbundle": "completions/fedbundle.bash",
     "share/doc/fedbundle/CHANGELOG.md": "CHANGELOG.md",
     "share/doc/fedbundle/LICENSE": "LICENSE",
     "share/doc/fedbundle/README.md": "README.md",
+    "share/doc/fedbundle/SECURITY.md": "SECURITY.md",
     "share/doc/fedbundle/bench/RESULTS.md": "bench/RESULTS.md",
     "share/doc/fedbundle/fedbundle.default": "deploy/fedbundle.default",
     "share/doc/fedbundle/grafana-dashboard.json": "deploy/grafana-dashboard.json",
@@ -105,10 +123,21 @@ def is_version_with_day(title):
     return re.fullmatch(rf"{re.escape(version())}, \d{{4}}-\d\d-\d\d", title) is not None
 
 
+def used_crates():
+    """For each crate of the repository what it uses, of the repository and of the toolchain."""
+    lines = [line.split(":") for line in (TOP / "crates.txt").read_text().splitlines() if line[:1] not in ("", "#")]
+    return {head.split()[0]: names.split() for head, names in lines}
+
+
+def toolchain_crates(name):
+    """The crates of the toolchain that a crate uses, also by others."""
+    used = used_crates()
+    return {below for crate in crates_of(name) for below in used[crate]} - used.keys()
+
+
 def crates_of(name):
     """A crate and all of the repository that it uses, in the order of their names."""
-    lines = [line.split(":") for line in (TOP / "crates.txt").read_text().splitlines() if line[:1] not in ("", "#")]
-    used = {head.split()[0]: names.split() for head, names in lines}
+    used = used_crates()
     found = [name]
     for crate in found:
         found += [below for below in used[crate] if below in used and below not in found]
@@ -195,6 +224,14 @@ def manifest_of(compiled):
     return "".join(f"{line}\n" for line in lines)
 
 
+def bill_of(archive):
+    """The bill of materials of a release with this archive."""
+    _, day = next(title for title in sections() if is_version_with_day(title)).split(", ")
+    release = {"version": version(), "day": day, "kit": kit(), "compiler": compiler()}
+    uses = {"fedbundle": toolchain_crates(PROGRAM), "libfedbundle": toolchain_crates(LIBRARY)}
+    return bill.bill_of(release, (ARCHIVE, sha256(archive)), uses)
+
+
 # ---- dist/
 
 def built(room):
@@ -213,8 +250,9 @@ def built(room):
 
 def write(programs, library):
     compiled = compiled_files(programs, library)
-    contents = {ARCHIVE: archive_of({**plain_files(), **compiled}), "MANIFEST": manifest_of(compiled).encode()}
-    contents["SHA256SUMS"] = "".join(f"{sha256(content)}  {name}\n" for name, content in contents.items()).encode()
+    archive = archive_of({**plain_files(), **compiled})
+    contents = {ARCHIVE: archive, "MANIFEST": manifest_of(compiled).encode(), bill.NAME: bill_of(archive)}
+    contents[SUMS] = "".join(f"{sha256(content)}  {name}\n" for name, content in contents.items()).encode()
     shutil.rmtree(DIST, ignore_errors=True)
     DIST.mkdir()
     for name, content in contents.items():
@@ -222,10 +260,29 @@ def write(programs, library):
         print(f"{len(content):9} bytes  dist/{name}")
 
 
+def sign(key):
+    """Signs SHA256SUMS with the first tool that is there. A key may be the path of a file, from the folder in which this runs."""
+    tool = next((name for name in SIGNERS if shutil.which(name)), None)
+    if not tool:
+        stop(f"nothing is signed, as there is neither {' nor '.join(SIGNERS)}")
+    if subprocess.run(["sha256sum", "--check", "--status", SUMS], cwd=DIST).returncode:
+        stop(f"nothing is signed, as dist/ is not what {SUMS} says")
+    before, option, after, made = SIGNERS[tool]
+    for old in SIGNATURES:
+        (DIST / old).unlink(missing_ok=True)
+    key = os.path.abspath(key) if os.path.isfile(key) else key
+    if subprocess.run([tool, *before, *([option, key] if key else []), *after], cwd=DIST).returncode or not (DIST / made).exists():
+        stop(f"nothing is signed, as {tool} failed")
+    print(f"{(DIST / made).stat().st_size:9} bytes  dist/{made}")
+
+
 def main():
+    if sys.argv[1:2] == ["--sign"] and len(sys.argv) <= 3:
+        sign("".join(sys.argv[2:]))
+        return
     words = [Path(word) for word in sys.argv[1:]]
     if len(words) not in (0, 3):
-        stop("usage: release [PROGRAM V3 LIBRARY]")
+        stop("usage: release [PROGRAM V3 LIBRARY | --sign [KEY]]")
     if not is_version_with_day(sections()[0]):
         stop(f"CHANGELOG.md begins with '{sections()[0]}', and not with the version that the sources have, {version()}, and its day")
     with tempfile.TemporaryDirectory() as room:

@@ -33,7 +33,7 @@ ALONE_SECONDS, BEFORE_SECONDS, AFTER_SECONDS = 10, 10, 5
 OBSERVERS, OBSERVE_EVERY = 4, 0.01
 # How many more receipts may be held, at least: half of those that are, so that `status` does not warn.
 MORE = 16_384
-# The bytes of the certificate of a long bundle, and when a journal is folded: docs/OPERATING.md.
+# The bytes of the certificate of a long bundle, and when a journal is folded: docs/REFERENCE.md.
 LONG_DER = 700_000
 LEAST_JOURNAL = 8_388_608
 SEED_KEY = hashlib.sha256(SEED_DER).hexdigest()

@@ -38,7 +38,7 @@ unless it is started with another --most-request-bytes."""
 DEFAULT_EVERY = 10.0
 """How many seconds are between two polls of Watch if nothing else is said."""
 
-# Codes of errors that a caller may want to handle. OPERATING.md of fedbundle lists all of them; one that has a letter and
+# Codes of errors that a caller may want to handle. REFERENCE.md of fedbundle lists all of them; one that has a letter and
 # a number, as O4, is only that.
 NO_REPLICA = "no replica"
 """Nobody listens on the socket, or the reply is cut or is not one. A change may have been made."""
@@ -171,7 +171,7 @@ class PreviousStatus:
 
 @dataclass(frozen=True)
 class StatusWarning:
-    """Something that needs attention. OPERATING.md of fedbundle says what to do. Which members are not None depends on the
+    """Something that needs attention. RUNBOOKS.md of fedbundle says what to do. Which members are not None depends on the
     kind: `domain`, with `key` and `not_after` of a certificate that expires; `peer` and `since`; `what` and `held`."""
 
     kind: str

@@ -26,10 +26,12 @@ PACKAGES = {
     "git": "git",
     "go": "golang-go",
     "cargo": "cargo",
+    "gpg": "gnupg",
     "ip": "iproute2",
     "jq": "jq",
     "lintian": "lintian",
     "man": "man-db",
+    "minisign": "minisign",
     "nm": "binutils",
     "openssl": "openssl",
     "pkg-config": "pkgconf",
@@ -94,11 +96,11 @@ REPLICA = "crates/replica_* crates/fair_turns crates/wait_index crates/local_ans
 LIBRARY = "crates/fedbundle_c crates/*_c_calls include tools/library.sh"
 CORE = "crates/trust_closure crates/closure_* crates/wait_index crates/replica_core crates/replica_journal crates/replica_sync"
 ROWS = "tests/rows/programs/rows tests/rows/cases/rows"
-UNITS = "deploy/*.service deploy/*.timer deploy/*.conf deploy/fedbundle-*"
+UNITS = "deploy/*.service deploy/*.timer deploy/*.conf deploy/fedbundle-* deploy/*.py"
 
 # In each part those that take longest come first, so that they do not end last.
 SCRIPTS = [
-    Script("release.py", "", FIRST, "xz"),
+    Script("release.py", "", FIRST, "xz", "minisign gpg"),
     Script("merge.py", "", FIRST, "git xz"),
     Script("pages.py", "", FIRST, "git", "cc"),
     Script("manual.py", "", FIRST, "bash", "man zsh rt"),
@@ -135,18 +137,18 @@ SCRIPTS = [
 
     Script("certificates.py", "", BY_HAND, "rt openssl python:cryptography", "", "crates/cert_key crates/key_view crates/floor_rows"),
     Script("deploy.py", "", BY_HAND, "", "systemd-analyze stunnel4 openssl", f"deploy {REPLICA}"),
-    Script("first_day.py", "", BY_HAND, "root mounts openssl systemd-sysusers systemd-tmpfiles", "", f"docs/OPERATING.md {UNITS}"),
+    Script("first_day.py", "", BY_HAND, "root mounts openssl systemd-sysusers systemd-tmpfiles", "", f"docs/INSTALL.md docs/OPERATING.md {UNITS}"),
     Script("health.py", "rules prometheus page slow", BY_HAND, "openssl curl", "promtool chromium",
            "crates/health_pages web deploy/prometheus-rules.yml deploy/grafana-dashboard.json tests/prometheus-rules.test.yml"),
     Script("image.py", "", BY_HAND, "root mounts bwrap openssl dpkg-deb", "umoci crun", "tools/image.py tools/package.py dist"),
-    Script("kubernetes.py", "", BY_HAND, "root mounts kubectl python:yaml", "ip stunnel4 tini openssl", "deploy/kubernetes deploy/fedbundle-*"),
+    Script("kubernetes.py", "", BY_HAND, "root mounts kubectl python:yaml", "ip stunnel4 tini openssl", "deploy/kubernetes deploy/fedbundle-* deploy/*.py"),
     Script("library.py", "", BY_HAND, "cc ar xz", "go cargo valgrind c++", f"{LIBRARY} bindings"),
     Script("package.py", "", BY_HAND, "root mounts dpkg-deb", "lintian cc pkg-config /lib/systemd/systemd",
            f"tools/package.py tools/debian dist {UNITS}"),
     Script("reproducible.py", "", BY_HAND, "rt xz", "", "tools/build.py tools/library.sh crates.txt crates dist"),
     Script("runbooks.py", "", BY_HAND, "root mounts openssl jq cc runuser systemd-sysusers systemd-tmpfiles", "",
-           f"docs/OPERATING.md {UNITS}"),
-    Script("site.py", "", BY_HAND, "openssl", "", "deploy/fedbundle-import deploy/fedbundle-fetch deploy/fedbundle-spire"),
+           f"docs/RUNBOOKS.md docs/OPERATING.md {UNITS}"),
+    Script("site.py", "", BY_HAND, "openssl", "", "deploy/fedbundle-import deploy/fedbundle-fetch deploy/fedbundle-spire deploy/*.py"),
     Script("systemd.py", "", BY_HAND, "root mounts /lib/systemd/systemd", "", UNITS),
     Script("rows/play.py", "schedules errors closure-large exchange-large devices exchange_devices", BY_HAND, "rt", "", f"tests/rows/programs/simulation tests/rows/cases/simulation {CORE}"),
     Script("system/calls.py", "", BY_HAND, "cc nm rt", "", f"{ROWS} {CORE}"),

@@ -112,7 +112,7 @@ type AskedPeer struct {
 	Asked *string `json:"asked"`
 }
 
-// StatusWarning is something that needs attention. OPERATING.md of fedbundle says what to do. Which members are not nil
+// StatusWarning is something that needs attention. RUNBOOKS.md of fedbundle says what to do. Which members are not nil
 // depends on the kind.
 type StatusWarning struct {
 	// Kind is its name, as "locked-out".

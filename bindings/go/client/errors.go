@@ -7,7 +7,7 @@ import (
 	"strings"
 )
 
-// Codes of errors that a caller may want to handle. OPERATING.md of fedbundle lists all of them; one that has a letter
+// Codes of errors that a caller may want to handle. REFERENCE.md of fedbundle lists all of them; one that has a letter
 // and a number, as O4, is only that.
 const (
 	// NoReplica: nobody listens on the socket, or the reply is cut or is not one. A change may have been made.

@@ -7,8 +7,8 @@ use Rattle.receipt_core.specs.Acceptance.{Meaning}
 use Rattle.receipt_core.proofs.RisingFacts.{Has}
 use Rattle.replica_core.specs.Convergence.{Comparison, ExchangeOf, Peers, SumsCourse, about, after_marks, answerer_held, asker_held, at_sums}
 use Rattle.replica_core.specs.Session.{HaveMessage, give_of, state_of}
-use Rattle.replica_core.specs.State.{State, ids_held, limits_of}
-use Rattle.replica_core.specs.World.{Rules, World, apply, give_sent, happens, have_sent, rules_of, sends, without_records}
+use Rattle.replica_core.specs.State.{State, ids_held}
+use Rattle.replica_core.specs.World.{Rules, World, apply, give_sent, happens, have_sent, sends, without_records}
 use Rattle.replica_core.specs.declared.event.Event.{Event}
 use Rattle.replica_core.specs.declared.event.Event.TheVariants.{AnswerReceipts}
 use Rattle.replica_core.proofs.ExchangeFacts.{content_of, receipts-is, with_message}
@@ -66,10 +66,10 @@ module _ {p : Peers} {events : List Event} (rules : Rules) (start : World) (c : 
 
 -- What is answered with the records left out is what a replica sends in the world by answering
 -- without them.
-pub receipts_sent : (k : Meaning) (have : HaveMessage) (n j asker place : ℕ) (w : World) → j < n → w.now j ≡ state_of k
+pub receipts_sent : (k : Meaning) (have : HaveMessage) (rules : Rules) (j asker place : ℕ) (w : World) → j < rules.replicas → w.now j ≡ state_of k
     → slice_get w.sent place ≡ Some (have_sent asker have.bucket have.ids)
-    → happens (rules_of k.config n) w (AnswerReceipts j place)
-    ≡ apply (limits_of k.config) w (sends (give_sent j place (give_of (answered_from LeftOut k) have).content))
-receipts_sent k have n j asker place w l here there =
-    receipts-is (rules_of k.config n) w asker j have.bucket place have.ids l there
+    → happens rules w (AnswerReceipts j place)
+    ≡ apply rules.limits w (sends (give_sent j place (give_of (answered_from LeftOut k) have).content))
+receipts_sent k have rules j asker place w l here there =
+    receipts-is rules w asker j have.bucket place have.ids l there
     ∙ ap (λ (s : State). with_message w (give_sent j place (content_of (without_records s) have.bucket have.ids))) here

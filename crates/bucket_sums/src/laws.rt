@@ -7,9 +7,9 @@ ghost use Rattle.std.specs.List.{AllByRecursion};
 ghost use Rattle.receipt_core.specs.Receipt.{IsDigest, Receipt, receipt_id_of};
 ghost use Rattle.replica_core.specs.Convergence.{Comparison, HasAll, Peers, SumsCourse, asker_held};
 ghost use Rattle.replica_core.specs.Convergence.{answerer_held, at_sums};
-ghost use Rattle.replica_core.specs.State.{State, ids_held, joined, limits_of};
+ghost use Rattle.replica_core.specs.State.{State, ids_held, joined};
 ghost use Rattle.replica_core.specs.World.{Rules, World, apply, give_sent, happens, have_sent};
-ghost use Rattle.replica_core.specs.World.{rules_of, sends};
+ghost use Rattle.replica_core.specs.World.{sends};
 ghost use Rattle.replica_core.specs.declared.event.Event.{Event};
 ghost use Rattle.replica_core.specs.declared.event.Event.TheVariants.{AnswerReceipts};
 ghost use Rattle.receipt_core.specs.Acceptance.{Meaning, IsMeaning};
@@ -173,11 +173,11 @@ pub fn world_of_sums()
         → c.place ≡ length (at_sums rules start c).sent
         → AsksMarkedParts rules start c marked.marks
         → SumsCourse rules start peers events }
-    ensures receipts { (k : Meaning) (have : HaveMessage) (n j asker place : ℕ) (w : World)
-        → j < n → w.now j ≡ state_of k
+    ensures receipts { (k : Meaning) (have : HaveMessage) (rules : Rules) (j asker place : ℕ)
+        (w : World) → j < rules.replicas → w.now j ≡ state_of k
         → slice_get w.sent place ≡ Some (have_sent asker have.bucket have.ids)
-        → happens (rules_of k.config n) w (AnswerReceipts j place)
-        ≡ apply (limits_of k.config) w
+        → happens rules w (AnswerReceipts j place)
+        ≡ apply rules.limits w
         (sends (give_sent j place (give_of (answered_from LeftOut k) have).content)) }
 {}
 

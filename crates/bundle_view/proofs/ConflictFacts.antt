@@ -13,12 +13,15 @@ use Rattle.bundle_doc.specs.Bundle.{Bundle}
 use Rattle.fed_config.specs.Configuration.{Configuration, AreDomains, domain_cmp}
 use Rattle.receipt_core.specs.Acceptance.{Meaning, IsMember}
 use Rattle.receipt_core.proofs.OrderFacts.{equal_bytes, cmp_equal}
+use Rattle.closure_core.specs.Alike.{AreAlike}
 use Rattle.closure_core.specs.AcceptedList.{document_cmp, document_of}
 use Rattle.closure_core.specs.Order.{document_total}
 use Rattle.bundle_view.specs.declared.conflict.ConflictKind.{ConflictKind}
 use Rattle.bundle_view.specs.declared.conflict.ConflictKind.TheVariants.{Keys, HintOnly}
 use Rattle.bundle_view.specs.Conflicts.{ConflictGroup, IsConflictGroup, AreConflictGroups, AreConflicts, IsOfKind, group_cmp, OfDomain, report_all}
 use Rattle.bundle_view.specs.Conflicts.{AreAllConflicts, ReportedConflict}
+use Rattle.closure_core.proofs.AlikeFacts.{domains_alike}
+use Rattle.closure_core.proofs.MemberFacts.{alike_turned, member_alike}
 use Rattle.closure_core.proofs.ContainsFacts.{contains_first, contains_later, contains_none, contains_cases}
 use Rattle.bundle_view.proofs.RisingListFacts.{same_list}
 use Rattle.bundle_view.proofs.RisingListFacts.{rising_none, rising_one, rising_append, rising_across, rising_first}
@@ -285,8 +288,35 @@ same_parts m (x ∷ xs) (y ∷ ys) names p q =
     let rest : xs ≡ ys = same_parts m xs ys (ap (λ l. drop 1 l) names) (λ z h. p z (contains_later x xs z h)) (λ z h. q z (contains_later y ys z h)) in
     λ i. record { domain = name i; clashes = clashes i } ∷ rest i
 
--- all conflicts of a replica are one list, as `laws::one_view` says
-pub one_stated : (m : Meaning) (cs ds : List ReportedConflict) → AreAllConflicts m cs → AreAllConflicts m ds → cs ≡ ds
-one_stated m cs ds p q =
-    let parts : p.parts ≡ q.parts = same_parts m p.parts q.parts (one_domains m.config _ _ p.domains q.domains) p.each q.each in
+-- conflicts are those of the same documents
+group_alike : (P Q : Bundle → Type 0) → ((d : Bundle) → P d → Q d) → ((d : Bundle) → Q d → P d) → (c : ConflictGroup)
+    → IsConflictGroup P c → IsConflictGroup Q c
+group_alike P Q to from c h = record {
+  rising = h.rising;
+  exactly = λ d. (
+    λ has. let both = (h.exactly d).0 has in (to d both.0, both.1),
+    λ both. (h.exactly d).1 (from d both.0, both.1),
+  );
+  several = h.several;
+  kind = h.kind;
+}
+
+-- replicas that hold alike have the same conflicts
+pub conflicts_alike : (m n : Meaning) → AreAlike m n → (domain : List ℕ) (cs : List ConflictGroup) → AreConflicts m domain cs → AreConflicts n domain cs
+conflicts_alike m n alike domain cs h =
+    let to = λ (d : Bundle). member_alike m n alike (document_of domain d) in
+    let from = λ (d : Bundle). member_alike n m (alike_turned m n alike) (document_of domain d) in
+    record {
+      rising = h.rising;
+      sound = λ c has. group_alike (λ d. IsMember m (document_of domain d)) (λ d. IsMember n (document_of domain d)) to from c (h.sound c has);
+      complete = λ c is. h.complete c (group_alike (λ d. IsMember n (document_of domain d)) (λ d. IsMember m (document_of domain d)) from to c is);
+    }
+
+-- all conflicts of replicas that hold alike are one list, as `laws::one_view` says
+pub one_stated : (one other : Meaning) (cs ds : List ReportedConflict) → AreAlike one other → AreAllConflicts one cs
+    → AreAllConflicts other ds → cs ≡ ds
+one_stated one other cs ds alike p q =
+    let names = one_domains other.config _ _ (domains_alike one.config other.config alike.trust _ p.domains) q.domains in
+    let parts : p.parts ≡ q.parts = same_parts other p.parts q.parts names
+    (λ part has. conflicts_alike one other alike part.domain part.clashes (p.each part has)) q.each in
     p.are ∙ ap report_all parts ∙ sym q.are

@@ -5,10 +5,12 @@ use Rattle.std.specs.List.Sorted.{IsStrictlySortedBy}
 use Rattle.bundle_doc.specs.Bundle.{Bundle}
 use Rattle.receipt_core.specs.Receipt.{Pair}
 use Rattle.receipt_core.specs.Acceptance.{Meaning, IsMember}
+use Rattle.closure_core.specs.Alike.{AreAlike}
 use Rattle.closure_core.specs.AcceptedList.{document_cmp, document_of, IsAcceptedList}
 use Rattle.closure_core.specs.Order.{document_total}
 use Rattle.bundle_view.specs.Current.{IsCurrent, IsNoLower}
 use Rattle.closure_core.proofs.ContainsFacts.{contains_first, contains_later, contains_none, contains_cases}
+use Rattle.closure_core.proofs.MemberFacts.{alike_turned, member_alike}
 use Rattle.bundle_view.proofs.RisingListFacts.{not_below_itself, not_both, rising_first, rising_rest, only_one}
 
 -- it is among them, and none is greater
@@ -67,6 +69,14 @@ one_current m domain ds (Some d) None list p q = absurd (q d p.accepted)
 one_current m domain ds (Some d) (Some e) list p q =
     ap Some (only_one document_cmp ds d e list.rising (list.complete d p.accepted) (list.complete e q.accepted)
     (p.greatest e q.accepted) (q.greatest d p.accepted))
+
+-- replicas that hold alike have one current document
+pub current_alike : (m n : Meaning) → AreAlike m n → (domain : List ℕ) (o : Option Bundle) → IsCurrent m domain o → IsCurrent n domain o
+current_alike m n alike domain None is = λ d h. is d (member_alike n m (alike_turned m n alike) (document_of domain d) h)
+current_alike m n alike domain (Some d) is = record {
+  accepted = member_alike m n alike (document_of domain d) is.accepted;
+  greatest = λ e h. is.greatest e (member_alike n m (alike_turned m n alike) (document_of domain e) h);
+}
 
 -- if all that was accepted is accepted, the current document is not lower than it was
 pub no_lower : (old new : Meaning) (domain : List ℕ) (before after : Option Bundle)

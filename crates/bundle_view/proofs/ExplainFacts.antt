@@ -12,8 +12,10 @@ use Rattle.receipt_core.specs.declared.distrust.Distrust.{Distrust}
 use Rattle.receipt_core.specs.Receipt.{Receipt, Pair, pair_of, need_of, offers_of}
 use Rattle.receipt_core.specs.Acceptance.{IsFitting, Vouches, Leads, Meaning, IsMeaning, IsMember, pair_of_seed}
 use Rattle.receipt_core.specs.Chain.{LeadsOn, IsChain}
+use Rattle.closure_core.proofs.AlikeFacts.{chain_alike}
 use Rattle.receipt_core.proofs.RisingFacts.{each_has, Has-from_contains}
 use Rattle.receipt_core.proofs.VouchingFacts.{Vouches-by_offers}
+use Rattle.closure_core.specs.Alike.{IsSameTrust}
 use Rattle.bundle_view.specs.Explain.{LeadsTo, IsShortest}
 use Rattle.bundle_view.specs.Inside.Search.{Stride, IsStride, AreStrides, AreTrusted, AreFollowed, IsSearched, SearchFinds, HasSearched, IsBackFrom}
 
@@ -184,14 +186,15 @@ ends_in c records from [] to h = refl
 ends_in c records from (r ∷ chain) to h = (h.0, h.1, ends_in c records (pair_of r) chain to h.2)
 
 -- a shortest chain with a receipt is a chain for somebody who holds no store
-pub chain_of : (m : Meaning) (p : Pair) (chain : List Receipt) → IsShortest m p chain → 0 < length chain → IsChain m.config m.records chain
-chain_of m p chain is some = record {
-  some = some;
-  seed = is.leads.seed;
-  configured = is.leads.configured;
-  leads =
-      ends_in m.config m.records (pair_of_seed is.leads.seed) chain p is.leads.leads;
-}
+pub chain_of : (c : Configuration) (m : Meaning) (p : Pair) (chain : List Receipt) → IsSameTrust m.config c → IsShortest m p chain
+    → 0 < length chain → IsChain c m.records chain
+chain_of c m p chain same is some =
+    chain_alike m.config c same m.records chain (record {
+      some = some;
+      seed = is.leads.seed;
+      configured = is.leads.configured;
+      leads = ends_in m.config m.records (pair_of_seed is.leads.seed) chain p is.leads.leads;
+    })
 
 -- a chain leads to the document of its last receipt
 end_of : (c : Configuration) (records : List Distrust) (from : Pair) (front : List Receipt) (last : Receipt) (to : Pair)

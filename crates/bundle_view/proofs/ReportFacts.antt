@@ -10,19 +10,22 @@ use Rattle.fed_config.specs.Configuration.{AreDomains, config_id_of}
 use Rattle.std.specs.List.{Contains}
 use Rattle.bundle_doc.specs.Bundle.{Bundle, doc_id_of}
 use Rattle.receipt_core.specs.Acceptance.{Meaning, IsMember}
+use Rattle.closure_core.specs.Alike.{AreAlike}
 use Rattle.closure_core.specs.AcceptedList.{document_cmp, document_of, IsAcceptedList, IsPendingCount}
 use Rattle.closure_core.specs.Order.{document_total}
 use Rattle.bundle_view.specs.Current.{IsCurrent}
 use Rattle.bundle_view.specs.Conflicts.{AreConflicts, ReportedConflict, reported_conflict}
 use Rattle.bundle_view.specs.Inside.Groups.{AddsConflicts}
 use Rattle.bundle_view.specs.Inside.Sections.{HasReportHead, AddsSection, HasSections}
-use Rattle.bundle_view.specs.Report.{Section, IsSection, IsReport, report_text, head_text, section_text, current_line}
+use Rattle.bundle_view.specs.Report.{Section, IsSection, IsReport, head_text, section_text, current_line}
 use Rattle.bundle_view.specs.Report.{accepted_line, conflict_line, reported_distrust_line, records_of, document_text}
 use Rattle.bundle_view.specs.Report.{sequence_text}
 use Rattle.closure_core.proofs.ContainsFacts.{contains_first, contains_later}
 use Rattle.bundle_view.proofs.RisingListFacts.{same_list, joined}
-use Rattle.bundle_view.proofs.CurrentFacts.{one_current}
-use Rattle.bundle_view.proofs.ConflictFacts.{one_list, one_domains}
+use Rattle.closure_core.proofs.AlikeFacts.{domains_alike, one_digest}
+use Rattle.closure_core.proofs.MemberFacts.{alike_turned, member_alike}
+use Rattle.bundle_view.proofs.CurrentFacts.{current_alike, one_current}
+use Rattle.bundle_view.proofs.ConflictFacts.{conflicts_alike, one_list, one_domains}
 use Rattle.bundle_view.proofs.GroupFacts.{conflicts_of}
 
 -- a domain has one list of accepted documents
@@ -59,12 +62,33 @@ same_sections m (x ∷ xs) (y ∷ ys) names p q =
     let rest : xs ≡ ys = same_sections m xs ys (ap (λ l. drop 1 l) names) (λ z h. p z (contains_later x xs z h)) (λ z h. q z (contains_later y ys z h)) in
     λ i. first i ∷ rest i
 
--- a replica has one report, as `laws::one_view` says
-pub one_report : (m : Meaning) (s t : List ℕ) → ((n k : ℕ) → IsPendingCount m n → IsPendingCount m k → n ≡ k) → IsReport m s → IsReport m t → s ≡ t
-one_report m s t one_pending p q =
+-- replicas that hold alike have the same sections
+section_alike : (m n : Meaning) → AreAlike m n → (s : Section) → IsSection m s → IsSection n s
+section_alike m n alike s is = record {
+  current = current_alike m n alike s.domain s.current is.current;
+  accepted = record {
+    rising = is.accepted.rising;
+    sound = λ d has. member_alike m n alike (document_of s.domain d) (is.accepted.sound d has);
+    complete = λ d h. is.accepted.complete d (member_alike n m (alike_turned m n alike) (document_of s.domain d) h);
+  };
+  conflicts = conflicts_alike m n alike s.domain s.conflicts is.conflicts;
+}
+
+-- replicas that hold alike have one report, as `laws::one_view` says
+pub one_report : (one other : Meaning) (s t : List ℕ) → AreAlike one other
+    → ((n k : ℕ) → IsPendingCount one n → IsPendingCount other k → n ≡ k) → IsReport one s → IsReport other t → s ≡ t
+one_report one other s t alike one_pending p q =
     let pending : p.pending ≡ q.pending = one_pending p.pending q.pending p.is_pending q.is_pending in
-    let sections : p.sections ≡ q.sections = same_sections m p.sections q.sections (one_domains m.config _ _ p.domains q.domains) p.each q.each in
-    p.is ∙ (λ i. report_text m (pending i) (sections i)) ∙ sym q.is
+    let names = one_domains other.config _ _ (domains_alike one.config other.config alike.trust _ p.domains) q.domains in
+    let sections : p.sections ≡ q.sections = same_sections other p.sections q.sections names
+    (λ s has. section_alike one other alike s (p.each s has)) q.each in
+    let digest : config_id_of one.config ≡ config_id_of other.config = one_digest one.config other.config alike.trust in
+    p.is
+    ∙ (λ i. (codes "config " ++
+    (encode_lower (digest i) ++ (codes "\nreceipts " ++
+    (decimal (length (alike.held i)) ++ (codes " pending " ++ (decimal (pending i) ++ codes "\n"))))))
+    ++ flat_map (section_text (alike.records i)) (sections i))
+    ∙ sym q.is
 
 -- ---- lines
 

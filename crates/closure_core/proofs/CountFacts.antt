@@ -76,3 +76,12 @@ one_count P n k a b =
     let na = a.count in
     let nb = b.count in
     omega arith
+
+-- Properties of the same things have one count.
+pub counted_alike : {T : Type 0} (P Q : T → Type 0) (n : ℕ) → ((x : T) → P x → Q x) → ((x : T) → Q x → P x) → IsCount P n → IsCount Q n
+counted_alike P Q n to from h = record {
+  items = h.items;
+  different = h.different;
+  exactly = λ x. (λ has. to x ((h.exactly x).0 has), λ q. (h.exactly x).1 (from x q));
+  count = h.count;
+}

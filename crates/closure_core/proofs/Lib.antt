@@ -1,3 +1,4 @@
+pub mod AlikeFacts
 pub mod ContainsFacts
 pub mod CountFacts
 pub mod RisingFacts

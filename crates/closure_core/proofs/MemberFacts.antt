@@ -5,7 +5,9 @@ use Rattle.fed_config.specs.Configuration.{Configuration}
 use Rattle.fed_config.specs.declared.seed.Seed.{Seed}
 use Rattle.receipt_core.specs.declared.distrust.Distrust.{Distrust}
 use Rattle.receipt_core.specs.Receipt.{Receipt, Pair, pair_of}
-use Rattle.receipt_core.specs.Acceptance.{IsFitting, Vouches, Leads, Meaning, IsMember, IsReleased, IsClosed, pair_of_seed}
+use Rattle.receipt_core.specs.Acceptance.{IsFitting, Vouches, Leads, Meaning, IsMember, IsPending, IsReleased, IsClosed, pair_of_seed}
+use Rattle.closure_core.specs.Alike.{AreAlike, IsSameTrust}
+use Rattle.closure_core.proofs.AlikeFacts.{fits_alike, same_of_equal, same_turned}
 
 -- ---- a chain continues by one
 
@@ -61,17 +63,68 @@ member_least m set closed p is = along m set closed (pair_of_seed is.seed) is.ch
 -- ---- more receipts and fewer records of distrust
 
 -- With more receipts, and with fewer records of distrust, what was accepted is still accepted.
-pub member_more : (m n : Meaning) → m.config ≡ n.config → ((r : Receipt) → Contains m.held r → Contains n.held r)
+pub member_more : (m n : Meaning) → IsSameTrust m.config n.config → ((r : Receipt) → Contains m.held r → Contains n.held r)
     → ((x : Distrust) → Contains n.records x → Contains m.records x) → (p : Pair) → IsMember m p → IsMember n p
 member_more m n same more fewer =
     member_least m (IsMember n) record {
-      seeds = λ s has. member_seed n s (subst (λ (c : Configuration). Contains c.seeds s) same has);
-      steps = λ p r is held fits vouches. member_step n p r is (more r held) (subst (λ (c : Configuration). IsFitting c r) same fits) record {
+      seeds = λ s has. member_seed n s (subst (λ (ss : List Seed). Contains ss s) same.seeds has);
+      steps = λ p r is held fits vouches. member_step n p r is (more r held) (fits_alike m.config n.config same r fits) record {
         endpoint = vouches.endpoint;
         voucher = vouches.voucher;
         key = vouches.key;
         trusted = λ h. vouches.trusted (fewer _ h);
       };
+    }
+
+-- With more receipts, and with fewer records of distrust, what was released is still released.
+pub released_more : (m n : Meaning) → IsSameTrust m.config n.config → ((r : Receipt) → Contains m.held r → Contains n.held r)
+    → ((x : Distrust) → Contains n.records x → Contains m.records x) → (r : Receipt) → IsReleased m r → IsReleased n r
+released_more m n same more fewer r is = record {
+  held = more r is.held;
+  fits = fits_alike m.config n.config same r is.fits;
+  voucher = is.voucher;
+  accepted = member_more m n same more fewer is.voucher is.accepted;
+  vouches = record {
+    endpoint = is.vouches.endpoint;
+    voucher = is.vouches.voucher;
+    key = is.vouches.key;
+    trusted = λ h. is.vouches.trusted (fewer _ h);
+  };
+}
+
+-- ---- meanings of which only the limits differ
+
+-- What the one holds the other holds.
+held_alike : (m n : Meaning) → AreAlike m n → (r : Receipt) → Contains m.held r → Contains n.held r
+held_alike m n alike r has = subst (λ (rs : List Receipt). Contains rs r) alike.held has
+
+-- What the other distrusts the one distrusts.
+records_alike : (m n : Meaning) → AreAlike m n → (x : Distrust) → Contains n.records x → Contains m.records x
+records_alike m n alike x has = subst (λ (xs : List Distrust). Contains xs x) (sym alike.records) has
+
+-- What the one accepts the other accepts.
+pub member_alike : (m n : Meaning) → AreAlike m n → (p : Pair) → IsMember m p → IsMember n p
+member_alike m n alike = member_more m n alike.trust (held_alike m n alike) (records_alike m n alike)
+
+-- Each is alike to itself.
+pub alike_itself : (m : Meaning) → AreAlike m m
+alike_itself m = record { trust = same_of_equal m.config m.config refl; held = refl; records = refl }
+
+-- They are alike in either order.
+pub alike_turned : (m n : Meaning) → AreAlike m n → AreAlike n m
+alike_turned m n alike = record {
+  trust = same_turned m.config n.config alike.trust;
+  held = sym alike.held;
+  records = sym alike.records;
+}
+
+-- What is pending with the one is pending with the other.
+pub pending_alike : (m n : Meaning) → AreAlike m n → (r : Receipt) → IsPending m r → IsPending n r
+pending_alike m n alike r is =
+    let back = alike_turned m n alike in
+    record {
+      held = held_alike m n alike r is.held;
+      unreleased = λ h. is.unreleased (released_more n m back.trust (held_alike n m back) (records_alike n m back) r h);
     }
 
 -- ---- a member is configured or released

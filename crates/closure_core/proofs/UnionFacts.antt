@@ -87,10 +87,10 @@ module _ {A : Type 0} (P : A → Type 0) (cmp : A → A → Ordering) (sets : Ar
 same_parts : (m n : Meaning) → m.config ≡ n.config → m.held ≡ n.held → m.records ≡ n.records → m ≡ n
 same_parts m n c h r = λ i. record { config = c i; held = h i; records = r i }
 
--- of one configuration, the union is the same from either side
-pub union_order : (m n : Meaning) → IsMeaning m → IsMeaning n → m.config ≡ n.config → union_of m n ≡ union_of n m
-union_order m n is are same =
-    same_parts (union_of m n) (union_of n m) same
+-- the same is held in the union from either side
+pub union_order : (m n : Meaning) → IsMeaning m → IsMeaning n → union_of m n ≡ record (union_of n m) { config = m.config }
+union_order m n is are =
+    same_parts (union_of m n) (record (union_of n m) { config = m.config }) refl
     (join_order IsReceipt receipt_cmp receipt_sets m.held n.held is.receipts are.receipts is.rising are.rising)
     (join_order Always distrust_cmp record_sets m.records n.records (always m.records) (always n.records)
     is.records_rising are.records_rising)

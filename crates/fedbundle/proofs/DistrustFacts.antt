@@ -32,9 +32,9 @@ empty_valid c = record {
 }
 
 -- What an empty closure merges it means.
-pub copied : ((m n : Meaning) → IsMeaning m → IsMeaning n → m.config ≡ n.config → union_of m n ≡ union_of n m) → (m : Meaning) → IsMeaning m
-    → union_of (empty_of m.config) m ≡ m
-copied order m valid = order (empty_of m.config) m (empty_valid m.config) valid refl
+pub copied : ((m n : Meaning) → IsMeaning m → IsMeaning n → union_of m n ≡ record (union_of n m) { config = m.config }) → (m : Meaning)
+    → IsMeaning m → union_of (empty_of m.config) m ≡ m
+copied order m valid = order (empty_of m.config) m (empty_valid m.config) valid
 
 -- A record that was made, or was there, is held.
 pub holds : (old : Meaning) (x : Distrust) (new : Meaning) (made : Distrusted) → Distrusts old x new made → HoldsRecord old x new

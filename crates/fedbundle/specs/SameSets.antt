@@ -3,14 +3,15 @@ use Rattle.std.specs.Prelude.{◌≡◌, ◌↔◌, Contains}
 use Rattle.receipt_core.specs.Acceptance.{Meaning, IsMeaning}
 use Rattle.receipt_core.specs.Receipt.{Receipt}
 use Rattle.receipt_core.specs.declared.distrust.Distrust.{Distrust}
+use Rattle.closure_core.specs.Alike.{IsSameTrust}
 use Rattle.replica_texts.specs.Snapshots.{snapshot_text}
 
--- Both are what a replica can hold; their configurations are equal, each receipt that the one holds
--- the other holds too, and so each record of distrust.
+-- Both are what a replica can hold; their relationships, seeds and floors are the same, each
+-- receipt that the one holds the other holds too, and so each record of distrust.
 pub record HoldSameSets (one other : Meaning) : Type 0 where
   pub valid : IsMeaning one
   pub other_valid : IsMeaning other
-  pub config : one.config ≡ other.config
+  pub trust : IsSameTrust one.config other.config
   pub receipts : (r : Receipt) → (Contains one.held r ↔ Contains other.held r)
   pub records : (x : Distrust) → (Contains one.records x ↔ Contains other.records x)
 

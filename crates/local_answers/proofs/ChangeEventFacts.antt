@@ -16,7 +16,7 @@ use Rattle.replica_core.specs.Absorbing.{with_entries, with_entry}
 use Rattle.replica_core.specs.Convergence.{Gains, IsPartOf, only_receipt, only_record}
 use Rattle.replica_core.specs.Session.{HaveMessage, give_of, have_of, state_of}
 use Rattle.replica_core.specs.State.{State, ids_named, is_within_limits, joined, limits_of, no_state}
-use Rattle.replica_core.specs.World.{Rules, World, WorldRun, apply, empty_world, gained, gains, happens, is_replica, rules_of, run_from}
+use Rattle.replica_core.specs.World.{Rules, World, WorldRun, apply, empty_world, gained, gains, happens, is_replica, rules_of, rules_with, run_from}
 use Rattle.replica_core.specs.World.{give_sent, have_sent, is_fitting, is_known, sends, where_so}
 use Rattle.replica_core.specs.declared.entry.Entry.{Entry}
 use Rattle.replica_core.specs.declared.entry.Entry.TheVariants.{Record, Receipt as AReceipt}
@@ -33,6 +33,7 @@ use Rattle.fedbundle.specs.CommandRun.{StateRun}
 use Rattle.fed_config.specs.declared.limits.Limits.{Limits}
 use Rattle.receipt_core.specs.Limits.{receipt_limit, record_limit}
 use Rattle.receipt_core.proofs.LimitFacts.{receipt_limit-least, record_limit-least}
+use Rattle.closure_core.specs.Alike.{with_limits}
 
 -- ---- sets that grow
 
@@ -125,17 +126,23 @@ below-within c small large part is =
     and_from _ _ (le-leb (length small.held) (receipt_limit c) (omega (arith, less, few)))
     (le-leb (length small.records) (record_limit c) (omega (arith, less_records, few_records)))
 
+-- So it is for a replica with these limits in a world.
+own-within : (c : Configuration) (limits : ℕ → Limits) (i : ℕ) → limits i ≡ c.limits → (small large : State) → IsBelow small large → IsHoldable c large
+    → is_within_limits (limits_of (with_limits c (limits i))) small ≡ true
+own-within c limits i own small large part is =
+    ap (λ (l : Limits). is_within_limits (limits_of (with_limits c l)) small) own ∙ below-within c small large part is
+
 -- ---- the world's tests
 
 -- A test that lets something be gained has passed.
-has-passed : (b : Bool) (limits : Limits) (gain : State) → (apply limits empty_world (where_so b (gains 0 gain))).now 0 ≡ gain
+has-passed : (b : Bool) (limits : ℕ → Limits) (gain : State) → (apply limits empty_world (where_so b (gains 0 gain))).now 0 ≡ gain
     → (no_state ≡ gain → ⊥) → b ≡ true
 has-passed true limits gain e some = refl
 has-passed false limits gain e some = absurd (some e)
 
 -- a world of one replica to which nothing has happened
 abbrev fresh : Configuration → WorldRun
-fresh c = record { config = c; replicas = 1; events = [] }
+fresh c = record { config = c; limits = λ replica. c.limits; replicas = 1; events = [] }
 
 -- One receipt, or one record, is within the limits.
 one-receipt : (c : Configuration) (r : Receipt) → is_within_limits (limits_of c) (only_receipt r) ≡ true
@@ -153,7 +160,8 @@ receipt-passes : ((past : WorldRun) (i : ℕ) (r : Receipt) → i < past.replica
     → (c : Configuration) (r : Receipt) → IsFitting c r → is_fitting c r ≡ true
 receipt-passes takes c r fits =
     (and_parts (is_replica (rules_of c 1) 0) (is_fitting c r)
-    (has-passed (is_replica (rules_of c 1) 0 && is_fitting c r) (limits_of c) (only_receipt r) (takes (fresh c) 0 r (omega arith) fits (one-receipt c r))
+    (has-passed (is_replica (rules_of c 1) 0 && is_fitting c r) (rules_of c 1).limits (only_receipt r)
+    (takes (fresh c) 0 r (omega arith) fits (one-receipt c r))
     (λ e. let none : [] ≡ r ∷ [] = ap (λ (s : State). s.held) e in cc))).1
 
 -- A record of a domain of the configuration passes the world's test.
@@ -161,17 +169,18 @@ record-passes : ((past : WorldRun) (i : ℕ) (x : Distrust) → i < past.replica
     → (c : Configuration) (x : Distrust) → HasDomain c x.domain → is_known c x.domain ≡ true
 record-passes revokes c x known =
     (and_parts (is_replica (rules_of c 1) 0) (is_known c x.domain)
-    (has-passed (is_replica (rules_of c 1) 0 && is_known c x.domain) (limits_of c) (only_record x) (revokes (fresh c) 0 x (omega arith) known (one-record c x))
+    (has-passed (is_replica (rules_of c 1) 0 && is_known c x.domain) (rules_of c 1).limits (only_record x)
+    (revokes (fresh c) 0 x (omega arith) known (one-record c x))
     (λ e. let none : [] ≡ x ∷ [] = ap (λ (s : State). s.records) e in cc))).1
 
 -- ---- one event
 
 -- A gain within the limits is joined if the test passes. If it does not pass, the gain has nothing
 -- new.
-gain-is : (limits : Limits) (w : World) (i : ℕ) (state gain : State) (b : Bool) → w.now i ≡ state → (b ≡ true) ⊎ (joined state gain ≡ state)
-    → is_within_limits limits (joined state gain) ≡ true → (apply limits w (where_so b (gains i gain))).now i ≡ joined state gain
+gain-is : (limits : ℕ → Limits) (w : World) (i : ℕ) (state gain : State) (b : Bool) → w.now i ≡ state → (b ≡ true) ⊎ (joined state gain ≡ state)
+    → is_within_limits (limits i) (joined state gain) ≡ true → (apply limits w (where_so b (gains i gain))).now i ≡ joined state gain
 gain-is limits w i state gain true here h room =
-    ap (λ (t : Bool). (gained t w i (joined (w.now i) gain)).now i) (ap (λ (s : State). is_within_limits limits (joined s gain)) here ∙ room)
+    ap (λ (t : Bool). (gained t w i (joined (w.now i) gain)).now i) (ap (λ (s : State). is_within_limits (limits i) (joined s gain)) here ∙ room)
     ∙ at-here i (joined (w.now i) gain) w.now ∙ ap (λ (s : State). joined s gain) here
 gain-is limits w i state gain false here (inl e) room = absurd (let bad : false ≡ true = e in cc)
 gain-is limits w i state gain false here (inr same) room = here ∙ sym same
@@ -192,8 +201,8 @@ only-gained : (i : ℕ) (w : World) (state : State) (b : Bool) → OnlyAt i w (g
 only-gained i w state true = record { others = λ j d. at-other j i state w.now d; sent = refl; saved = refl }
 only-gained i w state false = only-nothing i w
 
-only-where : (limits : Limits) (i : ℕ) (w : World) (gain : State) (b : Bool) → OnlyAt i w (apply limits w (where_so b (gains i gain)))
-only-where limits i w gain true = only-gained i w (joined (w.now i) gain) (is_within_limits limits (joined (w.now i) gain))
+only-where : (limits : ℕ → Limits) (i : ℕ) (w : World) (gain : State) (b : Bool) → OnlyAt i w (apply limits w (where_so b (gains i gain)))
+only-where limits i w gain true = only-gained i w (joined (w.now i) gain) (is_within_limits (limits i) (joined (w.now i) gain))
 only-where limits i w gain false = only-nothing i w
 
 only-event : (rules : Rules) (i : ℕ) (entry : Entry) (w : World) → OnlyAt i w (happens rules w (event_of i entry))
@@ -212,85 +221,91 @@ only-run rules (entry ∷ entries) i w =
 module _ (takes : (past : WorldRun) (i : ℕ) (r : Receipt) → i < past.replicas → IsFitting past.config r → Gains past (Take i r) i (only_receipt r))
     (revokes : (past : WorldRun) (i : ℕ) (x : Distrust) → i < past.replicas → HasDomain past.config x.domain → Gains past (Revoke i x) i (only_record x)) where
   -- After the event of an entry it is held, if that is part of what can be held.
-  entry-is : (c : Configuration) (n i : ℕ) → i < n → (entry : Entry) (m : Meaning) (w : World) (large : State) → w.now i ≡ state_of m
-      → IsBelow (state_of (with_entry entry m)) large → IsHoldable c large → (happens (rules_of c n) w (event_of i entry)).now i ≡ state_of (with_entry entry m)
-  entry-is c n i l (Record x) m w large here below can =
-      gain-is (limits_of c) w i (state_of m) (only_record x) (is_replica (rules_of c n) i && is_known c x.domain) here
+  entry-is : (c : Configuration) (limits : ℕ → Limits) (n i : ℕ) → i < n → limits i ≡ c.limits → (entry : Entry) (m : Meaning)
+      (w : World) (large : State) → w.now i ≡ state_of m → IsBelow (state_of (with_entry entry m)) large → IsHoldable c large
+      → (happens (rules_with c limits n) w (event_of i entry)).now i ≡ state_of (with_entry entry m)
+  entry-is c limits n i l own (Record x) m w large here below can =
+      gain-is (rules_with c limits n).limits w i (state_of m) (only_record x) (is_replica (rules_with c limits n) i && is_known c x.domain) here
       (elim (item-or-same distrust_cmp x m.records) [
-        | inl h ↦ inl (and_from _ _ (replica-true (rules_of c n) i l)
+        | inl h ↦ inl (and_from _ _ (replica-true (rules_with c limits n) i l)
             (record-passes revokes c x (each-from (λ y. HasDomain c y.domain) large.records can.domains x
             (below.part.distrusts x (Contains-from_has (with_item distrust_cmp x m.records) x h)))))
         | inr e ↦ inr (λ t. record { held = m.held; records = e t })
       ])
-      (below-within c (state_of (with_entry (Record x) m)) large below can)
-  entry-is c n i l (AReceipt r) m w large here below can =
-      gain-is (limits_of c) w i (state_of m) (only_receipt r) (is_replica (rules_of c n) i && is_fitting c r) here
+      (own-within c limits i own (state_of (with_entry (Record x) m)) large below can)
+  entry-is c limits n i l own (AReceipt r) m w large here below can =
+      gain-is (rules_with c limits n).limits w i (state_of m) (only_receipt r) (is_replica (rules_with c limits n) i && is_fitting c r) here
       (elim (item-or-same receipt_cmp r m.held) [
-        | inl h ↦ inl (and_from _ _ (replica-true (rules_of c n) i l)
+        | inl h ↦ inl (and_from _ _ (replica-true (rules_with c limits n) i l)
             (receipt-passes takes c r (each-from (IsFitting c) large.held can.fitting r
             (below.part.receipts r (Contains-from_has (with_item receipt_cmp r m.held) r h)))))
         | inr e ↦ inr (λ t. record { held = e t; records = m.records })
       ])
-      (below-within c (state_of (with_entry (AReceipt r) m)) large below can)
+      (own-within c limits i own (state_of (with_entry (AReceipt r) m)) large below can)
 
   -- After the events of entries they are held, if all of that can be.
-  entries-are : (c : Configuration) (n i : ℕ) → i < n → (entries : List Entry) (m : Meaning) (w : World) → w.now i ≡ state_of m
-      → IsHoldable c (state_of (with_entries entries m)) → (run_from (rules_of c n) w (events_of i entries)).now i ≡ state_of (with_entries entries m)
-  entries-are c n i l [] m w here can = here
-  entries-are c n i l (entry ∷ entries) m w here can =
+  entries-are : (c : Configuration) (limits : ℕ → Limits) (n i : ℕ) → i < n → limits i ≡ c.limits → (entries : List Entry) (m : Meaning)
+      (w : World) → w.now i ≡ state_of m
+      → IsHoldable c (state_of (with_entries entries m)) → (run_from (rules_with c limits n) w (events_of i entries)).now i ≡ state_of (with_entries entries m)
+  entries-are c limits n i l own [] m w here can = here
+  entries-are c limits n i l own (entry ∷ entries) m w here can =
       let one = with_entry entry m in
-      entries-are c n i l entries one (happens (rules_of c n) w (event_of i entry))
-      (entry-is c n i l entry m w (state_of (with_entries entries one)) here (below-all entries one) can) can
+      entries-are c limits n i l own entries one (happens (rules_with c limits n) w (event_of i entry))
+      (entry-is c limits n i l own entry m w (state_of (with_entries entries one)) here (below-all entries one) can) can
 
-  pub change-in-world : (m new : Meaning) (entries : List Entry) (n i : ℕ) (w : World) → i < n → w.now i ≡ state_of m → IsMeaning new
-      → new ≡ with_entries entries m → (run_from (rules_of m.config n) w (events_of i entries)).now i ≡ state_of new
-  change-in-world m new entries n i w l here valid is =
-      entries-are m.config n i l entries m w here
+  pub change-in-world : (m new : Meaning) (entries : List Entry) (limits : ℕ → Limits) (n i : ℕ) (w : World) → i < n
+      → limits i ≡ m.config.limits → w.now i ≡ state_of m → IsMeaning new
+      → new ≡ with_entries entries m → (run_from (rules_with m.config limits n) w (events_of i entries)).now i ≡ state_of new
+  change-in-world m new entries limits n i w l own here valid is =
+      entries-are m.config limits n i l own entries m w here
       (meaning-holdable m.config (with_entries entries m) (same-config entries m) (subst IsMeaning is valid))
       ∙ ap state_of (sym is)
 
   -- What a request changes.
-  pub request-in-world : (text : List ℕ) (state : StateRun) (n i : ℕ) (w : World) → i < n → w.now i ≡ state_of state.old.meaning
-      → IsMeaning state.new.meaning → JournalsChange text state → BringsTo (replica_in (rules_of state.old.meaning.config n) w i) text state.new.meaning
-  request-in-world text state n i w l here valid change = record {
+  pub request-in-world : (text : List ℕ) (state : StateRun) (limits : ℕ → Limits) (n i : ℕ) (w : World) → i < n
+      → limits i ≡ state.old.meaning.config.limits → w.now i ≡ state_of state.old.meaning
+      → IsMeaning state.new.meaning → JournalsChange text state
+      → BringsTo (replica_in (rules_with state.old.meaning.config limits n) w i) text state.new.meaning
+  request-in-world text state limits n i w l own here valid change = record {
     entries = change.entries;
     each = change.lines.each;
     spelt = change.lines.spelt;
-    holds = change-in-world state.old.meaning state.new.meaning change.entries n i w l here valid change.meaning;
+    holds = change-in-world state.old.meaning state.new.meaning change.entries limits n i w l own here valid change.meaning;
   }
 
   -- What a piece of an answer changes.
-  pub piece-in-world : (old new : Meaning) (before after : List ℕ) (n i : ℕ) (w : World) → i < n → w.now i ≡ state_of old → IsMeaning new
-      → Journals old new before after → AppendsTo (replica_in (rules_of old.config n) w i) before after new
-  piece-in-world old new before after n i w l here valid (inl same) = record {
+  pub piece-in-world : (old new : Meaning) (before after : List ℕ) (limits : ℕ → Limits) (n i : ℕ) (w : World) → i < n
+      → limits i ≡ old.config.limits → w.now i ≡ state_of old → IsMeaning new
+      → Journals old new before after → AppendsTo (replica_in (rules_with old.config limits n) w i) before after new
+  piece-in-world old new before after limits n i w l own here valid (inl same) = record {
     text = [];
     appended = same.1 ∙ sym (append-nil before);
     brings = record { entries = []; each = tt; spelt = refl; holds = here ∙ ap state_of (sym same.0) };
   }
-  piece-in-world old new before after n i w l here valid (inr one) = record {
+  piece-in-world old new before after limits n i w l own here valid (inr one) = record {
     text = entry_text one.entry;
     appended = one.text;
     brings = record {
       entries = one.entry ∷ [];
       each = (one.form, tt);
       spelt = sym (append-nil (entry_text one.entry));
-      holds = change-in-world old new (one.entry ∷ []) n i w l here valid one.meaning;
+      holds = change-in-world old new (one.entry ∷ []) limits n i w l own here valid one.meaning;
     };
   }
 
 -- ---- what is sent
 
 -- The have that a replica makes is the one that it sends by asking.
-pub asks-in-world : (m : Meaning) (n i bucket : ℕ) (w : World) → i < n → bucket ≤ 255 → w.now i ≡ state_of m
-    → happens (rules_of m.config n) w (Ask i bucket) ≡ apply (limits_of m.config) w (sends (sent_have i (have_of m bucket)))
-asks-in-world m n i bucket w l low here =
-    asked-is (rules_of m.config n) w i bucket l low
+pub asks-in-world : (m : Meaning) (rules : Rules) (i bucket : ℕ) (w : World) → i < rules.replicas → bucket ≤ 255 → w.now i ≡ state_of m
+    → happens rules w (Ask i bucket) ≡ apply rules.limits w (sends (sent_have i (have_of m bucket)))
+asks-in-world m rules i bucket w l low here =
+    asked-is rules w i bucket l low
     ∙ ap (λ (state : State). with_message w (have_sent i bucket (ids_named state bucket))) here
 
 -- The answer that a replica makes is the one that it sends by answering.
-pub answers-in-world : (m : Meaning) (have : HaveMessage) (n i asker place : ℕ) (w : World) → i < n → w.now i ≡ state_of m
+pub answers-in-world : (m : Meaning) (have : HaveMessage) (rules : Rules) (i asker place : ℕ) (w : World) → i < rules.replicas → w.now i ≡ state_of m
     → slice_get w.sent place ≡ Some (sent_have asker have)
-    → happens (rules_of m.config n) w (Answer i place) ≡ apply (limits_of m.config) w (sends (sent_give i place (give_of m have)))
-answers-in-world m have n i asker place w l here there =
-    answered-is (rules_of m.config n) w asker i have.bucket place have.ids l there
+    → happens rules w (Answer i place) ≡ apply rules.limits w (sends (sent_give i place (give_of m have)))
+answers-in-world m have rules i asker place w l here there =
+    answered-is rules w asker i have.bucket place have.ids l there
     ∙ ap (λ (state : State). with_message w (give_sent i place (content_of state have.bucket have.ids))) here

@@ -8,6 +8,7 @@ use Rattle.std.proofs.lemmas.List.{length-map, take-map}
 use Rattle.std.proofs.lemmas.List.Sums.{fold-append}
 use Rattle.std.specs.List.{AllByRecursion}
 use Rattle.fed_config.specs.Configuration.{Configuration}
+use Rattle.fed_config.specs.declared.limits.Limits.{Limits}
 use Rattle.receipt_core.specs.Acceptance.{IsMeaning, Meaning}
 use Rattle.receipt_core.specs.Order.{distrust_total, receipt_total}
 use Rattle.receipt_core.specs.declared.distrust.Distrust.{Distrust}
@@ -19,7 +20,7 @@ use Rattle.replica_core.specs.Absorbing.{entries_of, of_receipts, of_records, wi
 use Rattle.replica_core.specs.Convergence.{IsPartOf}
 use Rattle.replica_core.specs.Session.{state_of}
 use Rattle.replica_core.specs.State.{State, first_of, is_within_limits, joined, limits_of}
-use Rattle.replica_core.specs.World.{Message, Rules, World, apply, gained, give_sent, happens, rules_of, takes_part, where_so, with_state}
+use Rattle.replica_core.specs.World.{Message, Rules, World, apply, gained, give_sent, happens, takes_part, where_so, with_state}
 use Rattle.replica_core.specs.declared.entry.Entry.{Entry}
 use Rattle.replica_core.specs.declared.entry.Entry.TheVariants.{Record, Receipt as AReceipt}
 use Rattle.replica_core.specs.declared.event.Event.TheVariants.{Absorb, Part}
@@ -198,21 +199,21 @@ piece-config config (d ∷ front) back c each = piece-config config front back c
 
 -- A replica that takes first lines of an answer within the limits joins them.
 part-joins : (rules : Rules) (w : World) (i n j k count : ℕ) (content state : State) → i < rules.replicas → w.now i ≡ state
-    → slice_get w.sent n ≡ Some (give_sent j k content) → is_within_limits rules.limits (joined state (first_of count content)) ≡ true
+    → slice_get w.sent n ≡ Some (give_sent j k content) → is_within_limits (rules.limits i) (joined state (first_of count content)) ≡ true
     → happens rules w (Part i n count) ≡ with_state w i (joined state (first_of count content))
 part-joins rules w i n j k count content state l here e room =
     let gain = first_of count content in
     ap (λ (b : Bool). apply rules.limits w (where_so b (takes_part i count (slice_get w.sent n)))) (replica-true rules i l)
     ∙ ap (λ (f : Option Message). apply rules.limits w (takes_part i count f)) e
-    ∙ ap (λ (b : Bool). gained b w i (joined (w.now i) gain)) (ap (λ (s : State). is_within_limits rules.limits (joined s gain)) here ∙ room)
+    ∙ ap (λ (b : Bool). gained b w i (joined (w.now i) gain)) (ap (λ (s : State). is_within_limits (rules.limits i) (joined s gain)) here ∙ room)
     ∙ ap (λ (s : State). with_state w i (joined s gain)) here
 
 -- A replica that takes a whole answer within the limits joins it.
 whole-joins : (rules : Rules) (w : World) (i n j k : ℕ) (content state : State) → i < rules.replicas → w.now i ≡ state
-    → slice_get w.sent n ≡ Some (give_sent j k content) → is_within_limits rules.limits (joined state content) ≡ true
+    → slice_get w.sent n ≡ Some (give_sent j k content) → is_within_limits (rules.limits i) (joined state content) ≡ true
     → happens rules w (Absorb i n) ≡ with_state w i (joined state content)
 whole-joins rules w i n j k content state l here e room =
-    absorbed-is rules w i j n k content l e (ap (λ (s : State). is_within_limits rules.limits (joined s content)) here ∙ room)
+    absorbed-is rules w i j n k content l e (ap (λ (s : State). is_within_limits (rules.limits i) (joined s content)) here ∙ room)
     ∙ ap (λ (s : State). with_state w i (joined s content)) here
 
 -- what a replica can mean is within the limits
@@ -231,19 +232,20 @@ turn-of config bucket g front back c amid e =
     )
 
 -- A piece of an answer is the taking of a number of its first lines.
-pub pieces-in-world : (config : Configuration) (bucket n i answerer have place : ℕ) (w : World) (g : PulledGive)
-    (front back : List PulledPiece) (c : PulledPiece) → i < n → IsPulledAmid config bucket g → pieces_of g ≡ front ++ c ∷ back → w.now i ≡ state_of c.old
+pub pieces-in-world : (config : Configuration) (rules : Rules) (bucket i answerer have place : ℕ) (w : World) (g : PulledGive)
+    (front back : List PulledPiece) (c : PulledPiece) → i < rules.replicas → rules.limits i ≡ limits_of config
+    → IsPulledAmid config bucket g → pieces_of g ≡ front ++ c ∷ back → w.now i ≡ state_of c.old
     → slice_get w.sent place ≡ Some (sent_give answerer have g.give)
-    → (count : ℕ) × (happens (rules_of config n) w (Part i place count) ≡ with_state w i (state_of c.new))
-pieces-in-world config bucket n i answerer have place w g front back c l amid e here sent =
+    → (count : ℕ) × (happens rules w (Part i place count) ≡ with_state w i (state_of c.new))
+pieces-in-world config rules bucket i answerer have place w g front back c l own amid e here sent =
     let found = turn-of config bucket g front back c amid e in
     let turn = found.0 in
     let content = g.give.content in
     let same : joined (state_of c.old) (first_of (length turn.taken) content) ≡ state_of c.new =
     first-joined content turn.taken turn.rest c.old turn.parts ∙ ap state_of turn.is in (
       length turn.taken,
-      part-joins (rules_of config n) w i place answerer have (length turn.taken) content (state_of c.old) l here sent
-          (ap (is_within_limits (limits_of config)) same
+      part-joins rules w i place answerer have (length turn.taken) content (state_of c.old) l here sent
+          (ap (is_within_limits (rules.limits i)) same ∙ ap (λ (limits : Limits). is_within_limits limits (state_of c.new)) own
           ∙ meaning-fits config c.new (ap (λ (m : Meaning). m.config) (sym turn.is) ∙ same-config turn.taken c.old ∙ found.1.own) found.1.new)
           ∙ ap (with_state w i) same,
     )
@@ -254,11 +256,12 @@ none-left [] takes = refl
 none-left (entry ∷ entries) takes = absurd takes
 
 -- The last piece of an answer is the taking of it.
-pub last-in-world : (config : Configuration) (bucket n i answerer have place : ℕ) (w : World) (g : PulledGive) → i < n → IsPulledAmid config bucket g
+pub last-in-world : (config : Configuration) (rules : Rules) (bucket i answerer have place : ℕ) (w : World) (g : PulledGive)
+    → i < rules.replicas → rules.limits i ≡ limits_of config → IsPulledAmid config bucket g
     → w.now i ≡ state_of g.last.old → slice_get w.sent place ≡ Some (sent_give answerer have g.give)
-    → (is_within_limits (limits_of config) (joined (w.now i) g.give.content) ≡ true)
-    × (happens (rules_of config n) w (Absorb i place) ≡ with_state w i (state_of g.last.new))
-last-in-world config bucket n i answerer have place w g l amid here sent =
+    → (is_within_limits (rules.limits i) (joined (w.now i) g.give.content) ≡ true)
+    × (happens rules w (Absorb i place) ≡ with_state w i (state_of g.last.new))
+last-in-world config rules bucket i answerer have place w g l own amid here sent =
     let found = turn-of config bucket g g.before [] g.last amid refl in
     let turn = found.0 in
     let all : entries_of g.give.content ≡ turn.taken =
@@ -266,8 +269,9 @@ last-in-world config bucket n i answerer have place w g l amid here sent =
     let same : joined (state_of g.last.old) g.give.content ≡ state_of g.last.new =
     sym (with-content g.last.old g.give.content) ∙ ap (λ (entries : List Entry). state_of (with_entries entries g.last.old)) all
     ∙ ap state_of turn.is in
-    let room = ap (is_within_limits (limits_of config)) same ∙ meaning-fits config g.last.new
+    let room = ap (is_within_limits (rules.limits i)) same ∙ ap (λ (limits : Limits). is_within_limits limits (state_of g.last.new)) own
+    ∙ meaning-fits config g.last.new
     (ap (λ (m : Meaning). m.config) (sym turn.is) ∙ same-config turn.taken g.last.old ∙ found.1.own) found.1.new in (
-      ap (λ (state : State). is_within_limits (limits_of config) (joined state g.give.content)) here ∙ room,
-      whole-joins (rules_of config n) w i place answerer have g.give.content (state_of g.last.old) l here sent room ∙ ap (with_state w i) same,
+      ap (λ (state : State). is_within_limits (rules.limits i) (joined state g.give.content)) here ∙ room,
+      whole-joins rules w i place answerer have g.give.content (state_of g.last.old) l here sent room ∙ ap (with_state w i) same,
     )

@@ -3,13 +3,14 @@
 ghost use Rattle.std.specs.Prelude.{◌≡◌, ◌≢◌, ◌<◌, ◌≤◌, ◌++◌, ◌∷◌, List, Some, slice_get};
 ghost use Rattle.std.specs.Prelude.{true, ℕ};
 ghost use Rattle.fed_config.specs.Configuration.{Configuration};
+ghost use Rattle.fed_config.specs.declared.limits.Limits.{Limits};
 ghost use Rattle.receipt_core.specs.Acceptance.{Meaning, IsMeaning};
 ghost use Rattle.replica_core.specs.Absorbing.{with_entries};
 ghost use Rattle.replica_core.specs.Convergence.{IsPartOf};
 ghost use Rattle.replica_core.specs.Session.{HaveMessage, give_of, have_of, state_of};
 ghost use Rattle.replica_core.specs.State.{is_within_limits, joined, limits_of};
-ghost use Rattle.replica_core.specs.World.{Rules, World, apply, happens, rules_of, run_from, sends};
-ghost use Rattle.replica_core.specs.World.{with_state};
+ghost use Rattle.replica_core.specs.World.{Rules, World, apply, happens, rules_with, run_from};
+ghost use Rattle.replica_core.specs.World.{sends, with_state};
 ghost use Rattle.replica_core.specs.declared.entry.Entry.{Entry};
 ghost use Rattle.replica_core.specs.declared.event.Event.TheVariants.{Absorb, Answer, Ask, Part};
 ghost use Rattle.replica_sync.specs.PulledPieces.{Journals, PulledGive, PulledPiece, pieces_of};
@@ -19,8 +20,9 @@ ghost use Rattle.local_answers.specs.ChangeEvents.{sent_give, sent_have};
 ghost use Rattle.local_answers.specs.Journalling.{JournalsChange};
 ghost use Rattle.fedbundle.specs.CommandRun.{StateRun};
 
-/// A running replica is one of a world of replicas with one configuration, whatever changes between
-/// two of its messages: what changes is a list of events, and each message is one.
+/// A running replica is one of a world of replicas with one configuration, each with limits of its
+/// own, whatever changes between two of its messages: what changes is a list of events, and each
+/// message is one.
 ///
 /// - `changes`: if receipts and records are added, the replica holds what it holds in the world
 ///   after their events, in this order.
@@ -32,29 +34,32 @@ ghost use Rattle.fedbundle.specs.CommandRun.{StateRun};
 /// - `asks`: the have that it makes about a bucket is what it sends in the world by asking.
 /// - `answers`: the answer that it makes to a have is what it sends in the world by answering.
 pub fn world_of_changes()
-    ensures changes { (m new : Meaning) (entries : List Entry) (n i : ℕ) (w : World) → i < n
+    ensures changes { (m new : Meaning) (entries : List Entry) (limits : ℕ → Limits) (n i : ℕ)
+        (w : World) → i < n → limits i ≡ m.config.limits
         → w.now i ≡ state_of m → IsMeaning new → new ≡ with_entries entries m
-        → (run_from (rules_of m.config n) w (events_of i entries)).now i ≡ state_of new }
-    ensures requested { (text : List ℕ) (state : StateRun) (n i : ℕ) (w : World) → i < n
-        → w.now i ≡ state_of state.old.meaning → IsMeaning state.new.meaning
-        → JournalsChange text state
-        → BringsTo (replica_in (rules_of state.old.meaning.config n) w i) text state.new.meaning }
-    ensures pulled { (old new : Meaning) (before after : List ℕ) (n i : ℕ) (w : World) → i < n
+        → (run_from (rules_with m.config limits n) w (events_of i entries)).now i ≡ state_of new }
+    ensures requested { (text : List ℕ) (state : StateRun) (limits : ℕ → Limits) (n i : ℕ)
+        (w : World) → let old = state.old.meaning in i < n → limits i ≡ old.config.limits
+        → w.now i ≡ state_of old → IsMeaning state.new.meaning → JournalsChange text state
+        → BringsTo (replica_in (rules_with old.config limits n) w i) text state.new.meaning }
+    ensures pulled { (old new : Meaning) (before after : List ℕ) (limits : ℕ → Limits) (n i : ℕ)
+        (w : World) → i < n → limits i ≡ old.config.limits
         → w.now i ≡ state_of old → IsMeaning new → Journals old new before after
-        → AppendsTo (replica_in (rules_of old.config n) w i) before after new }
+        → AppendsTo (replica_in (rules_with old.config limits n) w i) before after new }
     ensures elsewhere { (rules : Rules) (entries : List Entry) (i j : ℕ) (w : World) → j ≢ i
         → (run_from rules w (events_of i entries)).now j ≡ w.now j }
     ensures silent { (rules : Rules) (entries : List Entry) (i : ℕ) (w : World)
         → ((run_from rules w (events_of i entries)).sent ≡ w.sent)
         × ((run_from rules w (events_of i entries)).saved ≡ w.saved) }
-    ensures asks { (m : Meaning) (n i bucket : ℕ) (w : World) → i < n → bucket ≤ 255
-        → w.now i ≡ state_of m
-        → happens (rules_of m.config n) w (Ask i bucket)
-        ≡ apply (limits_of m.config) w (sends (sent_have i (have_of m bucket))) }
-    ensures answers { (m : Meaning) (have : HaveMessage) (n i asker place : ℕ) (w : World)
-        → i < n → w.now i ≡ state_of m → slice_get w.sent place ≡ Some (sent_have asker have)
-        → happens (rules_of m.config n) w (Answer i place)
-        ≡ apply (limits_of m.config) w (sends (sent_give i place (give_of m have))) }
+    ensures asks { (m : Meaning) (rules : Rules) (i bucket : ℕ) (w : World)
+        → i < rules.replicas → bucket ≤ 255 → w.now i ≡ state_of m
+        → happens rules w (Ask i bucket)
+        ≡ apply rules.limits w (sends (sent_have i (have_of m bucket))) }
+    ensures answers { (m : Meaning) (have : HaveMessage) (rules : Rules) (i asker place : ℕ)
+        (w : World) → i < rules.replicas → w.now i ≡ state_of m
+        → slice_get w.sent place ≡ Some (sent_have asker have)
+        → happens rules w (Answer i place)
+        ≡ apply rules.limits w (sends (sent_give i place (give_of m have))) }
 {
     replica_core::laws::effects();
 }
@@ -71,16 +76,19 @@ pub fn world_of_changes()
 pub fn world_of_pieces()
     ensures grows { (m : Meaning) (entries : List Entry)
         → IsPartOf (state_of m) (state_of (with_entries entries m)) }
-    ensures pieces { (config : Configuration) (bucket n i answerer have place : ℕ) (w : World)
-        (g : PulledGive) (front back : List PulledPiece) (c : PulledPiece) → i < n
-        → IsPulledAmid config bucket g → pieces_of g ≡ front ++ (c ∷ back)
-        → w.now i ≡ state_of c.old
+    ensures pieces { (config : Configuration) (rules : Rules)
+        (bucket i answerer have place : ℕ) (w : World)
+        (g : PulledGive) (front back : List PulledPiece) (c : PulledPiece) → i < rules.replicas
+        → rules.limits i ≡ limits_of config → IsPulledAmid config bucket g
+        → pieces_of g ≡ front ++ (c ∷ back) → w.now i ≡ state_of c.old
         → slice_get w.sent place ≡ Some (sent_give answerer have g.give)
-        → ((count : ℕ) × (happens (rules_of config n) w (Part i place count)
+        → ((count : ℕ) × (happens rules w (Part i place count)
         ≡ with_state w i (state_of c.new))) }
-    ensures last_piece { (config : Configuration) (bucket n i answerer have place : ℕ) (w : World)
-        (g : PulledGive) → i < n → IsPulledAmid config bucket g → w.now i ≡ state_of g.last.old
+    ensures last_piece { (config : Configuration) (rules : Rules)
+        (bucket i answerer have place : ℕ) (w : World) (g : PulledGive) → i < rules.replicas
+        → rules.limits i ≡ limits_of config → IsPulledAmid config bucket g
+        → w.now i ≡ state_of g.last.old
         → slice_get w.sent place ≡ Some (sent_give answerer have g.give)
-        → (is_within_limits (limits_of config) (joined (w.now i) g.give.content) ≡ true)
-        × (happens (rules_of config n) w (Absorb i place) ≡ with_state w i (state_of g.last.new)) }
+        → (is_within_limits (rules.limits i) (joined (w.now i) g.give.content) ≡ true)
+        × (happens rules w (Absorb i place) ≡ with_state w i (state_of g.last.new)) }
 {}

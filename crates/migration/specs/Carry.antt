@@ -10,6 +10,7 @@ use Rattle.fed_config.specs.Configuration.{Configuration, HasDomain}
 use Rattle.receipt_core.specs.declared.distrust.Distrust.{Distrust}
 use Rattle.receipt_core.specs.Receipt.{Receipt, receipt_id_of}
 use Rattle.receipt_core.specs.Acceptance.{IsFitting, Meaning, IsMeaning}
+use Rattle.closure_core.specs.Alike.{with_limits}
 use Rattle.closure_core.specs.Refusals.{IsOfUnknownDomain, IsOfWrongEndpoint, IsBelowFloor}
 use Rattle.migration.specs.declared.carrying.Choice.{Choice}
 use Rattle.migration.specs.declared.carrying.Choice.TheVariants.{All, RecordsOnly}
@@ -18,7 +19,7 @@ use Rattle.migration.specs.declared.carrying.Choice.TheVariants.{All, RecordsOnl
 
 -- the other configuration, with the limits under which all was held that is carried over
 abbrev pub config_for : Meaning → Configuration → Configuration
-config_for m c = record c { limits = m.config.limits }
+config_for m c = with_limits c m.config.limits
 
 -- the receipts that are to be carried over
 abbrev pub chosen_receipts : Choice → Meaning → List Receipt

@@ -12,7 +12,7 @@ use Rattle.fed_config.specs.Configuration.{Configuration, IsConfiguration}
 use Rattle.receipt_core.specs.declared.distrust.Distrust.{Distrust}
 use Rattle.receipt_core.specs.declared.triple.Triple.{Triple}
 use Rattle.receipt_core.specs.Receipt.{Receipt, Pair, pair_of, IsReceipt}
-use Rattle.receipt_core.specs.Acceptance.{Meaning, IsMeaning, IsFitting, IsReleased, pair_of_seed}
+use Rattle.receipt_core.specs.Acceptance.{IsMeaning, IsReleased, pair_of_seed}
 use Rattle.receipt_core.proofs.LimitFacts.{receipt_limit-most}
 use Rattle.closure_parts.proofs.PlaceFacts.{slice_get-left, slice_get-append_cases, slice_get-map_cases}
 use Rattle.closure_parts.proofs.PlaceFacts.{slice_get-push_cases}
@@ -28,28 +28,13 @@ use Rattle.closure_core.proofs.FlagFacts.{gain-from_flags, count-fewer}
 use Rattle.closure_parts.proofs.PairFacts.{pairing-counts}
 use Rattle.closure_parts.proofs.HeldChangeFacts.{same-more, pairs-push, with_arrival, hoard-before, with_mistrust, distrust-sets, always-all}
 use Rattle.closure_core.proofs.NodeFacts.{length-flags}
-use Rattle.closure_core.proofs.MemberFacts.{member_more}
+use Rattle.closure_core.proofs.MemberFacts.{released_more}
+use Rattle.closure_core.proofs.AlikeFacts.{same_of_equal}
 use Rattle.plain_closure.proofs.PlainFacts.{item_at, plain-reports}
 
 -- A flag that is raised is one of those that there are.
 raised-within : (flags : List Bool) (k : ℕ) → is_raised flags k ≡ true → k < length flags
 raised-within flags k e = elim (cases_lt k (length flags)) [ inl l ↦ l | inr l ↦ absurd (both_ways (is_raised flags k) (get_or_past flags k false l) e) ]
-
--- With more receipts, and with fewer records of distrust, what was released is still released.
-released-more : (m n : Meaning) → m.config ≡ n.config → ((r : Receipt) → Contains m.held r → Contains n.held r)
-    → ((x : Distrust) → Contains n.records x → Contains m.records x) → (r : Receipt) → IsReleased m r → IsReleased n r
-released-more m n same more fewer r is = record {
-  held = more r is.held;
-  fits = subst (λ (c : Configuration). IsFitting c r) same is.fits;
-  voucher = is.voucher;
-  accepted = member_more m n same more fewer is.voucher is.accepted;
-  vouches = record {
-    endpoint = is.vouches.endpoint;
-    voucher = is.vouches.voucher;
-    key = is.vouches.key;
-    trusted = λ h. is.vouches.trusted (fewer _ h);
-  };
-}
 
 -- ---- from one closure to another
 
@@ -174,7 +159,7 @@ pub release-more : (h new : HeldReceipts) (r : Receipt) → IsMeaning (meaning_o
     → IsReleased (meaning_of h) s → IsReleased (meaning_of new) s
 release-more h new r valid form same is s released =
     subst (λ (x : HeldReceipts). IsReleased (meaning_of x) s) (sym is)
-    (released-more (meaning_of h) (meaning_of (with_arrival h r)) refl
+    (released_more (meaning_of h) (meaning_of (with_arrival h r)) (same_of_equal h.config h.config refl)
     (λ t c. (same-more h r valid form same t).1 (Contains-append_left h.arrived (r ∷ []) t ((same t).0 c)))
     (λ x c. c) s released)
 
@@ -220,7 +205,8 @@ set-closed old new xs p offers released lowered s before valid size =
 pub release-fewer : (old new : HeldReceipts) (xs : List Distrust) → IsBefore old xs new → (s : Receipt)
     → IsReleased (meaning_of new) s → IsReleased (meaning_of old) s
 release-fewer old new xs before s released =
-    released-more (meaning_of new) (meaning_of old) before.config (λ t c. subst (λ (ts : List Receipt). Contains ts t) before.held c)
+    released_more (meaning_of new) (meaning_of old) (same_of_equal new.config old.config before.config)
+    (λ t c. subst (λ (ts : List Receipt). Contains ts t) before.held c)
     (λ y c. subst (λ (ys : List Distrust). Contains ys y) (sym before.records)
     ((distrust-sets.all_members xs old.records y (always-all xs) (always-all old.records)).1
     (inr c))) s released

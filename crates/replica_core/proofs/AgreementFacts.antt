@@ -117,7 +117,7 @@ quiet-admits_all rules P Q place (Restart i) h = tt
 -- what is known of the world when the quiet begins
 pub record IsStart (rules : Rules) (w : World) : Type 0 where
   pub forms : IsKept IsReceipt IsDistrust 0 ⊤ w
-  pub tidy : Throughout (λ i state. IsTidy rules.limits state) w
+  pub tidy : Throughout (λ i state. IsTidy (rules.limits i) state) w
   pub outside : Throughout (IsOutside rules) w
 
 -- some replica holds the receipt
@@ -338,7 +338,7 @@ all-records laws rules w since i start s l x h =
 -- So any two replicas hold the same: both hold what was held anywhere at the start, and nothing
 -- else.
 pub agree : (laws : Laws) (rules : Rules) (w : World) (since : List Event) (i j : ℕ) → IsStart rules w
-    → Throughout (λ k state. IsTidy rules.limits state) (run_from rules w since)
+    → Throughout (λ k state. IsTidy (rules.limits k) state) (run_from rules w since)
     → Settles rules w since → i < rules.replicas → j < rules.replicas → (run_from rules w since).now i ≡ (run_from rules w since).now j
 agree laws rules w since i j start tidy s l m =
     let end = run_from rules w since in

@@ -125,7 +125,8 @@ pub part-event : (laws : Laws) (rules : Rules) (w : World) (i : ℕ) (event : Ev
 part-event laws rules w i event d =
     covered rules w event (λ effect. IsPartOf (w.now i) ((apply rules.limits w effect).now i)) (record {
       idle = part-refl (w.now i);
-      more = λ k gain e. part-gained (is_within_limits rules.limits (joined (w.now k) gain)) w i k (joined (w.now k) gain) (part-joined laws (w.now k) gain);
+      more = λ k gain e. part-gained (is_within_limits (rules.limits k) (joined (w.now k) gain)) w i k (joined (w.now k) gain)
+          (part-joined laws (w.now k) gain);
       stated = λ message. part-refl (w.now i);
       kept = λ k e s. part-refl (w.now i);
       again = λ k e s. subst (IsPartOf (w.now i)) (sym (at-other i k (w.saved k) w.now (λ f. d (s ∙ ap Restart (sym f))))) (part-refl (w.now i));
@@ -152,9 +153,10 @@ sent-gained true w k state = refl
 sent-gained false w k state = refl
 
 -- No effect takes back a message.
-sent-applied : (limits : Limits) (w : World) (effect : Effect) → (rest : List Message) × ((apply limits w effect).sent ≡ w.sent ++ rest)
+sent-applied : (limits : ℕ → Limits) (w : World) (effect : Effect) → (rest : List Message) × ((apply limits w effect).sent ≡ w.sent ++ rest)
 sent-applied limits w nothing = front-refl w
-sent-applied limits w (gains k gain) = ([], sent-gained (is_within_limits limits (joined (w.now k) gain)) w k (joined (w.now k) gain) ∙ sym (append-nil w.sent))
+sent-applied limits w (gains k gain) =
+    ([], sent-gained (is_within_limits (limits k) (joined (w.now k) gain)) w k (joined (w.now k) gain) ∙ sym (append-nil w.sent))
 sent-applied limits w (sends message) = (message ∷ [], refl)
 sent-applied limits w (saves k) = front-refl w
 sent-applied limits w (restarts k) = front-refl w
@@ -186,7 +188,7 @@ saved-event : (rules : Rules) (w : World) (i : ℕ) (event : Event) → event �
 saved-event rules w i event d =
     covered rules w event (λ effect. (apply rules.limits w effect).saved i ≡ w.saved i) (record {
       idle = refl;
-      more = λ k gain e. saved-gained (is_within_limits rules.limits (joined (w.now k) gain)) w i k (joined (w.now k) gain);
+      more = λ k gain e. saved-gained (is_within_limits (rules.limits k) (joined (w.now k) gain)) w i k (joined (w.now k) gain);
       stated = λ message. refl;
       kept = λ k e s. at-other i k (w.now k) w.saved (λ f. d (s ∙ ap Save (sym f)));
       again = λ k e s. refl;

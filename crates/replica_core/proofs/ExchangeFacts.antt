@@ -60,7 +60,7 @@ answered-with false rules w i j b k ids l e = receipts-is rules w i j b k ids l 
 
 -- A replica that takes an answer within the limits joins its content.
 pub absorbed-is : (rules : Rules) (w : World) (i j n k : ℕ) (content : State) → i < rules.replicas → slice_get w.sent n ≡ Some (give_sent j k content)
-    → is_within_limits rules.limits (joined (w.now i) content) ≡ true
+    → is_within_limits (rules.limits i) (joined (w.now i) content) ≡ true
     → happens rules w (Absorb i n) ≡ with_state w i (joined (w.now i) content)
 absorbed-is rules w i j n k content l e t =
     ap (λ (b : Bool). apply rules.limits w (where_so b (takes_whole i (slice_get w.sent n)))) (replica-true rules i l)
@@ -83,7 +83,7 @@ answered-here full rules w i j b k ids l e =
 
 -- The taking of an answer within the limits joins its content.
 absorbed-here : (rules : Rules) (w : World) (i j n k : ℕ) (content : State) → i < rules.replicas → slice_get w.sent n ≡ Some (give_sent j k content)
-    → is_within_limits rules.limits (joined (w.now i) content) ≡ true → (happens rules w (Absorb i n)).now i ≡ joined (w.now i) content
+    → is_within_limits (rules.limits i) (joined (w.now i) content) ≡ true → (happens rules w (Absorb i n)).now i ≡ joined (w.now i) content
 absorbed-here rules w i j n k content l e t =
     ap (λ (v : World). v.now i) (absorbed-is rules w i j n k content l e t) ∙ at-here i (joined (w.now i) content) w.now
 

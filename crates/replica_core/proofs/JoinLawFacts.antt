@@ -38,7 +38,7 @@ joined-only cmp items set x c =
     ]
 
 -- If all items have a property, they have each weaker one.
-all-map : {A : Type 0} (P Q : A → Type 0) → ((x : A) → P x → Q x) → (xs : List A) → AllByRecursion P xs → AllByRecursion Q xs
+pub all-map : {A : Type 0} (P Q : A → Type 0) → ((x : A) → P x → Q x) → (xs : List A) → AllByRecursion P xs → AllByRecursion Q xs
 all-map P Q pq [] h = tt
 all-map P Q pq (x ∷ xs) h = (pq x h.0, all-map P Q pq xs h.1)
 

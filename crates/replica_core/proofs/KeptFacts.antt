@@ -88,13 +88,14 @@ kept-held laws P Q place A false w i gain h p q = h
 
 -- It remains so when a replica gains what has the properties.
 kept-gains : (laws : Laws) (P : Receipt → Type 0) (Q : Distrust
-    → Type 0) (place : ℕ) (A : Type 0) (limits : Limits) (w : World) (i : ℕ) (gain : State) → IsKept P Q place A w → Keeps P Q gain
+    → Type 0) (place : ℕ) (A : Type 0) (limits : ℕ → Limits) (w : World) (i : ℕ) (gain : State) → IsKept P Q place A w → Keeps P Q gain
     → IsKept P Q place A (apply limits w (gains i gain))
 kept-gains laws P Q place A limits w i gain h g =
-    kept-gained P Q place A (is_within_limits limits (joined (w.now i) gain)) w i (joined (w.now i) gain) h (keeps-joined laws P Q (w.now i) gain (h.now i) g)
+    kept-gained P Q place A (is_within_limits (limits i) (joined (w.now i) gain)) w i (joined (w.now i) gain) h
+    (keeps-joined laws P Q (w.now i) gain (h.now i) g)
 
 -- It remains so when a message is sent that has the properties.
-kept-sends : (P : Receipt → Type 0) (Q : Distrust → Type 0) (place : ℕ) (A : Type 0) (limits : Limits) (w : World) (message : Message)
+kept-sends : (P : Receipt → Type 0) (Q : Distrust → Type 0) (place : ℕ) (A : Type 0) (limits : ℕ → Limits) (w : World) (message : Message)
     → IsKept P Q place A w → KeepsMessage P Q message → IsKept P Q place A (apply limits w (sends message))
 kept-sends P Q place A limits w message h m = record {
   now = h.now;
@@ -103,7 +104,7 @@ kept-sends P Q place A limits w message h m = record {
 }
 
 -- It remains so when a replica saves.
-kept-saves : (P : Receipt → Type 0) (Q : Distrust → Type 0) (place : ℕ) (A : Type 0) (limits : Limits) (w : World) (i : ℕ)
+kept-saves : (P : Receipt → Type 0) (Q : Distrust → Type 0) (place : ℕ) (A : Type 0) (limits : ℕ → Limits) (w : World) (i : ℕ)
     → IsKept P Q place A w → IsKept P Q place A (apply limits w (saves i))
 kept-saves P Q place A limits w i h = record {
   now = h.now;
@@ -112,7 +113,7 @@ kept-saves P Q place A limits w i h = record {
 }
 
 -- It remains so if an effect depends on a test, and it does when the test passes.
-pub kept-where : (P : Receipt → Type 0) (Q : Distrust → Type 0) (place : ℕ) (A : Type 0) (b : Bool) (limits : Limits) (w : World)
+pub kept-where : (P : Receipt → Type 0) (Q : Distrust → Type 0) (place : ℕ) (A : Type 0) (b : Bool) (limits : ℕ → Limits) (w : World)
     (effect : Effect) → IsKept P Q place A w → (b ≡ true → IsKept P Q place A (apply limits w effect))
     → IsKept P Q place A (apply limits w (where_so b effect))
 kept-where P Q place A true limits w effect h g = g refl
@@ -120,7 +121,7 @@ kept-where P Q place A false limits w effect h g = h
 
 -- It remains so when a replica answers.
 kept-sends_give : (P : Receipt → Type 0) (Q : Distrust
-    → Type 0) (place : ℕ) (A : Type 0) (limits : Limits) (w : World) (state : State) (j k : ℕ) (message : Option Message)
+    → Type 0) (place : ℕ) (A : Type 0) (limits : ℕ → Limits) (w : World) (state : State) (j k : ℕ) (message : Option Message)
     → IsKept P Q place A w → Keeps P Q state → IsKept P Q place A (apply limits w (sends_give state j k message))
 kept-sends_give P Q place A limits w state j k None h s = h
 kept-sends_give P Q place A limits w state j k (Some (have_sent asker bucket ids)) h s =
@@ -133,7 +134,7 @@ kept-sends_give P Q place A limits w state j k (Some (sums_sent asker)) h s = h
 kept-sends_give P Q place A limits w state j k (Some (marks_sent answerer other)) h s = h
 
 -- It remains so when a replica answers sums.
-kept-sends_marks : (P : Receipt → Type 0) (Q : Distrust → Type 0) (place : ℕ) (A : Type 0) (limits : Limits) (w : World) (j k : ℕ)
+kept-sends_marks : (P : Receipt → Type 0) (Q : Distrust → Type 0) (place : ℕ) (A : Type 0) (limits : ℕ → Limits) (w : World) (j k : ℕ)
     (message : Option Message) → IsKept P Q place A w → IsKept P Q place A (apply limits w (sends_marks j k message))
 kept-sends_marks P Q place A limits w j k None h = h
 kept-sends_marks P Q place A limits w j k (Some (have_sent asker bucket ids)) h = h
@@ -147,7 +148,7 @@ keeps-without P Q state s = record { receipts = s.receipts; records = λ x c. ab
 
 -- It remains so when a replica takes a whole answer that has the properties.
 kept-whole : (laws : Laws) (P : Receipt → Type 0) (Q : Distrust
-    → Type 0) (place : ℕ) (A : Type 0) (limits : Limits) (w : World) (i : ℕ) (found : Option Message) → IsKept P Q place A w
+    → Type 0) (place : ℕ) (A : Type 0) (limits : ℕ → Limits) (w : World) (i : ℕ) (found : Option Message) → IsKept P Q place A w
     → ((message : Message) → found ≡ Some message → KeepsMessage P Q message)
     → IsKept P Q place A (apply limits w (takes_whole i found))
 kept-whole laws P Q place A limits w i None h s = h
@@ -159,7 +160,7 @@ kept-whole laws P Q place A limits w i (Some (marks_sent answerer other)) h s = 
 
 -- It remains so when a replica takes part of an answer that has the properties.
 kept-part : (laws : Laws) (P : Receipt → Type 0) (Q : Distrust
-    → Type 0) (place : ℕ) (A : Type 0) (limits : Limits) (w : World) (i m : ℕ) (found : Option Message) → IsKept P Q place A w
+    → Type 0) (place : ℕ) (A : Type 0) (limits : ℕ → Limits) (w : World) (i m : ℕ) (found : Option Message) → IsKept P Q place A w
     → ((message : Message) → found ≡ Some message → KeepsMessage P Q message)
     → IsKept P Q place A (apply limits w (takes_part i m found))
 kept-part laws P Q place A limits w i m None h s = h

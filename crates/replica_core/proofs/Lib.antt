@@ -1,6 +1,6 @@
 pub mod ContainsFacts
 pub mod RisingListFacts
-mod JoinLawFacts
+pub mod JoinLawFacts
 mod WorldJoins
 pub mod EventFacts
 mod KeptFacts

@@ -46,7 +46,7 @@ taken-sources laws past before after i r order h =
     let w = run rules before in
     let b = is_replica rules i && rules.fits r in
     kept-where (WasTaken past) (WasRevoked past) 0 ⊤ b rules.limits w (gains i (only_receipt r)) h
-    (λ e. kept-held laws (WasTaken past) (WasRevoked past) 0 ⊤ (is_within_limits rules.limits (joined (w.now i) (only_receipt r))) w i (only_receipt r) h
+    (λ e. kept-held laws (WasTaken past) (WasRevoked past) 0 ⊤ (is_within_limits (rules.limits i) (joined (w.now i) (only_receipt r))) w i (only_receipt r) h
     (λ s c held. elim (contains-cases r [] s c) [
       | inl same ↦
           let there : Contains ((happens rules w (Take i r)).now i).held s =
@@ -73,7 +73,7 @@ revoked-sources laws past before after i x order h =
     let w = run rules before in
     let b = is_replica rules i && rules.knows x.domain in
     kept-where (WasTaken past) (WasRevoked past) 0 ⊤ b rules.limits w (gains i (only_record x)) h
-    (λ e. kept-held laws (WasTaken past) (WasRevoked past) 0 ⊤ (is_within_limits rules.limits (joined (w.now i) (only_record x))) w i (only_record x) h
+    (λ e. kept-held laws (WasTaken past) (WasRevoked past) 0 ⊤ (is_within_limits (rules.limits i) (joined (w.now i) (only_record x))) w i (only_record x) h
     (λ r c held. absurd (contains-none r c))
     (λ s c held. elim (contains-cases x [] s c) [
       | inl same ↦

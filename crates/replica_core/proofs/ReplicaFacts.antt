@@ -12,7 +12,7 @@ use Rattle.receipt_core.specs.declared.distrust.Distrust.{Distrust}
 use Rattle.receipt_core.specs.Receipt.{Receipt, receipt_cmp, distrust_cmp}
 use Rattle.receipt_core.specs.Acceptance.{Meaning, IsMeaning}
 use Rattle.closure_core.specs.Changes.{empty_of}
-use Rattle.replica_core.specs.State.{State, no_state, joined, limits_of, is_within_limits, receipts_lacking, first_of, meaning_of_state}
+use Rattle.replica_core.specs.State.{State, no_state, joined, is_within_limits, receipts_lacking, first_of, meaning_of_state}
 use Rattle.replica_core.specs.Session.{state_of}
 use Rattle.replica_core.specs.World.{Message, have_sent, give_sent, World, rules_of, Effect, gains, sends, saves, restarts, where_so, sends_give, takes_whole}
 use Rattle.replica_core.specs.World.{takes_part, at_replica, gained, apply, happens, is_replica, is_fitting, is_known, AreOf, MeansState}
@@ -51,9 +51,10 @@ module _ {A : Type 0} (meaning : A → Meaning) (config : Configuration) (n : �
   pub plays-sends : (old new : MemoryReplicas A) (w : World) (i : ℕ) (stated : Sent) (message : Message) → i < n → Plays meaning config n old w
       → new.held.items ≡ old.held.items → new.saved.items ≡ old.saved.items
       → new.sent.items ≡ old.sent.items ++ stated ∷ [] → message_of stated ≡ message → IsSound config message
-      → Plays meaning config n new (apply (limits_of config) w (where_so (is_replica (rules_of config n) i) (sends message)))
+      → Plays meaning config n new (apply (rules_of config n).limits w (where_so (is_replica (rules_of config n) i) (sends message)))
   plays-sends old new w i stated message l h held saved sent says sound =
-      subst (λ b. Plays meaning config n new (apply (limits_of config) w (where_so b (sends message)))) (sym (replica-true (rules_of config n) i l)) (record {
+      subst (λ b. Plays meaning config n new (apply (rules_of config n).limits w (where_so b (sends message))))
+      (sym (replica-true (rules_of config n) i l)) (record {
         held = subst (λ closures. AreOf (MeansState meaning config) n closures w.now) (sym held) h.held;
         saved = subst (λ closures. AreOf (MeansState meaning config) n closures w.saved) (sym saved) h.saved;
         sent = ap (map message_of) sent ∙ map-append message_of old.sent.items (stated ∷ []) ∙ (λ ι. h.sent ι ++ says ι ∷ []);
@@ -61,7 +62,7 @@ module _ {A : Type 0} (meaning : A → Meaning) (config : Configuration) (n : �
       })
 
   -- The closures still represent the world after a replica saved.
-  pub plays-saves : (b : Bool) (limits : Limits) (old new : MemoryReplicas A) (w : World) (i : ℕ) → Plays meaning config n old w
+  pub plays-saves : (b : Bool) (limits : ℕ → Limits) (old new : MemoryReplicas A) (w : World) (i : ℕ) → Plays meaning config n old w
       → new.held.items ≡ old.held.items → new.sent.items ≡ old.sent.items
       → AreOf (MeansState meaning config) n new.saved.items (cond b (at_replica i (w.now i) w.saved) w.saved) → Plays meaning config n new
       (apply limits w (where_so b (saves i)))
@@ -79,7 +80,7 @@ module _ {A : Type 0} (meaning : A → Meaning) (config : Configuration) (n : �
   }
 
   -- The closures still represent the world after a replica restarted.
-  pub plays-restarts : (b : Bool) (limits : Limits) (old new : MemoryReplicas A) (w : World) (i : ℕ) → Plays meaning config n old w
+  pub plays-restarts : (b : Bool) (limits : ℕ → Limits) (old new : MemoryReplicas A) (w : World) (i : ℕ) → Plays meaning config n old w
       → new.saved.items ≡ old.saved.items → new.sent.items ≡ old.sent.items
       → AreOf (MeansState meaning config) n new.held.items (cond b (at_replica i (w.saved i) w.now) w.now) → Plays meaning config n new
       (apply limits w (where_so b (restarts i)))
@@ -113,12 +114,12 @@ nothing-kept w i true = (λ ι. record w { now = λ j. stays i w.now j ι })
 nothing-kept w i false = refl
 
 -- To gain nothing if a test passes changes nothing.
-nothing-gained : (limits : Limits) (w : World) (i : ℕ) (b : Bool) → apply limits w (where_so b (gains i no_state)) ≡ w
-nothing-gained limits w i true = nothing-kept w i (is_within_limits limits (joined (w.now i) no_state))
+nothing-gained : (limits : ℕ → Limits) (w : World) (i : ℕ) (b : Bool) → apply limits w (where_so b (gains i no_state)) ≡ w
+nothing-gained limits w i true = nothing-kept w i (is_within_limits (limits i) (joined (w.now i) no_state))
 nothing-gained limits w i false = refl
 
 -- A gain that is nothing if a test fails is one that depends on the test.
-gains-where : (limits : Limits) (w : World) (i : ℕ) (b fit : Bool) (gain whole : State) → (fit ≡ true → gain ≡ whole) → (fit ≡ false → gain ≡ no_state)
+gains-where : (limits : ℕ → Limits) (w : World) (i : ℕ) (b fit : Bool) (gain whole : State) → (fit ≡ true → gain ≡ whole) → (fit ≡ false → gain ≡ no_state)
     → apply limits w (where_so b (gains i gain)) ≡ apply limits w (where_so (b && fit) (gains i whole))
 gains-where limits w i true true gain whole h k = ap (λ s. apply limits w (gains i s)) (h refl)
 gains-where limits w i false true gain whole h k = refl
@@ -129,7 +130,7 @@ gains-where limits w i false false gain whole h k = refl
 pub receipt-gains : (config : Configuration) (n : ℕ) (w : World) (i : ℕ) (r : Receipt) (fresh more : Meaning) → fresh ≡ empty_of config
     → (is_fitting fresh.config r ≡ false → more ≡ fresh)
     → ((later : List Receipt) → CanHold fresh.config (fresh.held ++ r ∷ later) → more ≡ record fresh { held = fresh.held ++ r ∷ [] })
-    → (more.config ≡ config) × (apply (limits_of config) w (where_so (is_replica (rules_of config n) i) (gains i (state_of more))) ≡ happens
+    → (more.config ≡ config) × (apply (rules_of config n).limits w (where_so (is_replica (rules_of config n) i) (gains i (state_of more))) ≡ happens
     (rules_of config n) w (Take i r))
 receipt-gains config n w i r fresh more e unfit next =
     let without : is_fitting config r ≡ false → more ≡ empty_of config = subst (λ (m : Meaning). is_fitting m.config r ≡ false → more ≡ m) e unfit in
@@ -138,7 +139,7 @@ receipt-gains config n w i r fresh more e unfit next =
     let with : is_fitting config r ≡ true → more ≡ record { config = config; held = r ∷ []; records = [] } =
     (λ t. follows [] (record { fitting = (fits-from config r t, tt); rising = one-rising receipt_cmp r; few = receipt_limit-least config })) in (
       elim (cases_Bool (is_fitting config r)) [ inl t ↦ ap (λ (m : Meaning). m.config) (with t) | inr f ↦ ap (λ (m : Meaning). m.config) (without f) ],
-      gains-where (limits_of config) w i (is_replica (rules_of config n) i) (is_fitting config r) (state_of more)
+      gains-where (rules_of config n).limits w i (is_replica (rules_of config n) i) (is_fitting config r) (state_of more)
           (record { held = r ∷ []; records = [] }) (λ t. ap state_of (with t)) (λ f. ap state_of (without f)),
     )
 
@@ -146,7 +147,7 @@ receipt-gains config n w i r fresh more e unfit next =
 pub record-gains : (config : Configuration) (n : ℕ) (w : World) (i : ℕ) (x : Distrust) (fresh more : Meaning) → fresh ≡ empty_of config
     → (is_known fresh.config x.domain ≡ false → more ≡ fresh)
     → ((later : List Distrust) → CanHoldRecords fresh.config (fresh.records ++ x ∷ later) → more ≡ record fresh { records = fresh.records ++ x ∷ [] })
-    → (more.config ≡ config) × (apply (limits_of config) w (where_so (is_replica (rules_of config n) i) (gains i (state_of more))) ≡ happens
+    → (more.config ≡ config) × (apply (rules_of config n).limits w (where_so (is_replica (rules_of config n) i) (gains i (state_of more))) ≡ happens
     (rules_of config n) w (Revoke i x))
 record-gains config n w i x fresh more e unfit next =
     let without : is_known config x.domain ≡ false → more ≡ empty_of config = subst (λ (m : Meaning). is_known m.config x.domain ≡ false → more ≡ m) e unfit in
@@ -156,7 +157,7 @@ record-gains config n w i x fresh more e unfit next =
     let with : is_known config x.domain ≡ true → more ≡ record { config = config; held = []; records = x ∷ [] } =
     (λ t. follows [] (record { domains = (knows-from config x.domain t, tt); rising = one-rising distrust_cmp x; few = record_limit-least config })) in (
       elim (cases_Bool (is_known config x.domain)) [ inl t ↦ ap (λ (m : Meaning). m.config) (with t) | inr f ↦ ap (λ (m : Meaning). m.config) (without f) ],
-      gains-where (limits_of config) w i (is_replica (rules_of config n) i) (is_known config x.domain) (state_of more)
+      gains-where (rules_of config n).limits w i (is_replica (rules_of config n) i) (is_known config x.domain) (state_of more)
           (record { held = []; records = x ∷ [] }) (λ t. ap state_of (with t)) (λ f. ap state_of (without f)),
     )
 
@@ -166,10 +167,10 @@ pub gain-follows : {E : Type 0} {V : Type 0} {A : Type 0} (meaning : A
     (result : Result V E)
     → ((n : ℕ) (w : World) (c : Configuration) → more.config ≡ c → Plays meaning c n old w
     → OnOk result
-    (Plays meaning c n new (apply (limits_of c) w (where_so (is_replica (rules_of c n) i) (gains i (state_of more))))))
+    (Plays meaning c n new (apply (rules_of c n).limits w (where_so (is_replica (rules_of c n) i) (gains i (state_of more))))))
     → ((n : ℕ) (w : World) → Plays meaning config n old w
     → (more.config ≡ config)
-    × (apply (limits_of config) w (where_so (is_replica (rules_of config n) i) (gains i (state_of more)))
+    × (apply (rules_of config n).limits w (where_so (is_replica (rules_of config n) i) (gains i (state_of more)))
     ≡ happens (rules_of config n) w event))
     → OnOk result (MeansEvent meaning config old new event)
 gain-follows meaning config old new event i more result h same =
@@ -218,13 +219,13 @@ and-right false b e = refl
 -- What another replica holds is what the event of joining it gains.
 pub join-gains : (config : Configuration) (n : ℕ) (w : World) (i j : ℕ) (found more : Meaning) → j < n
     → found ≡ meaning_of_state config (w.now j) → more ≡ found
-    → (more.config ≡ config) × (apply (limits_of config) w (where_so (is_replica (rules_of config n) i) (gains i (state_of more))) ≡ happens
+    → (more.config ≡ config) × (apply (rules_of config n).limits w (where_so (is_replica (rules_of config n) i) (gains i (state_of more))) ≡ happens
     (rules_of config n) w (Join i j))
 join-gains config n w i j found more l f m =
     let e = m ∙ f in (
       ap (λ (m : Meaning). m.config) e,
-      ap (λ (m : Meaning). apply (limits_of config) w (where_so (is_replica (rules_of config n) i) (gains i (state_of m)))) e
-          ∙ ap (λ b. apply (limits_of config) w (where_so b (gains i (w.now j))))
+      ap (λ (m : Meaning). apply (rules_of config n).limits w (where_so (is_replica (rules_of config n) i) (gains i (state_of m)))) e
+          ∙ ap (λ b. apply (rules_of config n).limits w (where_so b (gains i (w.now j))))
           (sym (and-right (is_replica (rules_of config n) i) (is_replica (rules_of config n) j)
           (replica-true (rules_of config n) j l))),
     )
@@ -239,7 +240,7 @@ pub absorb-gains : (config : Configuration) (n : ℕ) (w : World) (i k : ℕ) (c
     (xs : List Distrust) (more : Meaning) → AllByRecursion (IsSound config) w.sent
     → give_in_message (slice_get w.sent k) ≡ Some content → rs ≡ content.held → xs ≡ content.records
     → (CanHold config rs → CanHoldRecords config xs → more ≡ record { config = config; held = rs; records = xs })
-    → (more.config ≡ config) × (apply (limits_of config) w (where_so (is_replica (rules_of config n) i) (gains i (state_of more))) ≡ happens
+    → (more.config ≡ config) × (apply (rules_of config n).limits w (where_so (is_replica (rules_of config n) i) (gains i (state_of more))) ≡ happens
     (rules_of config n) w (Absorb i k))
 absorb-gains config n w i k content rs xs more sound a re xe built =
     let can = sound-at config w.sent k content sound a in
@@ -247,8 +248,8 @@ absorb-gains config n w i k content rs xs more sound a re xe built =
     built (subst (CanHold config) (sym re) can.0) (subst (CanHoldRecords config) (sym xe) can.1)
     ∙ (λ ι. record { config = config; held = re ι; records = xe ι }) in (
       ap (λ (m : Meaning). m.config) e,
-      ap (λ (m : Meaning). apply (limits_of config) w (where_so (is_replica (rules_of config n) i) (gains i (state_of m)))) e
-          ∙ ap (λ (effect : Effect). apply (limits_of config) w (where_so (is_replica (rules_of config n) i) effect))
+      ap (λ (m : Meaning). apply (rules_of config n).limits w (where_so (is_replica (rules_of config n) i) (gains i (state_of m)))) e
+          ∙ ap (λ (effect : Effect). apply (rules_of config n).limits w (where_so (is_replica (rules_of config n) i) effect))
           (sym (some-taken i (slice_get w.sent k) content a)),
     )
 
@@ -258,7 +259,7 @@ pub part-gains : (config : Configuration) (n : ℕ) (w : World) (i k count : ℕ
     → give_in_message (slice_get w.sent k) ≡ Some content → rs ≡ take (count - length content.records) content.held → xs ≡ take count content.records
     → (CanHold config rs → CanHoldRecords config xs → more ≡ record { config = config; held = rs; records = xs })
     → (more.config ≡ config)
-    × (apply (limits_of config) w (where_so (is_replica (rules_of config n) i) (gains i (state_of more)))
+    × (apply (rules_of config n).limits w (where_so (is_replica (rules_of config n) i) (gains i (state_of more)))
     ≡ happens (rules_of config n) w (Part i k count))
 part-gains config n w i k count content rs xs more sound a re xe built =
     let can = sound-at config w.sent k content sound a in
@@ -267,8 +268,8 @@ part-gains config n w i k count content rs xs more sound a re xe built =
     (subst (CanHoldRecords config) (sym xe) (knows-take config count content.records can.1))
     ∙ (λ ι. record { config = config; held = re ι; records = xe ι }) in (
       ap (λ (m : Meaning). m.config) e,
-      ap (λ (m : Meaning). apply (limits_of config) w (where_so (is_replica (rules_of config n) i) (gains i (state_of m)))) e
-          ∙ ap (λ (effect : Effect). apply (limits_of config) w (where_so (is_replica (rules_of config n) i) effect))
+      ap (λ (m : Meaning). apply (rules_of config n).limits w (where_so (is_replica (rules_of config n) i) (gains i (state_of m)))) e
+          ∙ ap (λ (effect : Effect). apply (rules_of config n).limits w (where_so (is_replica (rules_of config n) i) effect))
           (sym (some-parted i count (slice_get w.sent k) content a)),
     )
 
@@ -287,7 +288,7 @@ pub answer-follows : {A : Type 0} (meaning : A → Meaning) (config : Configurat
 answer-follows meaning config n old new w i k m bucket ids stated l p e valid a says held saved sent =
     let same : state_of m ≡ w.now i = ap state_of e in
     subst (λ (effect : Effect). Plays meaning config n new
-    (apply (limits_of config) w (where_so (is_replica (rules_of config n) i) effect)))
+    (apply (rules_of config n).limits w (where_so (is_replica (rules_of config n) i) effect)))
     (sym (replied (w.now i) i k bucket ids (slice_get w.sent k) a))
     (plays-sends meaning config n old new w i stated (give_to_have i k bucket ids (w.now i)) l p held saved sent (says ∙ ap (give_to_have i k bucket ids) same)
     (subst (λ (s : State). IsSound config (give_to_have i k bucket ids s)) same (sound-give config m bucket ids (ap (λ (m : Meaning). m.config) e) valid)))
@@ -305,7 +306,7 @@ receipts-follow meaning config n old new w i k m bucket ids stated l p e valid a
     let given = sound-give config m bucket ids (ap (λ (m : Meaning). m.config) e) valid in
     let say : State → Message = λ s. give_to_have i k bucket ids (without_records s) in
     subst (λ (effect : Effect). Plays meaning config n new
-    (apply (limits_of config) w (where_so (is_replica (rules_of config n) i) effect)))
+    (apply (rules_of config n).limits w (where_so (is_replica (rules_of config n) i) effect)))
     (sym (replied (without_records (w.now i)) i k bucket ids (slice_get w.sent k) a))
     (plays-sends meaning config n old new w i stated (say (w.now i)) l p held saved sent (says ∙ ap say same)
     (subst (λ (s : State). IsSound config (say s)) same (given.0, no-records config)))

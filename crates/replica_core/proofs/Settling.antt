@@ -19,7 +19,7 @@ use Rattle.replica_core.specs.State.{State, joined, limits_of, is_within_limits,
 use Rattle.replica_core.specs.World.{Message, have_sent, give_sent, sums_sent, marks_sent, sends_marks}
 use Rattle.replica_core.specs.World.{World, empty_world, Rules, Effect, sends, gains, where_so, takes_whole}
 use Rattle.replica_core.specs.World.{apply, happens, run_from, is_replica}
-use Rattle.replica_core.specs.World.{WorldRun, rules_in, world_after, held_by, followed_by}
+use Rattle.replica_core.specs.World.{WorldRun, rules_in, config_in, world_after, held_by, followed_by}
 use Rattle.replica_core.specs.Convergence.{Inquiry, IsInquiry, Exchange, ExchangeOf, answer_with, shown_with, Settles, IsQuiet, only_receipt}
 use Rattle.replica_core.specs.Convergence.{Peers, ArePeers, about, SumsCourse}
 use Rattle.replica_core.specs.declared.event.Event.{Event}
@@ -40,6 +40,7 @@ use Rattle.replica_core.proofs.WorldLawFacts.{agreed}
 use Rattle.fed_config.specs.declared.limits.Limits.{Limits}
 use Rattle.receipt_core.specs.Limits.{receipt_limit, record_limit}
 use Rattle.receipt_core.proofs.LimitFacts.{receipt_limit-least}
+use Rattle.closure_core.specs.Alike.{with_limits}
 
 -- ---- the events
 
@@ -93,17 +94,17 @@ round-among (suc k) b l =
 -- ---- how many messages are sent
 
 -- An effect that sends nothing sends nothing if it does not happen either.
-where-sent : (b : Bool) (limits : Limits) (w : World) (effect : Effect) → (apply limits w effect).sent ≡ w.sent
+where-sent : (b : Bool) (limits : ℕ → Limits) (w : World) (effect : Effect) → (apply limits w effect).sent ≡ w.sent
     → (apply limits w (where_so b effect)).sent ≡ w.sent
 where-sent true limits w effect e = e
 where-sent false limits w effect e = refl
 
 -- A gain sends nothing.
-gains-sent : (limits : Limits) (w : World) (i : ℕ) (gain : State) → (apply limits w (gains i gain)).sent ≡ w.sent
-gains-sent limits w i gain = sent-gained (is_within_limits limits (joined (w.now i) gain)) w i (joined (w.now i) gain)
+gains-sent : (limits : ℕ → Limits) (w : World) (i : ℕ) (gain : State) → (apply limits w (gains i gain)).sent ≡ w.sent
+gains-sent limits w i gain = sent-gained (is_within_limits (limits i) (joined (w.now i) gain)) w i (joined (w.now i) gain)
 
 -- Nor does the taking of an answer.
-whole-sent : (limits : Limits) (w : World) (i : ℕ) (found : Option Message) → (apply limits w (takes_whole i found)).sent ≡ w.sent
+whole-sent : (limits : ℕ → Limits) (w : World) (i : ℕ) (found : Option Message) → (apply limits w (takes_whole i found)).sent ≡ w.sent
 whole-sent limits w i None = refl
 whole-sent limits w i (Some (have_sent asker bucket ids)) = refl
 whole-sent limits w i (Some (give_sent answerer place content)) = gains-sent limits w i content
@@ -181,17 +182,17 @@ empty-is [] e = refl
 empty-is (x ∷ xs) e = absurd (omega (arith, e))
 
 -- all that is held, saved and sent is this one receipt, in sorted lists
-record IsOnly (limits : Limits) (a : Receipt) (w : World) : Type 0 where
+record IsOnly (limits : ℕ → Limits) (a : Receipt) (w : World) : Type 0 where
   kept : IsKept (λ r. r ≡ a) (λ x. ⊥) 0 ⊤ w
-  tidy : Throughout (λ i state. IsTidy limits state) w
-  one : 1 ≤ limits.receipts
+  tidy : Throughout (λ i state. IsTidy (limits i) state) w
+  one : (i : ℕ) → 1 ≤ (limits i).receipts
 
 -- A quiet event brings no other receipt.
 only-event : (rules : Rules) (a : Receipt) (w : World) (event : Event) → IsQuiet 0 event → IsOnly rules.limits a w
     → IsOnly rules.limits a (happens rules w event)
 only-event rules a w event q h = record {
   kept = kept-event joins (λ r. r ≡ a) (λ x. ⊥) 0 ⊤ rules w event h.kept (quiet-admits_all rules (λ r. r ≡ a) (λ x. ⊥) 0 event q);
-  tidy = throughout-event rules (λ i state. IsTidy rules.limits state) (tidy-kept joins rules) w event h.tidy;
+  tidy = throughout-event rules (λ i state. IsTidy (rules.limits i) state) (tidy-kept joins rules) w event h.tidy;
   one = h.one;
 }
 
@@ -202,16 +203,16 @@ only-run rules a [] w q h = h
 only-run rules a (event ∷ events) w q h = only-run rules a events (happens rules w event) q.1 (only-event rules a w event q.0 h)
 
 -- so no gain is too much
-only-within : (limits : Limits) (a : Receipt) (w : World) (i : ℕ) (content : State) → IsOnly limits a w → Keeps (λ r. r ≡ a) (λ x. ⊥) content
-    → is_within_limits limits (joined (w.now i) content) ≡ true
+only-within : (limits : ℕ → Limits) (a : Receipt) (w : World) (i : ℕ) (content : State) → IsOnly limits a w → Keeps (λ r. r ≡ a) (λ x. ⊥) content
+    → is_within_limits (limits i) (joined (w.now i) content) ≡ true
 only-within limits a w i content h c =
     let all = keeps-joined joins (λ r. r ≡ a) (λ x. ⊥) (w.now i) content (h.kept.now i) c in
     let state = joined (w.now i) content in
     let one = one-rising a state.held (joins.receipts.rising content.held (w.now i).held (h.tidy.now i).rising) all.receipts in
     let none = none-in state.records all.records in
-    let most = h.one in
-    and_from (nat_le (length state.held) limits.receipts) (nat_le (length state.records) limits.records)
-    (le-leb (length state.held) limits.receipts (omega (arith, one, most))) (le-leb (length state.records) limits.records (omega (arith, none)))
+    let most = h.one i in
+    and_from (nat_le (length state.held) (limits i).receipts) (nat_le (length state.records) (limits i).records)
+    (le-leb (length state.held) (limits i).receipts (omega (arith, one, most))) (le-leb (length state.records) (limits i).records (omega (arith, none)))
 
 -- ---- the exchanges
 
@@ -274,23 +275,26 @@ second-exchanges rules a w q k two all is one-asks zero-answers h none =
 
 -- ---- they settle
 
--- two replicas, of which the first was given a receipt
-abbrev one_given : Configuration → Receipt → WorldRun
-one_given config a = record { config = config; replicas = 2; events = Take 0 a ∷ [] }
+-- two replicas, each with limits of its own, of which the first was given a receipt
+abbrev one_given : Configuration → (ℕ → Limits) → Receipt → WorldRun
+one_given config limits a = record { config = config; limits = limits; replicas = 2; events = Take 0 a ∷ [] }
 
 -- After the first event only the given receipt is anywhere.
-only-given : (config : Configuration) (a : Receipt) → IsOnly (limits_of config) a (world_after (one_given config a))
-only-given config a = record {
-  kept = kept-event joins (λ r. r ≡ a) (λ x. ⊥) 0 ⊤ (rules_in (one_given config a)) empty_world (Take 0 a) (empty-kept (λ r. r ≡ a) (λ x. ⊥) 0 ⊤) (λ i f. refl);
-  tidy = throughout-event (rules_in (one_given config a)) (λ i state. IsTidy (limits_of config) state) (tidy-kept joins (rules_in (one_given config a)))
-      empty_world (Take 0 a) (tidy-empty (limits_of config));
-  one = receipt_limit-least config;
+only-given : (config : Configuration) (limits : ℕ → Limits) (a : Receipt)
+    → IsOnly (rules_in (one_given config limits a)).limits a (world_after (one_given config limits a))
+only-given config limits a = record {
+  kept = kept-event joins (λ r. r ≡ a) (λ x. ⊥) 0 ⊤ (rules_in (one_given config limits a)) empty_world (Take 0 a)
+      (empty-kept (λ r. r ≡ a) (λ x. ⊥) 0 ⊤) (λ i f. refl);
+  tidy = throughout-event (rules_in (one_given config limits a)) (λ i state. IsTidy ((rules_in (one_given config limits a)).limits i) state)
+      (tidy-kept joins (rules_in (one_given config limits a)))
+      empty_world (Take 0 a) (tidy-empty (rules_in (one_given config limits a)).limits);
+  one = λ i. receipt_limit-least (with_limits config (limits i));
 }
 
 -- No message was sent then.
-none-sent : (config : Configuration) (a : Receipt) → length (world_after (one_given config a)).sent ≡ 0
-none-sent config a =
-    let rules = rules_in (one_given config a) in
+none-sent : (config : Configuration) (limits : ℕ → Limits) (a : Receipt) → length (world_after (one_given config limits a)).sent ≡ 0
+none-sent config limits a =
+    let rules = rules_in (one_given config limits a) in
     ap length (where-sent (is_replica rules 0 && rules.fits a) rules.limits empty_world (gains 0 (only_receipt a))
     (gains-sent rules.limits empty_world 0 (only_receipt a)))
 
@@ -309,12 +313,13 @@ both-ways p are apart =
     ]
 
 -- All rounds are what it takes to settle.
-settles : (config : Configuration) (a : Receipt) (k : ℕ) → k ≡ 256 → Settles (rules_in (one_given config a)) (world_after (one_given config a)) (rounds k)
-settles config a k all =
-    let rules = rules_in (one_given config a) in
-    let w = world_after (one_given config a) in
-    let only = only-given config a in
-    let none = none-sent config a in
+settles : (config : Configuration) (limits : ℕ → Limits) (a : Receipt) (k : ℕ) → k ≡ 256
+    → Settles (rules_in (one_given config limits a)) (world_after (one_given config limits a)) (rounds k)
+settles config limits a k all =
+    let rules = rules_in (one_given config limits a) in
+    let w = world_after (one_given config limits a) in
+    let only = only-given config limits a in
+    let none = none-sent config limits a in
     record {
       quiet = λ event c. subst (λ place. IsQuiet place event) (sym none) (each-from (IsQuiet 0) (rounds k) (quiet-rounds k) event c);
       one_id = λ i j r s c d e. (only.kept.now i).receipts r c ∙ sym ((only.kept.now j).receipts s d);
@@ -327,15 +332,16 @@ settles config a k all =
     }
 
 -- So the second holds the receipt in the end, of any events by which both settle.
-given-held : (config : Configuration) (a : Receipt) (since : List Event) → IsReceipt a → IsFitting config a → AllByRecursion (IsQuiet 0) since
-    → Settles (rules_in (one_given config a)) (world_after (one_given config a)) since
-    → Contains (held_by (followed_by (one_given config a) since) 1).held a
-given-held config a since form fits quiet settled =
-    let past = one_given config a in
+given-held : (config : Configuration) (limits : ℕ → Limits) (a : Receipt) (since : List Event) → IsReceipt a → IsFitting config a
+    → AllByRecursion (IsQuiet 0) since → Settles (rules_in (one_given config limits a)) (world_after (one_given config limits a)) since
+    → Contains (held_by (followed_by (one_given config limits a) since) 1).held a
+given-held config limits a since form fits quiet settled =
+    let past = one_given config limits a in
     let rules = rules_in past in
-    let one : is_within_limits (limits_of config) (only_receipt a) ≡ true =
-    and_from (nat_le 1 (receipt_limit config)) (nat_le 0 (record_limit config))
-    (le-leb 1 (receipt_limit config) (receipt_limit-least config)) (le-leb 0 (record_limit config) (omega arith)) in
+    let own = config_in past 0 in
+    let one : is_within_limits (limits_of own) (only_receipt a) ≡ true =
+    and_from (nat_le 1 (receipt_limit own)) (nat_le 0 (record_limit own))
+    (le-leb 1 (receipt_limit own) (receipt_limit-least own)) (le-leb 0 (record_limit own) (omega arith)) in
     let taken : held_by past 0 ≡ only_receipt a = takes-held (record past { events = [] }) 0 a (omega arith) fits one in
     let here : Contains (held_by past 0).held a = subst (λ (s : State). Contains s.held a) (sym taken) (contains-here a []) in
     let stays = (part-run joins rules 0 since (world_after past) (λ c. each-from (IsQuiet 0) since quiet (Restart 0) c)).receipts a here in
@@ -344,9 +350,9 @@ given-held config a since form fits quiet settled =
     subst (λ (s : State). Contains s.held a) (agreed joins past since 0 1 (form, tt) (omega arith) (omega arith) settled) kept
 
 -- After all rounds the second holds the receipt.
-settled : (config : Configuration) (a : Receipt) → IsReceipt a → IsFitting config a → (k : ℕ) → k ≡ 256
-    → Contains (held_by (followed_by (one_given config a) (rounds k)) 1).held a
-settled config a form fits k all = given-held config a (rounds k) form fits (quiet-rounds k) (settles config a k all)
+settled : (config : Configuration) (limits : ℕ → Limits) (a : Receipt) → IsReceipt a → IsFitting config a → (k : ℕ) → k ≡ 256
+    → Contains (held_by (followed_by (one_given config limits a) (rounds k)) 1).held a
+settled config limits a form fits k all = given-held config limits a (rounds k) form fits (quiet-rounds k) (settles config limits a k all)
 
 -- ---- sessions that begin with sums
 
@@ -449,13 +455,13 @@ session-course rules a w p events before after place are h quiet order size =
     }
 
 -- Both sessions are what it takes to settle.
-settles_by_sums : (config : Configuration) (a : Receipt) → Settles (rules_in (one_given config a)) (world_after (one_given config a))
-    (sessions (bucket_of_id a))
-settles_by_sums config a =
-    let rules = rules_in (one_given config a) in
-    let w = world_after (one_given config a) in
-    let only = only-given config a in
-    let none = none-sent config a in
+settles_by_sums : (config : Configuration) (limits : ℕ → Limits) (a : Receipt)
+    → Settles (rules_in (one_given config limits a)) (world_after (one_given config limits a)) (sessions (bucket_of_id a))
+settles_by_sums config limits a =
+    let rules = rules_in (one_given config limits a) in
+    let w = world_after (one_given config limits a) in
+    let only = only-given config limits a in
+    let none = none-sent config limits a in
     let bucket = bucket_of_id a in
     let quiet = quiet-sessions bucket in
     let first = session 0 1 bucket 0 in
@@ -473,7 +479,7 @@ settles_by_sums config a =
     }
 
 -- After two sessions of five events each the second holds the receipt.
-settled_by_sums : (config : Configuration) (a : Receipt) → IsReceipt a → IsFitting config a
-    → Contains (held_by (followed_by (one_given config a) (sessions (bucket_of_id a))) 1).held a
-settled_by_sums config a form fits =
-    given-held config a (sessions (bucket_of_id a)) form fits (quiet-sessions (bucket_of_id a)) (settles_by_sums config a)
+settled_by_sums : (config : Configuration) (limits : ℕ → Limits) (a : Receipt) → IsReceipt a → IsFitting config a
+    → Contains (held_by (followed_by (one_given config limits a) (sessions (bucket_of_id a))) 1).held a
+settled_by_sums config limits a form fits =
+    given-held config limits a (sessions (bucket_of_id a)) form fits (quiet-sessions (bucket_of_id a)) (settles_by_sums config limits a)

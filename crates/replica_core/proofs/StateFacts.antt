@@ -39,7 +39,7 @@ throughout-gained P false w k state h s = h
 -- Saves and restarts keep every property that is the same for all replicas or concerns none: a gain
 -- has to show it.
 pub record IsKeptByGains (rules : Rules) (P : ℕ → State → Type 0) : Type 0 where
-  pub gain : (k : ℕ) (state more : State) → is_replica rules k ≡ true → P k state → is_within_limits rules.limits (joined state more) ≡ true
+  pub gain : (k : ℕ) (state more : State) → is_replica rules k ≡ true → P k state → is_within_limits (rules.limits k) (joined state more) ≡ true
       → P k (joined state more)
 
 -- It remains so over each event if gains keep the property.
@@ -48,7 +48,7 @@ pub throughout-event : (rules : Rules) (P : ℕ → State → Type 0) → IsKept
 throughout-event rules P kept w event h =
     covered rules w event (λ effect. Throughout P (apply rules.limits w effect)) (record {
       idle = h;
-      more = λ k gain e. throughout-gained P (is_within_limits rules.limits (joined (w.now k) gain)) w k (joined (w.now k) gain) h
+      more = λ k gain e. throughout-gained P (is_within_limits (rules.limits k) (joined (w.now k) gain)) w k (joined (w.now k) gain) h
           (λ b. kept.gain k (w.now k) gain e (h.now k) b);
       stated = λ message. record { now = h.now; saved = h.saved };
       kept = λ k e s. record { now = h.now; saved = λ i. throughout-at P i k (w.now k) w.saved (h.now k) (h.saved i) };
@@ -64,7 +64,7 @@ throughout-run rules P kept (event ∷ events) w h = throughout-run rules P kept
 -- ---- sorted lists within the limits
 
 -- A gain within the limits joins sorted lists into sorted lists.
-pub tidy-kept : (laws : Laws) (rules : Rules) → IsKeptByGains rules (λ i state. IsTidy rules.limits state)
+pub tidy-kept : (laws : Laws) (rules : Rules) → IsKeptByGains rules (λ i state. IsTidy (rules.limits i) state)
 tidy-kept laws rules = record {
   gain = λ k state more e t b. record {
     rising = laws.receipts.rising more.held state.held t.rising;
@@ -79,11 +79,11 @@ none-within limits =
     and_from (nat_le 0 limits.receipts) (nat_le 0 limits.records) (le-leb 0 limits.receipts (omega arith)) (le-leb 0 limits.records (omega arith))
 
 -- At the beginning all lists are empty, so they rise.
-pub tidy-empty : (limits : Limits) → Throughout (λ i state. IsTidy limits state) empty_world
+pub tidy-empty : (limits : ℕ → Limits) → Throughout (λ i state. IsTidy (limits i) state) empty_world
 unfolding IsStrictlySortedBy
 tidy-empty limits = record {
-  now = λ i. record { rising = tt; records_rising = tt; within = none-within limits };
-  saved = λ i. record { rising = tt; records_rising = tt; within = none-within limits };
+  now = λ i. record { rising = tt; records_rising = tt; within = none-within (limits i) };
+  saved = λ i. record { rising = tt; records_rising = tt; within = none-within (limits i) };
 }
 
 -- ---- numbers without a replica

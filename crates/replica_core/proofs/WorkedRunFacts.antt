@@ -13,7 +13,7 @@ use Rattle.fed_config.specs.Limits.{usual_limits}
 
 -- three replicas to which all receipts fit and all domains are known
 abbrev three : Rules
-three = record { replicas = 3; limits = usual_limits; fits = λ r. true; knows = λ domain. true }
+three = record { replicas = 3; limits = λ replica. usual_limits; fits = λ r. true; knows = λ domain. true }
 
 -- replicas 0 and 1 take a receipt each, replica 2 a record
 abbrev starts : Receipt → Receipt → Distrust → List Event

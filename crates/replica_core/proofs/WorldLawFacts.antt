@@ -14,9 +14,9 @@ use Rattle.fed_config.specs.declared.seed.Seed.{Seed}
 use Rattle.receipt_core.specs.declared.distrust.Distrust.{Distrust}
 use Rattle.receipt_core.specs.Receipt.{Receipt, IsReceipt, IsDistrust}
 use Rattle.receipt_core.specs.Acceptance.{IsMeaning, IsFitting}
-use Rattle.replica_core.specs.State.{no_state, meaning_of_state}
-use Rattle.replica_core.specs.World.{Message, have_sent, give_sent, World, empty_world, Rules, rules_of, same_id, is_reached, is_fitting, is_known, happens}
-use Rattle.replica_core.specs.World.{run_from, run, WorldRun, rules_in, world_after, held_by, saved_by, followed_by}
+use Rattle.replica_core.specs.State.{no_state}
+use Rattle.replica_core.specs.World.{Message, have_sent, give_sent, World, empty_world, Rules, same_id, is_reached, is_fitting, is_known, happens}
+use Rattle.replica_core.specs.World.{run_from, run, WorldRun, rules_in, config_in, world_after, held_by, saved_by, followed_by, meant_by}
 use Rattle.replica_core.specs.World.{sums_sent, marks_sent}
 use Rattle.replica_core.specs.Convergence.{IsEvent, AreEvents, Lacks, IsPartOf, Inquiry, IsInquiry, ExchangeOf, at_give, after_taking, HasAll, Settles}
 use Rattle.replica_core.specs.Convergence.{shown_with, Peers, ArePeers, SumsCourse, IsUninterrupted, answerer_held}
@@ -111,44 +111,44 @@ IsReceiptOf config r = IsReceipt r × IsFitting config r
 abbrev IsDistrustOf : Configuration → Distrust → Type 0
 IsDistrustOf config x = IsDistrust x × HasDomain config x.domain
 
--- An event that takes a receipt, or a record, of its form takes one of this configuration.
-forms-admits : (config : Configuration) (n : ℕ) (event : Event) → IsEvent event
-    → Admits (rules_of config n) (IsReceiptOf config) (IsDistrustOf config) 0 ⊤ event
-forms-admits config n (Take i r) h = λ o e. (h, fits-from config r e)
-forms-admits config n (Revoke i x) h = λ o e. (h, knows-from config x.domain e)
-forms-admits config n (Ask i b) h = tt
-forms-admits config n (Answer j k) h = tt
-forms-admits config n (AnswerReceipts j k) h = tt
-forms-admits config n (AskSums i) h = tt
-forms-admits config n (AnswerSums j k) h = tt
-forms-admits config n (Absorb i k) h = omega arith
-forms-admits config n (Part i k m) h = omega arith
-forms-admits config n (Join i j) h = tt
-forms-admits config n (Save i) h = tt
-forms-admits config n (Restart i) h = tt
+-- An event that takes a receipt, or a record, of its form takes one of the configuration of any
+-- replica.
+forms-admits : (past : WorldRun) (own : ℕ) (event : Event) → IsEvent event
+    → Admits (rules_in past) (IsReceiptOf (config_in past own)) (IsDistrustOf (config_in past own)) 0 ⊤ event
+forms-admits past own (Take i r) h = λ o e. (h, fits-from (config_in past own) r e)
+forms-admits past own (Revoke i x) h = λ o e. (h, knows-from (config_in past own) x.domain e)
+forms-admits past own (Ask i b) h = tt
+forms-admits past own (Answer j k) h = tt
+forms-admits past own (AnswerReceipts j k) h = tt
+forms-admits past own (AskSums i) h = tt
+forms-admits past own (AnswerSums j k) h = tt
+forms-admits past own (Absorb i k) h = omega arith
+forms-admits past own (Part i k m) h = omega arith
+forms-admits past own (Join i j) h = tt
+forms-admits past own (Save i) h = tt
+forms-admits past own (Restart i) h = tt
 
--- So all that is held, saved and sent is of its form and of the configuration.
-all-forms : (laws : Laws) (config : Configuration) (n : ℕ) (events : List Event) → AreEvents events
-    → IsKept (IsReceiptOf config) (IsDistrustOf config) 0 ⊤ (run (rules_of config n) events)
-all-forms laws config n events h =
-    kept-run laws (IsReceiptOf config) (IsDistrustOf config) 0 ⊤ (rules_of config n) events empty_world
+-- So all that is held, saved and sent is of its form and of that configuration.
+all-forms : (laws : Laws) (past : WorldRun) (own : ℕ) → AreEvents past.events
+    → IsKept (IsReceiptOf (config_in past own)) (IsDistrustOf (config_in past own)) 0 ⊤ (world_after past)
+all-forms laws past own h =
+    let config = config_in past own in
+    kept-run laws (IsReceiptOf config) (IsDistrustOf config) 0 ⊤ (rules_in past) past.events empty_world
     (empty-kept (IsReceiptOf config) (IsDistrustOf config) 0 ⊤)
-    (λ event c. forms-admits config n event (each-from IsEvent events h event c))
+    (λ event c. forms-admits past own event (each-from IsEvent past.events h event c))
 
 -- All states are sorted lists within the limits.
-all-tidy : (laws : Laws) (rules : Rules) (events : List Event) → Throughout (λ i state. IsTidy rules.limits state) (run rules events)
+all-tidy : (laws : Laws) (rules : Rules) (events : List Event) → Throughout (λ i state. IsTidy (rules.limits i) state) (run rules events)
 all-tidy laws rules events =
-    throughout-run rules (λ i state. IsTidy rules.limits state) (tidy-kept laws rules) events empty_world (tidy-empty rules.limits)
+    throughout-run rules (λ i state. IsTidy (rules.limits i) state) (tidy-kept laws rules) events empty_world (tidy-empty rules.limits)
 
 -- The clause `means`: what a replica holds is what a closure can mean.
-pub means : (laws : Laws) (past : WorldRun) (i : ℕ) → AreEvents past.events → IsMeaning (meaning_of_state past.config (held_by past i))
+pub means : (laws : Laws) (past : WorldRun) (i : ℕ) → AreEvents past.events → IsMeaning (meant_by past i)
 means laws past i h =
-    let config = past.config in
-    let n = past.replicas in
-    let events = past.events in
+    let config = config_in past i in
     let state = held_by past i in
-    let forms = (all-forms laws config n events h).now i in
-    let tidy = (all-tidy laws (rules_of config n) events).now i in
+    let forms = (all-forms laws past i h).now i in
+    let tidy = (all-tidy laws (rules_in past) past.events).now i in
     let within = and_parts (nat_le (length state.held) (receipt_limit config)) (nat_le (length state.records) (record_limit config)) tidy.within in
     record {
       receipts = each-to IsReceipt state.held (λ r c. (forms.receipts r c).0);
@@ -224,13 +224,13 @@ event-admits rules (Save i) h = tt
 event-admits rules (Restart i) h = tt
 
 -- What is known after any list of events is what the exchanges and the agreement begin with.
-starts : (laws : Laws) (config : Configuration) (n : ℕ) (events : List Event) → AreEvents events → IsStart (rules_of config n) (run (rules_of config n) events)
-starts laws config n events h =
+starts : (laws : Laws) (past : WorldRun) → AreEvents past.events → IsStart (rules_in past) (world_after past)
+starts laws past h =
     record {
-      forms = plain-kept config (run (rules_of config n) events) (all-forms laws config n events h);
-      tidy = all-tidy laws (rules_of config n) events;
-      outside = throughout-run (rules_of config n) (IsOutside (rules_of config n)) (outside-kept (rules_of config n))
-          events empty_world (outside-empty (rules_of config n));
+      forms = plain-kept (config_in past 0) (world_after past) (all-forms laws past 0 h);
+      tidy = all-tidy laws (rules_in past) past.events;
+      outside = throughout-run (rules_in past) (IsOutside (rules_in past)) (outside-kept (rules_in past))
+          past.events empty_world (outside-empty (rules_in past));
     }
 
 -- Who takes another's whole answer has what that showed of the bucket.
@@ -241,7 +241,7 @@ pub exchanged : (full : Bool) (laws : Laws) (past : WorldRun) (since : List Even
 exchanged full laws past since q f s is x =
     let rules = rules_in past in
     let w = world_after past in
-    let formed = course-forms full laws rules q since w x.course (starts laws past.config past.replicas past.events f).forms
+    let formed = course-forms full laws rules q since w x.course (starts laws past f).forms
     (λ event c. event-admits rules event (each-from IsEvent since s event c)) in
     exchange-gives full laws rules w q since is x (formed.0.now q.answerer) (formed.1.now q.asker)
 
@@ -253,7 +253,7 @@ brought laws past since p b f s are small c still =
     let rules = rules_in past in
     subst (λ (w : World). HasAll b (answerer_held rules (world_after past) c.compared) (w.now p.asker))
     (sym (fold-append (happens rules) empty_world past.events since))
-    (sums-bring laws rules (world_after past) p b since are small c (starts laws past.config past.replicas past.events f).forms
+    (sums-bring laws rules (world_after past) p b since are small c (starts laws past f).forms
     (λ event d. event-admits rules event (each-from IsEvent since s event d)) still)
 
 -- The clause `agreed`: after all pulled from each other in quiet any two replicas hold the same.
@@ -263,7 +263,7 @@ agreed laws past since i j f l m s =
     let rules = rules_in past in
     let first = past.events in
     let same : run rules (first ++ since) ≡ run_from rules (run rules first) since = fold-append (happens rules) empty_world first since in
-    let tidy : Throughout (λ k state. IsTidy rules.limits state) (run_from rules (run rules first) since) =
-    subst (Throughout (λ k state. IsTidy rules.limits state)) same (all-tidy laws rules (first ++ since)) in
+    let tidy : Throughout (λ k state. IsTidy (rules.limits k) state) (run_from rules (run rules first) since) =
+    subst (Throughout (λ k state. IsTidy (rules.limits k) state)) same (all-tidy laws rules (first ++ since)) in
     subst (λ (w : World). w.now i ≡ w.now j) (sym same)
-    (agree laws rules (run rules first) since i j (starts laws past.config past.replicas first f) tidy s l m)
+    (agree laws rules (run rules first) since i j (starts laws past f) tidy s l m)

@@ -4,10 +4,10 @@ use Rattle.std.specs.Prelude.{◌++◌, length, Contains, slice_get, Some}
 use Rattle.std.specs.List.{AllByRecursion}
 use Rattle.receipt_core.specs.declared.distrust.Distrust.{Distrust}
 use Rattle.receipt_core.specs.Receipt.{Receipt, IsReceipt, IsDistrust, receipt_id_of}
-use Rattle.replica_core.specs.State.{State, joined, limits_of, is_within_limits, bucket_of_id}
+use Rattle.replica_core.specs.State.{State, joined, is_within_limits, bucket_of_id}
 use Rattle.replica_core.specs.State.{ids_held}
 use Rattle.replica_core.specs.World.{World, Rules, give_sent, without_records, happens, run_from}
-use Rattle.replica_core.specs.World.{WorldRun, world_after, held_by, followed_by}
+use Rattle.replica_core.specs.World.{WorldRun, rules_in, world_after, held_by, followed_by}
 use Rattle.replica_core.specs.declared.event.Event.{Event}
 use Rattle.replica_core.specs.declared.event.Event.TheVariants.{Take, Revoke, Ask, Answer, Absorb}
 use Rattle.replica_core.specs.declared.event.Event.TheVariants.{Part, Join, Save, Restart}
@@ -68,10 +68,10 @@ only_receipt r = record { held = r ∷ []; records = [] }
 abbrev pub only_record : Distrust → State
 only_record x = record { held = []; records = x ∷ [] }
 
--- After the event the replica holds all this too, if it is not too much.
+-- After the event the replica holds all this too, if it is not too much for it.
 abbrev pub Gains : WorldRun → Event → ℕ → State → Type 0
 Gains past event replica gain =
-    is_within_limits (limits_of past.config) (joined (held_by past replica) gain) ≡ true
+    is_within_limits ((rules_in past).limits replica) (joined (held_by past replica) gain) ≡ true
     → held_by (followed_by past (event ∷ [])) replica ≡ joined (held_by past replica) gain
 
 -- the message at this place is an answer with this content
@@ -142,8 +142,8 @@ abbrev pub after_taking : {full : Bool} {q : Inquiry} {events : List Event} → 
 after_taking {q = q} rules start c = happens rules (at_taking rules start c)
     (Absorb q.asker c.give_place)
 
--- The answer is to that have, the taking is of that answer, whole, and the asker doesn't
--- restart in between.
+-- The answer is to that have, the taking is of that answer, whole, which is not too much for the
+-- asker, and the asker doesn't restart in between.
 pub record ExchangeOf (full : Bool) (rules : Rules) (start : World) (q : Inquiry)
     (events : List Event) : Type 0 where
   pub course : CourseOf full q events
@@ -152,8 +152,8 @@ pub record ExchangeOf (full : Bool) (rules : Rules) (start : World) (q : Inquiry
   pub whole : (content : State)
       → slice_get (at_taking rules start course).sent course.give_place
       ≡ Some (give_sent q.answerer course.have_place content)
-      → is_within_limits rules.limits (joined ((at_taking rules start course).now q.asker) content)
-      ≡ true
+      → is_within_limits (rules.limits q.asker)
+      (joined ((at_taking rules start course).now q.asker) content) ≡ true
   pub no_restart : Lacks course.asked (Restart q.asker)
   pub none_later : Lacks course.answered (Restart q.asker)
 

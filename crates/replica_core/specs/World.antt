@@ -1,4 +1,5 @@
--- Replicas of one configuration, what happens to them, and the messages between them.
+-- Replicas of one configuration, each with limits of its own, what happens to them, and the
+-- messages between them.
 use Rattle.std.specs.Prelude.{ℕ, ◌+◌, Bool, true, false, cond, ◌==◌, ◌&&◌, nat_le, List, [], ◌∷◌}
 use Rattle.std.specs.Prelude.{◌<◌, length, slice_index_or, ◌≡◌}
 use Rattle.std.specs.Prelude.{◌++◌, fold, slice_get, Option, Some, None, bytes_eq}
@@ -18,6 +19,7 @@ use Rattle.replica_core.specs.declared.event.Event.TheVariants.{Take, Revoke, As
 use Rattle.replica_core.specs.declared.event.Event.TheVariants.{Part, Join, Save, Restart}
 use Rattle.replica_core.specs.declared.event.Event.TheVariants.{AnswerReceipts, AskSums, AnswerSums}
 use Rattle.receipt_core.specs.Acceptance.{Meaning}
+use Rattle.closure_core.specs.Alike.{with_limits}
 
 -- A have names the ids that the asker holds of a bucket; an answer to it has the receipts of the
 -- bucket that the answerer holds beyond those named, and all its records or none. Sums, and the
@@ -40,9 +42,11 @@ empty_world = record { now = λ replica. no_state; saved = λ replica. no_state;
 
 -- ---- the rules of a world
 
+-- How many replicas there are, how much each may hold, and which receipts and which domains of
+-- records all of them take.
 pub record Rules : Type 0 where
   pub replicas : ℕ
-  pub limits : Limits
+  pub limits : ℕ → Limits
   pub fits : Receipt → Bool
   pub knows : List ℕ → Bool
 
@@ -71,13 +75,18 @@ is_known config domain = cond
     true
     (list_any (λ (s : Seed). bytes_eq s.domain domain) config.seeds))
 
-abbrev pub rules_of : Configuration → ℕ → Rules
-rules_of config replicas = record {
+-- each replica has the configuration, but with limits of its own
+abbrev pub rules_with : Configuration → (ℕ → Limits) → ℕ → Rules
+rules_with config limits replicas = record {
   replicas = replicas;
-  limits = limits_of config;
+  limits = λ replica. limits_of (with_limits config (limits replica));
   fits = is_fitting config;
   knows = is_known config;
 }
+
+-- all have the limits of the configuration
+abbrev pub rules_of : Configuration → ℕ → Rules
+rules_of config replicas = rules_with config (λ replica. config.limits) replicas
 
 abbrev pub is_replica : Rules → ℕ → Bool
 is_replica rules replica = nat_le (replica + 1) rules.replicas
@@ -164,9 +173,9 @@ abbrev pub gained : Bool → World → ℕ → State → World
 gained true w replica state = with_state w replica state
 gained false w replica state = w
 
-abbrev pub apply : Limits → World → Effect → World
+abbrev pub apply : (ℕ → Limits) → World → Effect → World
 apply limits w nothing = w
-apply limits w (gains i gain) = gained (is_within_limits limits (joined (w.now i) gain)) w i
+apply limits w (gains i gain) = gained (is_within_limits (limits i) (joined (w.now i) gain)) w i
     (joined (w.now i) gain)
 apply limits w (sends message) = record w { sent = w.sent ++ message ∷ [] }
 apply limits w (saves i) = record w { saved = at_replica i (w.now i) w.saved }
@@ -183,13 +192,19 @@ run rules events = run_from rules empty_world events
 
 -- ---- what happened to replicas of one configuration
 
+-- each replica has limits of its own
 pub record WorldRun : Type 0 where
   pub config : Configuration
+  pub limits : ℕ → Limits
   pub replicas : ℕ
   pub events : List Event
 
 abbrev pub rules_in : WorldRun → Rules
-rules_in past = rules_of past.config past.replicas
+rules_in past = rules_with past.config past.limits past.replicas
+
+-- a replica's configuration, with its limits
+abbrev pub config_in : WorldRun → ℕ → Configuration
+config_in past replica = with_limits past.config (past.limits replica)
 
 abbrev pub world_after : WorldRun → World
 world_after past = run (rules_in past) past.events
@@ -200,6 +215,10 @@ held_by past replica = (world_after past).now replica
 
 abbrev pub saved_by : WorldRun → ℕ → State
 saved_by past replica = (world_after past).saved replica
+
+-- what its closure means
+abbrev pub meant_by : WorldRun → ℕ → Meaning
+meant_by past replica = meaning_of_state (config_in past replica) (held_by past replica)
 
 -- these happened after those
 abbrev pub followed_by : WorldRun → List Event → WorldRun

@@ -1,14 +1,15 @@
 //! What is so of every world of replicas: of whatever list of events happens to replicas of one
-//! configuration. Messages may be lost, repeated, late and in any order, and replicas may restart.
+//! configuration, each with limits of its own. Messages may be lost, repeated, late and in any
+//! order, and replicas may restart. What is too much for one replica it refuses; others take it.
 //! A call that needs a law calls its function, which does nothing, and cites what it ensures.
 ghost use Rattle.std.specs.Prelude.{◌≡◌, ◌≢◌, ℕ, ◌<◌, ◌≤◌, ◌++◌, ◌∷◌, [], List, Bool, true, false};
 ghost use Rattle.fed_config.specs.Configuration.{HasDomain};
 ghost use Rattle.receipt_core.specs.Receipt.{Receipt, Pair};
 ghost use Rattle.receipt_core.specs.declared.distrust.Distrust.{Distrust};
 ghost use Rattle.receipt_core.specs.Acceptance.{IsFitting, IsMeaning, IsMember, IsClosed};
-ghost use Rattle.replica_core.specs.State.{State, no_state, first_of, meaning_of_state};
+ghost use Rattle.replica_core.specs.State.{State, no_state, first_of};
 ghost use Rattle.replica_core.specs.World.{WorldRun, rules_in, world_after, held_by, saved_by};
-ghost use Rattle.replica_core.specs.World.{followed_by, without_records};
+ghost use Rattle.replica_core.specs.World.{followed_by, meant_by, without_records};
 ghost use Rattle.replica_core.specs.Convergence.{AreEvents, Lacks, ComesFrom, IsPartOf, Gains};
 ghost use Rattle.replica_core.specs.Convergence.{only_receipt, only_record, HasGive, Inquiry};
 ghost use Rattle.replica_core.specs.Convergence.{IsInquiry, Exchange, HasAll, Settles, at_give};
@@ -30,7 +31,7 @@ pub fn provenance()
     ensures saved_comes { (past : WorldRun) (i : ℕ) → ComesFrom past (saved_by past i) }
 {}
 
-/// What each event brings to a replica that would not hold too much after it.
+/// What each event brings to a replica that would not hold too much for its limits after it.
 ///
 /// - `takes`: a receipt that fits the configuration is held then.
 /// - `revokes`: so is a record whose domain is one of the configuration.
@@ -52,20 +53,20 @@ pub fn effects()
 
 /// What a replica holds is what a closure can mean.
 ///
-/// - `means`: its receipts and records have their form, rise, fit, and are not too many.
+/// - `means`: its receipts and records have their form, rise, fit, and are not too many for it.
 /// - `closed`, `least`: what that accepts is the least closed set, of all sets, also those that no
 ///   test decides.
 /// - `tests`: the same for the sets that a test decides.
 pub fn validity<S: DocumentSet>()
     ensures means { (past : WorldRun) (i : ℕ) → AreEvents past.events
-        → IsMeaning (meaning_of_state past.config (held_by past i)) }
+        → IsMeaning (meant_by past i) }
     ensures closed { (past : WorldRun) (i : ℕ)
-        → let m = meaning_of_state past.config (held_by past i) in IsClosed m (IsMember m) }
+        → let m = meant_by past i in IsClosed m (IsMember m) }
     ensures least { (past : WorldRun) (i : ℕ)
-        → let m = meaning_of_state past.config (held_by past i) in IsClosed m S.has
+        → let m = meant_by past i in IsClosed m S.has
         → (p : Pair) → IsMember m p → S.has p }
     ensures tests { (past : WorldRun) (i : ℕ) (set : Pair → Bool)
-        → let m = meaning_of_state past.config (held_by past i) in IsClosed m (λ p. set p ≡ true)
+        → let m = meant_by past i in IsClosed m (λ p. set p ≡ true)
         → (p : Pair) → IsMember m p → set p ≡ true }
 {}
 
@@ -123,7 +124,8 @@ pub fn session()
 
 /// When replicas hold the same.
 ///
-/// - `agreed`: replicas that each pulled, in quiet, from each other one hold the same. A replica
+/// - `agreed`: replicas that each pulled, in quiet, from each other one hold the same, whatever the
+///   limits of each, if no answer was too much for who took it. A replica
 ///   pulls by the whole answers about all buckets, or by sums and answers about the parts that
 ///   differ. What others bring to either of both meanwhile does no harm.
 pub fn agreement()

@@ -1,7 +1,7 @@
 //! What events do to replicas that are closures in memory.
 ghost use Rattle.std.specs.Prelude.{◌≡◌, ℕ, ◌+◌, cond, nat_le, IfOk, OnOk};
 ghost use Rattle.fed_config.specs.Configuration.{Configuration};
-ghost use Rattle.replica_core.specs.State.{State, limits_of, no_state};
+ghost use Rattle.replica_core.specs.State.{State, no_state};
 ghost use Rattle.replica_core.specs.Session.{state_of, have_of};
 ghost use Rattle.replica_core.specs.World.{World, empty_world, apply, gains, where_so, rules_of};
 ghost use Rattle.replica_core.specs.World.{is_replica, at_replica, AreOf, MeansState};
@@ -302,7 +302,7 @@ fn gain<C: Closure>(
         → (C.state more.now).meaning.config ≡ config
         → Plays (λ c. (C.state c).meaning) config n replicas.old w
         → OnOk result (Plays (λ c. (C.state c).meaning) config n replicas.new
-        (apply (limits_of config) w (where_so (is_replica (rules_of config n) replica)
+        (apply (rules_of config n).limits w (where_so (is_replica (rules_of config n) replica)
         (gains replica (state_of (C.state more.now).meaning))))) }
 {
     if replica < replicas.held.len() {

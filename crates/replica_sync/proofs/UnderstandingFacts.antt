@@ -12,11 +12,14 @@ use Rattle.std.specs.Io.KnownBytes.{Appends}
 use Rattle.std.proofs.lemmas.List.{length-map}
 use Rattle.std.proofs.lemmas.List.Folds.{flat_map-map}
 use Rattle.fed_config.specs.Configuration.{Configuration, HasDomain, IsConfiguration, config_id_of}
+use Rattle.closure_core.proofs.AlikeFacts.{domain_alike, one_digest, same_turned}
 use Rattle.receipt_core.specs.Order.{receipt_total, distrust_total}
 use Rattle.receipt_core.specs.declared.distrust.Distrust.{Distrust}
 use Rattle.receipt_core.specs.Receipt.{Receipt, IsDistrust, IsReceipt, receipt_cmp, distrust_cmp}
 use Rattle.receipt_core.specs.Rising.{with_items}
 use Rattle.receipt_core.specs.Acceptance.{IsFitting, Meaning, IsMeaning}
+use Rattle.closure_core.proofs.AlikeFacts.{fits_alike}
+use Rattle.replica_core.proofs.JoinLawFacts.{all-map}
 use Rattle.receipt_core.proofs.RisingFacts.{Has, IsExactOn, all_from_has, each_has, same_members, with_items-all, with_items-has, with_items-keeps}
 use Rattle.receipt_core.proofs.RisingFacts.{with_items-new, with_items-rising}
 use Rattle.closure_core.specs.declared.error.TakeError.{TakeError}
@@ -37,6 +40,7 @@ use Rattle.replica_sync.proofs.SessionFacts.{HoldsGives, IsSpelling, same-haves,
 use Rattle.replica_sync.proofs.WelcomeFacts.{IsRisingState, exact-receipts, exact-records, meaning-within, rising-after, rising-joined, rising-meaning}
 use Rattle.replica_sync.proofs.WelcomeFacts.{within-after, within-joined}
 use Rattle.receipt_core.specs.Limits.{receipt_limit, record_limit}
+use Rattle.closure_core.specs.Alike.{IsSameTrust}
 
 -- ---- the haves of a session
 
@@ -265,7 +269,7 @@ no-longer-than P cmp total exact xs ys p q allxs allys part =
     let equal = ap length same in
     omega (arith, longer, equal)
 
-module _ (m k : Meaning) (valid : IsMeaning m) (other : IsMeaning k) (same : m.config ≡ k.config)
+module _ (m k : Meaning) (valid : IsMeaning m) (other : IsMeaning k) (same : IsSameTrust m.config k.config)
     (room : is_within_limits (limits_of m.config) (joined (state_of m) (state_of k)) ≡ true) (qs : List HaveMessage) where
   abbrev then : State
   then = after_gives (state_of m) (all-gives k qs)
@@ -320,23 +324,25 @@ module _ (m k : Meaning) (valid : IsMeaning m) (other : IsMeaning k) (same : m.c
   meaning-then = record {
     receipts = each-receipt IsReceipt valid.receipts other.receipts;
     rising = rising-then.receipts;
-    fitting = each-receipt (IsFitting m.config) valid.fitting (subst (λ (c : Configuration). AllByRecursion (IsFitting c) k.held) (sym same) other.fitting);
+    fitting = each-receipt (IsFitting m.config) valid.fitting
+        (all-map (IsFitting k.config) (IsFitting m.config) (fits_alike k.config m.config (same_turned m.config k.config same)) k.held other.fitting);
     few = few-receipts;
     distrusts = each-record IsDistrust valid.distrusts other.distrusts;
     records_rising = rising-then.records;
     domains = each-record (λ x. HasDomain m.config x.domain) valid.domains
-        (subst (λ (c : Configuration). AllByRecursion (λ x. HasDomain c x.domain) k.records) (sym same) other.domains);
+        (all-map (λ x. HasDomain k.config x.domain) (λ x. HasDomain m.config x.domain)
+        (λ x. domain_alike k.config m.config (same_turned m.config k.config same) x.domain) k.records other.domains);
     few_records = few-records;
   }
 
 -- If both together are within the limits, nothing of it is refused either.
 pub answered-taken : (m k held : Meaning) (asked replied rest : List ℕ) (count : ℕ) (e : SyncError)
-    → IsConfiguration m.config → IsMeaning m → IsMeaning k → IsMeaning held → m.config ≡ k.config
+    → IsConfiguration m.config → IsMeaning m → IsMeaning k → IsMeaning held → IsSameTrust m.config k.config
     → is_within_limits (limits_of m.config) (joined (state_of m) (state_of k)) ≡ true
     → ServesAll (known_run asked replied) k count → PullsUpTo (known_run (replied ++ rest) asked) m held e
     → e ≢ Io → e ≢ NoMemory → ⊥
 answered-taken m k held asked replied rest count e configured valid other kept same room all part calm ample =
-    answered-or-not m k held asked replied rest count e valid other kept (ap config_id_of same) all part calm ample
+    answered-or-not m k held asked replied rest count e valid other kept (one_digest m.config k.config same) all part calm ample
     (inr (record {
       configured = configured;
       rising = rising-meaning m valid;

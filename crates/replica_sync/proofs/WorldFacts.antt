@@ -16,7 +16,7 @@ use Rattle.receipt_core.proofs.LineFacts.{one_line, one_record}
 use Rattle.receipt_core.specs.Acceptance.{Meaning, IsMeaning}
 use Rattle.replica_core.specs.State.{State, first_of, ids_named, is_within_limits, joined, limits_of, meaning_of_state, no_state}
 use Rattle.replica_core.specs.Session.{HaveMessage, GiveMessage, give_of, state_of}
-use Rattle.replica_core.specs.World.{Message, Rules, World, give_sent, apply, gained, happens, have_sent, rules_of, run_from}
+use Rattle.replica_core.specs.World.{Message, Rules, World, give_sent, apply, gained, happens, have_sent, run_from}
 use Rattle.replica_core.specs.World.{takes_part, where_so, with_state}
 use Rattle.replica_core.specs.declared.event.Event.TheVariants.{Ask, Answer, Absorb, Part}
 use Rattle.replica_core.proofs.ContainsFacts.{get-new}
@@ -46,7 +46,7 @@ link_of i j = record { puller = i; server = j }
 
 -- A replica that takes the first lines of an answer within the limits joins these.
 part-is : (rules : Rules) (w : World) (i j n k count : ℕ) (content : State) → i < rules.replicas → slice_get w.sent n ≡ Some (give_sent j k content)
-    → is_within_limits rules.limits (joined (w.now i) (first_of count content)) ≡ true
+    → is_within_limits (rules.limits i) (joined (w.now i) (first_of count content)) ≡ true
     → happens rules w (Part i n count) ≡ with_state w i (joined (w.now i) (first_of count content))
 part-is rules w i j n k count content l e t =
     ap (λ (b : Bool). apply rules.limits w (where_so b (takes_part i count (slice_get w.sent n)))) (replica-true rules i l)
@@ -79,13 +79,13 @@ module _ (rules : Rules) (i j : ℕ) (l : i < rules.replicas) (n : j < rules.rep
       (length-append w.sent (the_have ∷ []))
       (get-new (w.sent ++ the_have ∷ []) (give_sent j (length w.sent) the_content))
 
-  pub whole-is : is_within_limits rules.limits (joined (w.now i) the_content) ≡ true
+  pub whole-is : is_within_limits (rules.limits i) (joined (w.now i) the_content) ≡ true
       → run_from rules w (whole_exchange (link_of i j) bucket (length w.sent)) ≡ with_state answered_world i (joined (w.now i) the_content)
   whole-is t =
       ap (λ (v : World). happens rules v (Absorb i (length w.sent + 1))) to-answered
       ∙ absorbed-is rules answered_world i j (length w.sent + 1) (length w.sent) the_content l answer-there t
 
-  pub cut-is : (count : ℕ) → is_within_limits rules.limits (joined (w.now i) (first_of count the_content)) ≡ true
+  pub cut-is : (count : ℕ) → is_within_limits (rules.limits i) (joined (w.now i) (first_of count the_content)) ≡ true
       → run_from rules w (cut_exchange (link_of i j) bucket (length w.sent) count) ≡ with_state answered_world i (joined (w.now i) (first_of count the_content))
   cut-is count t =
       ap (λ (v : World). happens rules v (Part i (length w.sent + 1) count)) to-answered
@@ -133,13 +133,13 @@ same-content i j c k w state sent bucket r at is =
 
 module _ (rules : Rules) (i j : ℕ) (l : i < rules.replicas) (n : j < rules.replicas) (apart : j ≢ i) (c : Configuration) (k : Meaning) where
   one-exchange : (w : World) (state : State) (sent bucket : ℕ) (r : GiveMessage) → IsAt i j k w state sent
-      → r ≡ give_of k (have_in c state bucket) → bucket ≤ 255 → is_within_limits rules.limits (joined state r.content) ≡ true
+      → r ≡ give_of k (have_in c state bucket) → bucket ≤ 255 → is_within_limits (rules.limits i) (joined state r.content) ≡ true
       → IsAt i j k (run_from rules w (whole_exchange (link_of i j) bucket sent)) (joined state r.content) (sent + 2)
   one-exchange w state sent bucket r at is low room =
       let content = same-content i j c k w state sent bucket r at is in
       let taken : joined (w.now i) (the_content rules i j l n w bucket low) ≡ joined state r.content = (λ t. joined (at.here t) (content t)) in
       let run = ap (λ (s : ℕ). run_from rules w (whole_exchange (link_of i j) bucket s)) (sym at.many)
-      ∙ whole-is rules i j l n w bucket low (ap (is_within_limits rules.limits) taken ∙ room) in
+      ∙ whole-is rules i j l n w bucket low (ap (is_within_limits (rules.limits i)) taken ∙ room) in
       let two = many-sent rules i j l n w bucket low in
       let many = at.many in
       let sent_then = ap (λ (v : World). length v.sent) run in
@@ -152,7 +152,7 @@ module _ (rules : Rules) (i j : ℕ) (l : i < rules.replicas) (n : j < rules.rep
 
   -- this many whole exchanges
   run-all : (gives : List GiveMessage) (w : World) (state : State) (sent bucket : ℕ) → IsAt i j k w state sent → GivesOf c k bucket state gives
-      → bucket + length gives ≤ 256 → IsSmall rules.limits (after_gives state gives)
+      → bucket + length gives ≤ 256 → IsSmall (rules.limits i) (after_gives state gives)
       → IsAt i j k (run_from rules w (whole_exchanges (link_of i j) (length gives) bucket sent)) (after_gives state gives) (sent + 2 * length gives)
   unfolding whole_exchanges
   run-all [] w state sent bucket at is few small =
@@ -160,7 +160,7 @@ module _ (rules : Rules) (i j : ℕ) (l : i < rules.replicas) (n : j < rules.rep
       record { here = at.here; there = at.there; many = omega (arith, many) }
   run-all (r ∷ gives) w state sent bucket at is few small =
       let one = one-exchange w state sent bucket r at is.0 (omega (arith, few))
-      (small-within rules.limits (joined state r.content) (after_gives state (r ∷ gives)) (within-after (joined state r.content) gives) small) in
+      (small-within (rules.limits i) (joined state r.content) (after_gives state (r ∷ gives)) (within-after (joined state r.content) gives) small) in
       let later = run-all gives (run_from rules w (whole_exchange (link_of i j) bucket sent)) (joined state r.content) (sent + 2) (bucket + 1) one is.1
       (omega (arith, few)) small in
       let many = later.many in
@@ -192,22 +192,29 @@ gives-given m k held asked replied rest count valid other kept same all pulls =
     (gives-in-turn m.config k 0 haves other (sym same) asks.each) (omega (arith, many, both, each)) pulls.session.text
     (ap (λ (t : List ℕ). t ++ rest) text)
 
+-- What the replica can mean is within its limits.
+own-small : (m : Meaning) (rules : Rules) (i : ℕ) (state : State) → rules.limits i ≡ limits_of m.config
+    → IsMeaning (meaning_of_state m.config state) → IsSmall (rules.limits i) state
+own-small m rules i state own valid =
+    subst (λ (limits : Limits). IsSmall limits state) (sym own) (record { receipts = valid.few; records = valid.few_records })
+
 -- What a pull holds is what its replica holds after whole exchanges about all buckets.
-pub pull-in-world : (m k held : Meaning) (n i j : ℕ) (w : World) (asked replied rest : List ℕ) (count : ℕ) → i < n → j < n → i ≢ j
+pub pull-in-world : (m k held : Meaning) (rules : Rules) (i j : ℕ) (w : World) (asked replied rest : List ℕ) (count : ℕ)
+    → i < rules.replicas → j < rules.replicas → i ≢ j → rules.limits i ≡ limits_of m.config
     → w.now i ≡ state_of m → w.now j ≡ state_of k → IsMeaning m → IsMeaning k → IsMeaning held
     → config_id_of m.config ≡ config_id_of k.config → ServesAll (known_run asked replied) k count
     → PullsAll (known_run (replied ++ rest) asked) m held
-    → (run_from (rules_of m.config n) w (whole_exchanges (link_of i j) 256 0 (length w.sent))).now i ≡ state_of held
-pull-in-world m k held n i j w asked replied rest count l h apart here there valid other kept same all pulls =
+    → (run_from rules w (whole_exchanges (link_of i j) 256 0 (length w.sent))).now i ≡ state_of held
+pull-in-world m k held rules i j w asked replied rest count l h apart own here there valid other kept same all pulls =
     let gives = pulls.gives in
     let equal = gives-given m k held asked replied rest count valid other kept same all pulls in
     let all_of_it = pulls.all in
     let final : IsMeaning (meaning_of_state m.config (after_gives (state_of m) gives)) = subst IsMeaning pulls.meaning kept in
-    let run = run-all (rules_of m.config n) i j l h (λ e. apart (sym e)) m.config k gives w (state_of m) (length w.sent) 0
+    let run = run-all rules i j l h (λ e. apart (sym e)) m.config k gives w (state_of m) (length w.sent) 0
     (record { here = here; there = there; many = refl })
     (answers-of m.config k 0 (state_of m) gives [] [] (append-nil gives ∙ equal)) (omega (arith, all_of_it))
-    (record { receipts = final.few; records = final.few_records }) in
-    subst (λ (b : ℕ). (run_from (rules_of m.config n) w (whole_exchanges (link_of i j) b 0 (length w.sent))).now i ≡ after_gives (state_of m) gives)
+    (own-small m rules i (after_gives (state_of m) gives) own final) in
+    subst (λ (b : ℕ). (run_from rules w (whole_exchanges (link_of i j) b 0 (length w.sent))).now i ≡ after_gives (state_of m) gives)
     all_of_it run.here ∙ ap state_of (sym pulls.meaning)
 
 -- ---- a pull that was cut
@@ -350,28 +357,29 @@ part-is-cut c state bucket first content left lost r rest e is begins (inr fault
 -- After an exchange that was cut the puller has joined what came.
 cut-exchange-is : (rules : Rules) (i j : ℕ) (l : i < rules.replicas) (n : j < rules.replicas) (c : Configuration) (k : Meaning)
     (w : World) (state : State) (sent bucket : ℕ) (r : GiveMessage) (content : State) → IsAt i j k w state sent
-    → r ≡ give_of k (have_in c state bucket) → bucket ≤ 255 → is_within_limits rules.limits (joined state content) ≡ true
+    → r ≡ give_of k (have_in c state bucket) → bucket ≤ 255 → is_within_limits (rules.limits i) (joined state content) ≡ true
     → (cut : IsCut r.content content) → (run_from rules w (cut_exchange (link_of i j) bucket sent cut.lines)).now i ≡ joined state content
 cut-exchange-is rules i j l n c k w state sent bucket r content at is low room cut =
     let same = same-content i j c k w state sent bucket r at is in
     let taken : joined (w.now i) (first_of cut.lines (the_content rules i j l n w bucket low)) ≡ joined state content =
     (λ t. joined (at.here t) (first_of cut.lines (same t))) ∙ ap (joined state) cut.is in
     let run = ap (λ (s : ℕ). run_from rules w (cut_exchange (link_of i j) bucket s cut.lines)) (sym at.many)
-    ∙ cut-is rules i j l n w bucket low cut.lines (ap (is_within_limits rules.limits) taken ∙ room) in
+    ∙ cut-is rules i j l n w bucket low cut.lines (ap (is_within_limits (rules.limits i)) taken ∙ room) in
     ap (λ (v : World). v.now i) run ∙ at-here i (joined (w.now i) (first_of cut.lines (the_content rules i j l n w bucket low))) w.now ∙ taken
 
 -- What a pull holds that was cut is what its replica holds after whole exchanges and one that was cut.
-pub cut-in-world : (m k held : Meaning) (n i j : ℕ) (w : World) (asked replied rest bytes lost : List ℕ) (count : ℕ) (e : SyncError)
-    → i < n → j < n → i ≢ j → w.now i ≡ state_of m → w.now j ≡ state_of k → IsMeaning m → IsMeaning k → IsMeaning held
+pub cut-in-world : (m k held : Meaning) (rules : Rules) (i j : ℕ) (w : World) (asked replied rest bytes lost : List ℕ) (count : ℕ) (e : SyncError)
+    → i < rules.replicas → j < rules.replicas → i ≢ j → rules.limits i ≡ limits_of m.config
+    → w.now i ≡ state_of m → w.now j ≡ state_of k → IsMeaning m → IsMeaning k → IsMeaning held
     → config_id_of m.config ≡ config_id_of k.config → ServesAll (known_run asked replied) k count
     → bytes ++ lost ≡ replied ++ rest → PullsUpTo (known_run bytes asked) m held e → e ≢ Io → e ≢ NoMemory
-    → EndsCut (rules_of m.config n) w (link_of i j) (state_of held)
-cut-in-world m k held n i j w asked replied rest bytes lost count e l h apart here there valid other kept same all begins part calm ample =
+    → EndsCut rules w (link_of i j) (state_of held)
+cut-in-world m k held rules i j w asked replied rest bytes lost count e l h apart own here there valid other kept same all begins part calm ample =
     cut-at part.left part.session.text part.cause
   where
     cut-at : (left : Option (List ℕ)) → Consumes (Some bytes) left (give_texts part.gives)
         → RefusesGiveAbout m.config (after_gives (state_of m) part.gives) (length part.gives) (line_count part.gives + 1) part.content left e
-        → EndsCut (rules_of m.config n) w (link_of i j) (state_of held)
+        → EndsCut rules w (link_of i j) (state_of held)
     cut-at None text cause = absurd text
     cut-at (Some left) text cause =
         let state = after_gives (state_of m) part.gives in
@@ -399,20 +407,20 @@ cut-in-world m k held n i j w asked replied rest bytes lost count e l h apart he
         let follows : left ++ lost ≡ give_text give ++ rest =
         front.follows ∙ ap (λ (ls : List GiveMessage). give_texts ls ++ rest) one ∙ ap (λ (t : List ℕ). t ++ rest) (append-nil (give_text give)) in
         let cut = part-is-cut m.config state (length part.gives) (line_count part.gives + 1) part.content left lost give rest e is follows cause in
-        let room = small-within (limits_of m.config) (joined state part.content) (joined state part.content) (within-itself (joined state part.content))
-        (record { receipts = final.few; records = final.few_records }) in
-        let run = run-all (rules_of m.config n) i j l h (λ s. apart (sym s)) m.config k part.gives w (state_of m) (length w.sent) 0
+        let room = small-within (rules.limits i) (joined state part.content) (joined state part.content) (within-itself (joined state part.content))
+        (own-small m rules i (joined state part.content) own final) in
+        let run = run-all rules i j l h (λ s. apart (sym s)) m.config k part.gives w (state_of m) (length w.sent) 0
         (record { here = here; there = there; many = refl })
         (answers-of m.config k 0 (state_of m) part.gives (last-asked m part.gives) front.later (sym front.whole)) (omega (arith, few))
-        (record { receipts = now.few; records = now.few_records }) in
+        (own-small m rules i state own now) in
         record {
           buckets = length part.gives;
           few = few;
           lines = cut.lines;
           holds = ap (λ (v : World). v.now i)
-              (fold-append (happens (rules_of m.config n)) w (whole_exchanges (link_of i j) (length part.gives) 0 (length w.sent))
+              (fold-append (happens rules) w (whole_exchanges (link_of i j) (length part.gives) 0 (length w.sent))
               (cut_exchange (link_of i j) (length part.gives) (length w.sent + 2 * length part.gives) cut.lines))
-              ∙ cut-exchange-is (rules_of m.config n) i j l h m.config k _ state (length w.sent + 2 * length part.gives)
+              ∙ cut-exchange-is rules i j l h m.config k _ state (length w.sent + 2 * length part.gives)
               (length part.gives) give part.content run refl (omega (arith, few)) room cut
               ∙ ap state_of (sym part.meaning);
         }

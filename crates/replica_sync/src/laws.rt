@@ -5,12 +5,13 @@ ghost use Rattle.std.specs.Prelude.{length, true, ℕ, ◌∷◌, drop, None, Ok
 ghost use Rattle.fed_config.specs.Configuration.{IsConfiguration, config_id_of};
 ghost use Rattle.byte_lines.specs.Lines.{lines_of, with_line};
 ghost use Rattle.receipt_core.specs.Acceptance.{Meaning, IsMeaning};
+ghost use Rattle.closure_core.specs.Alike.{IsSameTrust};
 ghost use Rattle.closure_core.specs.declared.error.TakeError.{TakeError};
 ghost use Rattle.replica_core.specs.Convergence.{AreEvents, HasAll, Settles};
 ghost use Rattle.replica_core.specs.Session.{HaveMessage, have_of, give_of, state_of};
-ghost use Rattle.replica_core.specs.State.{is_within_limits, joined, limits_of, meaning_of_state};
-ghost use Rattle.replica_core.specs.World.{World, WorldRun, rules_of, rules_in, run_from};
-ghost use Rattle.replica_core.specs.World.{world_after, held_by, followed_by};
+ghost use Rattle.replica_core.specs.State.{is_within_limits, joined, limits_of};
+ghost use Rattle.replica_core.specs.World.{Rules, World, WorldRun, rules_in, run_from};
+ghost use Rattle.replica_core.specs.World.{world_after, followed_by, meant_by};
 ghost use Rattle.replica_core.specs.declared.event.Event.{Event};
 ghost use Rattle.replica_core.specs.declared.error.SyncError.{SyncError};
 ghost use Rattle.replica_core.specs.declared.error.SyncError.TheVariants.{Io, NoMemory, Refused};
@@ -133,8 +134,9 @@ pub fn sessions()
 /// - `served`: a session that serves what a pull wrote has no error.
 /// - `pulled`: nor has a pull that reads what is written to its haves, except that what a line says
 ///   may be refused.
-/// - `taken`: nor is anything refused if the configuration is the same, and both together hold no
-///   more than its limits allow. So nothing but a device or memory ends it early.
+/// - `taken`: nor is anything refused if the relationships, seeds and floors are the same, and both
+///   together hold no more than the limits of the asker allow. So nothing but a device or memory
+///   ends it early.
 /// - `brings`: a pull that was carried out brings all that the other side held: each receipt of
 ///   each bucket, or one with its id, and each record.
 /// - `joins`: if no two receipts of both have one id, what is held then is what both held together,
@@ -158,7 +160,7 @@ pub fn understanding()
         → e ≢ Io → e ≢ NoMemory → ((n : ℕ) (why : TakeError) → e ≢ Refused n why) → ⊥ }
     ensures taken { (m k held : Meaning) (asked replied rest : List ℕ) (count : ℕ) (e : SyncError)
         → IsConfiguration m.config → IsMeaning m → IsMeaning k → IsMeaning held
-        → m.config ≡ k.config
+        → IsSameTrust m.config k.config
         → is_within_limits (limits_of m.config) (joined (state_of m) (state_of k)) ≡ true
         → ServesAll (known_run asked replied) k count
         → PullsUpTo (known_run (replied ++ rest) asked) m held e
@@ -178,21 +180,22 @@ pub fn understanding()
         → state_of held ≡ joined (state_of m) (state_of k) }
 {}
 
-/// Replicas that each pulled, in quiet, from each other one have the same snapshots, byte by byte.
+/// Replicas that each pulled, in quiet, from each other one have the same snapshots, byte by byte,
+/// whatever the limits of each.
 pub fn convergence()
     ensures same_snapshots { (past : WorldRun) (since : List Event) (i j : ℕ)
         → AreEvents past.events → i < past.replicas → j < past.replicas
         → Settles (rules_in past) (world_after past) since
-        → written_snapshot (meaning_of_state past.config (held_by (followed_by past since) i))
-        ≡ written_snapshot
-        (meaning_of_state past.config (held_by (followed_by past since) j)) }
+        → written_snapshot (meant_by (followed_by past since) i)
+        ≡ written_snapshot (meant_by (followed_by past since) j) }
 {
     agreement();
+    snapshots();
 }
 
-/// A session is part of what happens in a world of replicas with one configuration: replica i
-/// pulls, and replica j serves it. `asked` are the bytes that the pull wrote, and `replied`
-/// those that were written to them.
+/// A session is part of what happens in a world of replicas with one configuration, each with
+/// limits of its own: replica i pulls, and replica j serves it. `asked` are the bytes that the pull
+/// wrote, and `replied` those that were written to them.
 ///
 /// - `whole`: after a pull that was carried out i holds what it holds in the world in which it
 ///   asked j about each bucket and absorbed each answer.
@@ -200,22 +203,25 @@ pub fn convergence()
 ///   in the world in which it absorbed the answers about the first buckets, and the first lines of
 ///   the next one.
 pub fn world_of_sessions()
-    ensures whole { (m k held : Meaning) (n i j : ℕ) (w : World) (asked replied rest : List ℕ)
-        (count : ℕ) → i < n → j < n → i ≢ j → w.now i ≡ state_of m → w.now j ≡ state_of k
+    ensures whole { (m k held : Meaning) (rules : Rules) (i j : ℕ) (w : World)
+        (asked replied rest : List ℕ) (count : ℕ)
+        → i < rules.replicas → j < rules.replicas → i ≢ j → rules.limits i ≡ limits_of m.config
+        → w.now i ≡ state_of m → w.now j ≡ state_of k
         → IsMeaning m → IsMeaning k → IsMeaning held
         → config_id_of m.config ≡ config_id_of k.config
         → ServesAll (known_run asked replied) k count
         → PullsAll (known_run (replied ++ rest) asked) m held
-        → (run_from (rules_of m.config n) w
+        → (run_from rules w
         (whole_exchanges (record { puller = i; server = j }) 256 0 (length w.sent))).now i
         ≡ state_of held }
-    ensures cut { (m k held : Meaning) (n i j : ℕ) (w : World)
-        (asked replied rest bytes lost : List ℕ) (count : ℕ) (e : SyncError) → i < n → j < n → i ≢ j
+    ensures cut { (m k held : Meaning) (rules : Rules) (i j : ℕ) (w : World)
+        (asked replied rest bytes lost : List ℕ) (count : ℕ) (e : SyncError)
+        → i < rules.replicas → j < rules.replicas → i ≢ j → rules.limits i ≡ limits_of m.config
         → w.now i ≡ state_of m → w.now j ≡ state_of k
         → IsMeaning m → IsMeaning k → IsMeaning held
         → config_id_of m.config ≡ config_id_of k.config
         → ServesAll (known_run asked replied) k count
         → bytes ++ lost ≡ replied ++ rest
         → PullsUpTo (known_run bytes asked) m held e → e ≢ Io → e ≢ NoMemory
-        → EndsCut (rules_of m.config n) w (record { puller = i; server = j }) (state_of held) }
+        → EndsCut rules w (record { puller = i; server = j }) (state_of held) }
 {}

@@ -1,6 +1,6 @@
 -- A stream is the text of one set.
 use Rattle.std.proofs.Common.{◌≡◌, ℕ, ◌<◌, ◌^◌, List, [], ◌∷◌, ◌++◌, length, map, decimal, codes, Some, refl, ap, sym}
-use Rattle.std.proofs.Common.{◌∙◌, arith, append_assoc, append-nil, get_or}
+use Rattle.std.proofs.Common.{◌∙◌, subst, arith, append_assoc, append-nil, get_or}
 use Rattle.std.specs.List.{AllByRecursion}
 use Rattle.std.proofs.lemmas.List.{append_cancel_left}
 use Rattle.std.proofs.lemmas.List.Concat.{flat_map-cons}
@@ -10,7 +10,9 @@ use Rattle.std.specs.Ordering.{nat_cmp}
 use Rattle.std.specs.Cmp.{tied_itself}
 use Rattle.std.specs.Cmp.Lexicographic.{slice_cmp, nat_list_cmp_total}
 use Rattle.std.specs.declared.cmp.Ordering.TheVariants.{Less, Equal}
-use Rattle.fed_config.specs.Configuration.{Configuration}
+use Rattle.hex.specs.Hex.{encode_lower}
+use Rattle.fed_config.specs.Configuration.{Configuration, config_id_of}
+use Rattle.closure_core.proofs.AlikeFacts.{one_digest, same_turned}
 use Rattle.receipt_core.specs.declared.distrust.Distrust.{Distrust}
 use Rattle.receipt_core.specs.Receipt.{Receipt, IsReceipt, line, IsDistrust, distrust_line}
 use Rattle.receipt_core.specs.Acceptance.{Meaning, IsMeaning}
@@ -18,13 +20,14 @@ use Rattle.byte_lines.specs.Lines.{Lines, lines_of, with_line}
 use Rattle.byte_lines.proofs.StreamFacts.{lines_of-line}
 use Rattle.receipt_core.proofs.LineFacts.{one_line, one_record, record_first}
 use Rattle.replica_core.proofs.RisingListFacts.{all_append}
-use Rattle.replica_texts.specs.Snapshots.{IsSnapshot, header_line, header_of, digits_of, count_line, count_of, count_beginning, records_part, ended}
+use Rattle.replica_texts.specs.Snapshots.{IsSnapshot, header_line, header_of, version_of, digits_of, count_line, count_of, count_beginning, records_part, ended}
 use Rattle.replica_texts.specs.Snapshots.{text_of_lines, held_lines, snapshot_text}
 use Rattle.replica_texts.specs.declared.format.Format.{Format}
 use Rattle.replica_texts.specs.declared.format.Format.TheVariants.{First, Second}
 use Rattle.replica_texts.proofs.WritingFacts.{lines_append}
 use Rattle.replica_texts.proofs.FeedFacts.{Feedless, feedless_both, feedless_decimal, feedless_line, feedless_record}
 use Rattle.receipt_core.proofs.LimitFacts.{receipt_limit-most, record_limit-most}
+use Rattle.closure_core.specs.Alike.{AreAlike, IsSameTrust}
 
 -- ---- the lines of a text
 
@@ -211,13 +214,26 @@ front_same (x ∷ xs) (y ∷ ys) a b e =
     let tail : xs ++ a ∷ [] ≡ ys ++ b ∷ [] = cc in
     (λ i. head i ∷ front_same xs ys a b tail i)
 
--- A snapshot of one format is that of one meaning.
-one_format : (format : Format) (m n : Meaning) → m.config ≡ n.config → IsMeaning m → IsMeaning n → snapshot_text format m ≡ snapshot_text format n → m ≡ n
+-- The first line does not say the limits.
+header_alike : (format : Format) (b c : Configuration) → IsSameTrust b c → header_line format b ≡ header_line format c
+header_alike format b c same = ap (λ id. header_of (encode_lower id) (decimal (version_of format))) (one_digest b c same)
+
+-- Replicas that hold the same have one snapshot.
+pub snapshot_alike : (format : Format) (m n : Meaning) → AreAlike m n → snapshot_text format m ≡ snapshot_text format n
+snapshot_alike format m n alike =
+    let digest : config_id_of m.config ≡ config_id_of n.config = one_digest m.config n.config alike.trust in
+    λ i. (ended (header_of (encode_lower (digest i)) (decimal (version_of format)))
+    ++ text_of_lines (map distrust_line (alike.records i) ++ map line (alike.held i)))
+    ++ ended (count_of format (length (alike.held i)) (length (alike.records i)))
+
+-- A snapshot of one format is that of one meaning, except for the limits.
+one_format : (format : Format) (m n : Meaning) → IsSameTrust m.config n.config → IsMeaning m → IsMeaning n
+    → snapshot_text format m ≡ snapshot_text format n → AreAlike m n
 one_format format m n same p q e =
     let follows = λ (k : Meaning). held_lines k ++ count_line format k ∷ [] in
     let texts : text_of_lines (all_lines format m) ≡ text_of_lines (all_lines format n) = sym (snapshot_lines format m) ∙ e ∙ snapshot_lines format n in
     let split : ended (header_line format n.config) ++ text_of_lines (follows m) ≡ ended (header_line format n.config) ++ text_of_lines (follows n) =
-    ap (λ c. ended (header_line format c) ++ text_of_lines (follows m)) (sym same)
+    ap (λ h. ended h ++ text_of_lines (follows m)) (sym (header_alike format m.config n.config same))
     ∙ sym (flat_map-cons ended (header_line format m.config) (follows m)) ∙ texts
     ∙ flat_map-cons ended (header_line format n.config) (follows n) in
     let later : text_of_lines (follows m) ≡ text_of_lines (follows n) =
@@ -230,7 +246,7 @@ one_format format m n same p q e =
     front_same (held_lines m) (held_lines n) (count_line format m) (count_line format n)
     (sym (append-nil (follows m)) ∙ wholes ∙ append-nil (follows n)) in
     let sets = held_back m.records n.records m.held n.held p.distrusts q.distrusts p.receipts q.receipts fronts in
-    λ i. record { config = same i; held = sets.receipts i; records = sets.records i }
+    record { trust = same; held = sets.receipts; records = sets.records }
 
 -- A snapshot is its first line, the lines of what is held, and the last line.
 pub front_text : (format : Format) (m : Meaning)
@@ -239,21 +255,24 @@ pub front_text : (format : Format) (m : Meaning)
 front_text format m = append_assoc (ended (header_line format m.config)) (text_of_lines (held_lines m)) (ended (count_line format m))
 
 -- No snapshot is of both formats.
-other_format : (config : Configuration) (m n : Meaning) → m.config ≡ config → n.config ≡ config → snapshot_text First m ≡ snapshot_text Second n → ⊥
-other_format config m n p q e =
-    formats_apart (digits_of config) _ _
-    (ap (λ c. ended (header_line First c) ++ (text_of_lines (held_lines m) ++ ended (count_line First m))) (sym p)
-    ∙ sym (front_text First m) ∙ e ∙ front_text Second n
-    ∙ ap (λ c. ended (header_line Second c) ++ (text_of_lines (held_lines n) ++ ended (count_line Second n))) q)
+other_format : (m n : Meaning) → IsSameTrust m.config n.config → snapshot_text First m ≡ snapshot_text Second n → ⊥
+other_format m n same e =
+    formats_apart (digits_of n.config) _ _
+    (ap (λ h. ended h ++ (text_of_lines (held_lines m) ++ ended (count_line First m))) (sym (header_alike First m.config n.config same))
+    ∙ sym (front_text First m) ∙ e ∙ front_text Second n)
 
 -- A snapshot is that of one meaning, whatever the formats.
-by_formats : (config : Configuration) (f k : Format) (m n : Meaning) → m.config ≡ config → n.config ≡ config
-    → IsMeaning m → IsMeaning n → snapshot_text f m ≡ snapshot_text k n → m ≡ n
-by_formats config First First m n p q h j e = one_format First m n (p ∙ sym q) h j e
-by_formats config First Second m n p q h j e = absurd (other_format config m n p q e)
-by_formats config Second First m n p q h j e = absurd (other_format config n m q p (sym e))
-by_formats config Second Second m n p q h j e = one_format Second m n (p ∙ sym q) h j e
+by_formats : (f k : Format) (m n : Meaning) → IsSameTrust m.config n.config
+    → IsMeaning m → IsMeaning n → snapshot_text f m ≡ snapshot_text k n → AreAlike m n
+by_formats First First m n same h j e = one_format First m n same h j e
+by_formats First Second m n same h j e = absurd (other_format m n same e)
+by_formats Second First m n same h j e = absurd (other_format n m (same_turned m.config n.config same) (sym e))
+by_formats Second Second m n same h j e = one_format Second m n same h j e
 
 -- a stream is the text of one set at most
-pub one_set : (config : Configuration) (bytes : List ℕ) (m n : Meaning) → IsSnapshot config (Some bytes) m → IsSnapshot config (Some bytes) n → m ≡ n
-one_set config bytes m n p q = by_formats config p.format q.format m n p.of_config q.of_config p.valid q.valid (sym p.text ∙ q.text)
+pub one_set : (config own : Configuration) (bytes : List ℕ) (m n : Meaning) → IsSameTrust config own → IsSnapshot config (Some bytes) m
+    → IsSnapshot own (Some bytes) n → AreAlike m n
+one_set config own bytes m n same p q =
+    by_formats p.format q.format m n
+    (subst (λ (c : Configuration). IsSameTrust c n.config) (sym p.of_config) (subst (IsSameTrust config) (sym q.of_config) same))
+    p.valid q.valid (sym p.text ∙ q.text)

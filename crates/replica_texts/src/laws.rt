@@ -6,6 +6,7 @@ ghost use Rattle.std.specs.Io.KnownBytes.{Consumes};
 ghost use Rattle.fed_config.specs.Configuration.{Configuration, IsConfiguration};
 ghost use Rattle.byte_lines.specs.Lines.{HasNoFeed};
 ghost use Rattle.receipt_core.specs.Acceptance.{Meaning};
+ghost use Rattle.closure_core.specs.Alike.{AreAlike, IsSameTrust};
 ghost use Rattle.replica_core.specs.Session.{HaveMessage, GiveMessage};
 ghost use Rattle.replica_core.specs.declared.entry.Entry.{Entry};
 ghost use Rattle.replica_core.specs.declared.error.SyncError.{SyncError};
@@ -15,19 +16,24 @@ ghost use Rattle.replica_texts.specs.Messages.{have_text, give_text};
 ghost use Rattle.replica_texts.specs.FirstLines.{HasDigestOf};
 ghost use Rattle.replica_texts.specs.Haves.{IsAskable, RefusesHave};
 ghost use Rattle.replica_texts.specs.Gives.{IsGive, RefusesGive};
-ghost use Rattle.replica_texts.specs.Snapshots.{IsSnapshot, RefusesSnapshot};
+ghost use Rattle.replica_texts.specs.Snapshots.{IsSnapshot, RefusesSnapshot, snapshot_text};
+ghost use Rattle.replica_texts.specs.declared.format.Format.{Format};
 ghost use Rattle.replica_texts.specs.SoleLines.{IsWellFormed, written_header};
 
 /// What a stream says is unique: it is the text of one set at most, and under a valid configuration
 /// the text of a set has no error. Only a source that fails, or lack of memory, may keep it from
 /// being read.
 ///
-/// - `one`: two sets whose text it is are the same.
+/// - `same`: replicas that hold the same have one snapshot in each format, whatever their limits.
+/// - `one`: two sets whose text it is are the same, also if replicas with other limits read it.
 /// - `read`: it has no error if it is the text of a set.
 /// - `one_cause`: if it is not such a text, it has one error.
 pub fn snapshots()
-    ensures one { (config : Configuration) (bytes : List ℕ) (m n : Meaning)
-        → IsSnapshot config (Some bytes) m → IsSnapshot config (Some bytes) n → m ≡ n }
+    ensures same { (format : Format) (one other : Meaning) → AreAlike one other
+        → snapshot_text format one ≡ snapshot_text format other }
+    ensures one { (config own : Configuration) (bytes : List ℕ) (m n : Meaning)
+        → IsSameTrust config own → IsSnapshot config (Some bytes) m
+        → IsSnapshot own (Some bytes) n → AreAlike m n }
     ensures read { (config : Configuration) (bytes : List ℕ) (m : Meaning) (e : SyncError)
         → IsConfiguration config → e ≢ Io → e ≢ NoMemory
         → IsSnapshot config (Some bytes) m → RefusesSnapshot config (Some bytes) e → ⊥ }

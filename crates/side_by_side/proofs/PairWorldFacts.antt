@@ -82,14 +82,14 @@ take_over : Provenance → (past : PairRun) (side : Side) (events : List Event) 
     → w ≡ run (rules_at past side) events → AreEvents (take_of i (slice_get (w.now i).held place))
 take_over comes past side events w i place are is =
     take_event i (slice_get (w.now i).held place)
-    (λ r found. receipt_form comes (record { config = config_at past side; replicas = past.replicas; events = events }) i r are
+    (λ r found. receipt_form comes (record { config = config_at past side; limits = past.limits side; replicas = past.replicas; events = events }) i r are
     (subst (λ (w : World). Contains (w.now i).held r) is (at_place (w.now i).held place r found)))
 
 revoke_over : Provenance → (past : PairRun) (side : Side) (events : List Event) (w : World) (i place : ℕ) → AreEvents events
     → w ≡ run (rules_at past side) events → AreEvents (revoke_of i (slice_get (w.now i).records place))
 revoke_over comes past side events w i place are is =
     revoke_event i (slice_get (w.now i).records place)
-    (λ x found. record_form comes (record { config = config_at past side; replicas = past.replicas; events = events }) i x are
+    (λ x found. record_form comes (record { config = config_at past side; limits = past.limits side; replicas = past.replicas; events = events }) i x are
     (subst (λ (w : World). Contains (w.now i).records x) is (at_place (w.now i).records place x found)))
 
 -- What happens by a step on each side.

@@ -3,9 +3,10 @@
 use Rattle.std.specs.Prelude.{ℕ, List, [], ◌∷◌, ◌++◌, Option, Some, None, slice_get, fold, ⊤}
 use Rattle.std.specs.List.{AllByRecursion}
 use Rattle.fed_config.specs.Configuration.{Configuration}
+use Rattle.fed_config.specs.declared.limits.Limits.{Limits}
 use Rattle.receipt_core.specs.declared.distrust.Distrust.{Distrust}
 use Rattle.receipt_core.specs.Receipt.{Receipt}
-use Rattle.replica_core.specs.World.{World, Rules, WorldRun, empty_world, rules_of, run_from}
+use Rattle.replica_core.specs.World.{World, Rules, WorldRun, empty_world, rules_with, run_from}
 use Rattle.replica_core.specs.Convergence.{IsEvent}
 use Rattle.replica_core.specs.declared.event.Event.{Event}
 use Rattle.replica_core.specs.declared.event.Event.TheVariants.{Take, Revoke}
@@ -69,10 +70,12 @@ events_by pair Previous step = previous_events pair step
 
 -- ---- runs
 
--- two configurations, and what happened to replicas that have both
+-- two configurations, and what happened to replicas that have both, each side with limits of its
+-- own
 pub record PairRun : Type 0 where
   pub next : Configuration
   pub previous : Configuration
+  pub limits : Side → ℕ → Limits
   pub replicas : ℕ
   pub steps : List Step
 
@@ -81,7 +84,7 @@ config_at past Next = past.next
 config_at past Previous = past.previous
 
 abbrev pub rules_at : PairRun → Side → Rules
-rules_at past side = rules_of (config_at past side) past.replicas
+rules_at past side = rules_with (config_at past side) (past.limits side) past.replicas
 
 -- A receipt that is offered does what a take does: nothing if it does not fit that side.
 abbrev pub steps_to : PairRun → PairWorld → Step → PairWorld
@@ -111,6 +114,7 @@ events_from past side pair (step ∷ steps) = events_by pair side step
 abbrev pub side_run : PairRun → Side → WorldRun
 side_run past side = record {
   config = config_at past side;
+  limits = past.limits side;
   replicas = past.replicas;
   events = events_from past side empty_pair past.steps;
 }

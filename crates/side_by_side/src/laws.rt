@@ -59,7 +59,8 @@ pub fn promise()
 }
 
 /// Each side of a run of a pair of worlds is a run of a world, by itself. So all that is so of
-/// every world of replicas of one configuration is so of each side.
+/// every world of replicas of one configuration is so of each side, whatever the limits of each
+/// replica.
 ///
 /// - `each`: the worlds of a side are those of its own events.
 /// - `events`: what is taken on a side is a receipt, and what is revoked a record.

@@ -54,6 +54,7 @@ use Rattle.closure_core.proofs.FlagFacts.{IsFirstOf, gain-from_flags, passing, p
 use Rattle.closure_core.proofs.FlagFacts.{different-map}
 use Rattle.closure_parts.proofs.ConfigFacts.{one_domains}
 use Rattle.closure_core.proofs.MemberFacts.{member_more}
+use Rattle.closure_core.proofs.AlikeFacts.{same_of_equal}
 use Rattle.trust_closure.proofs.LabelIndexFacts.{domain-one_number, label_index-node, label_index-root, node-number}
 use Rattle.closure_core.proofs.RisingFacts.{each_has}
 use Rattle.trust_closure.proofs.ReachedFacts.{IsAccepted, IsReachedAt, accepted-from_reached, reached-from_member, reached-from_released, spot-of_seed_node}
@@ -386,7 +387,8 @@ kept-closed old new xs p q w v i j before numbers k e =
     let l : k < length (pairs_of new.config.seeds new.arrived) = omega (arith, within, fewer.size) in
     let at = slice_get-get_or (pairs_of new.config.seeds new.arrived) k no_documents l in
     let m = fewer.sound k (get_or (pairs_of new.config.seeds new.arrived) k no_documents) e at in
-    let less = member_more (meaning_of new) (meaning_of old) before.config (λ r c. subst (λ rs. Contains rs r) before.held c)
+    let less = member_more (meaning_of new) (meaning_of old) (same_of_equal new.config old.config before.config)
+    (λ r c. subst (λ rs. Contains rs r) before.held c)
     (λ y c. subst (λ ys. Contains ys y) (sym before.records)
     ((distrust-sets.all_members xs old.records y (always-all xs) (always-all old.records)).1
     (inr c)))

@@ -2,7 +2,7 @@ use Rattle.bundle_view.proofs.ExplainFacts.{chain_of, ends, accepted, empty_for_
 use Rattle.bundle_view.proofs.laws.explanations.Goals as goal
 
 pub returns-clause-chain : goal.returns-clause-chain
-returns-clause-chain c m p chain is some = chain_of m p chain is some
+returns-clause-chain c = chain_of
 
 pub returns-clause-end : goal.returns-clause-end
 returns-clause-end c m p front last is = ends m p front last is

@@ -2,7 +2,7 @@ use Rattle.closure_core.proofs.UnionFacts.{union_order, union_grouping, union_it
 use Rattle.closure_core.proofs.laws.merges.Goals as goal
 
 pub returns-clause-order : goal.returns-clause-order
-returns-clause-order c m n is are same = union_order m n is are same
+returns-clause-order c m n is are = union_order m n is are
 
 pub returns-clause-grouping : goal.returns-clause-grouping
 returns-clause-grouping c l m n is are own = union_grouping l m n is are own

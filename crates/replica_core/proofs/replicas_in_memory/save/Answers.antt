@@ -1,6 +1,5 @@
 use Rattle.std.proofs.Common.{refl}
 use Rattle.std.proofs.lemmas.Result.{on_ok_weaker}
-use Rattle.replica_core.specs.State.{limits_of}
 use Rattle.replica_core.specs.World.{rules_of, is_replica}
 use Rattle.replica_core.specs.declared.event.Event.TheVariants.{Save}
 use Rattle.replica_core.proofs.ReplicaFacts.{on-all, plays-saves}
@@ -13,6 +12,6 @@ returns g c =
     (λ n w p.
     on_ok_weaker c.copy_at.result
     (plays-saves (λ closure. (g.C.Closure.state closure).meaning) config n
-    (is_replica (rules_of config n) c.args.replica) (limits_of config) c.args.replicas.now
+    (is_replica (rules_of config n) c.args.replica) (rules_of config n).limits c.args.replicas.now
     (record c.args.replicas.now { saved = c.copy_at.new.to }) w c.args.replica p refl refl)
     (c.copy_at.ensures config n w.now w.saved p.held p.saved))

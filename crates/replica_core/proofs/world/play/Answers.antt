@@ -4,6 +4,18 @@ use Rattle.replica_core.specs.Inside.ReplicasInMemory.{MeansEvent}
 use Rattle.replica_core.specs.declared.event.Event.{Event}
 use Rattle.replica_core.proofs.world.play.Goals as goal
 
+pub returns-in-Take : goal.returns-in-Take
+returns-in-Take g c =
+    subst (λ (event : Event). OnOk c.take.result
+    (MeansEvent (λ closure. (g.C.Closure.state closure).meaning) c.args.config.now c.args.replicas.now
+    c.take.new.replicas event)) (sym c.in-Take.is) c.take.ensures
+
+pub returns-in-Revoke : goal.returns-in-Revoke
+returns-in-Revoke g c =
+    subst (λ (event : Event). OnOk c.revoke.result
+    (MeansEvent (λ closure. (g.C.Closure.state closure).meaning) c.args.config.now c.args.replicas.now
+    c.revoke.new.replicas event)) (sym c.in-Revoke.is) c.revoke.ensures
+
 pub returns-in-Ask : goal.returns-in-Ask
 returns-in-Ask g c =
     subst (λ (event : Event). OnOk c.ask.result
