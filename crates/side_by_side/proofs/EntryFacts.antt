@@ -60,7 +60,7 @@ says_none text e none is = elim none [
 -- ---- one more is held
 
 -- That each record is one says nothing.
-always : (xs : List Distrust) → AllByRecursion Always xs
+pub always : (xs : List Distrust) → AllByRecursion Always xs
 always [] = tt
 always (x ∷ xs) = (tt, always xs)
 

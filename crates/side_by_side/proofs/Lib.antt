@@ -3,5 +3,6 @@ mod OfferFacts
 mod StepFacts
 mod HeldOfferFacts
 mod PromiseFacts
-mod SideFacts
+pub mod SideFacts
 mod PairWorldFacts
+mod PassingFacts

@@ -91,10 +91,10 @@ said_cases text texts e says = elim (contains-cases text texts (entry_line e) sa
   | inr later ↦ inr (record { form = says.form; line = later })
 ]
 
-said_first : (text : List ℕ) (texts : List (List ℕ)) (e : Entry) → IsEntry Either text e → LinesSay (text ∷ texts) e
+pub said_first : (text : List ℕ) (texts : List (List ℕ)) (e : Entry) → IsEntry Either text e → LinesSay (text ∷ texts) e
 said_first text texts e is = record { form = is.is; line = subst (Contains (text ∷ texts)) is.spelt (contains-here text texts) }
 
-said_later : (text : List ℕ) (texts : List (List ℕ)) (e : Entry) → LinesSay texts e → LinesSay (text ∷ texts) e
+pub said_later : (text : List ℕ) (texts : List (List ℕ)) (e : Entry) → LinesSay texts e → LinesSay (text ∷ texts) e
 said_later text texts e says = record { form = says.form; line = contains-later text texts (entry_line e) says.line }
 
 -- A first line, and then the later ones.

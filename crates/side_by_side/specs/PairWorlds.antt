@@ -4,6 +4,7 @@ use Rattle.std.specs.Prelude.{ℕ, List, [], ◌∷◌, ◌++◌, Option, Some, 
 use Rattle.std.specs.List.{AllByRecursion}
 use Rattle.fed_config.specs.Configuration.{Configuration}
 use Rattle.fed_config.specs.declared.limits.Limits.{Limits}
+use Rattle.closure_core.specs.Alike.{with_limits}
 use Rattle.receipt_core.specs.declared.distrust.Distrust.{Distrust}
 use Rattle.receipt_core.specs.Receipt.{Receipt}
 use Rattle.replica_core.specs.World.{World, Rules, WorldRun, empty_world, rules_with, run_from}
@@ -82,6 +83,10 @@ pub record PairRun : Type 0 where
 abbrev pub config_at : PairRun → Side → Configuration
 config_at past Next = past.next
 config_at past Previous = past.previous
+
+-- with the limits of this replica on that side
+abbrev pub limited_at : PairRun → Side → ℕ → Configuration
+limited_at past side replica = with_limits (config_at past side) (past.limits side replica)
 
 abbrev pub rules_at : PairRun → Side → Rules
 rules_at past side = rules_with (config_at past side) (past.limits side) past.replicas

@@ -1,6 +1,6 @@
 //! What is so of all offers, and of all replicas between two configurations. A call that needs a
 //! law calls its function, which does nothing, and cites what it ensures.
-ghost use Rattle.std.specs.Prelude.{◌≡◌, ◌↔◌, ◌++◌, List, ℕ, Contains, map};
+ghost use Rattle.std.specs.Prelude.{◌≡◌, ◌↔◌, ◌++◌, List, ℕ, Contains, Option, Some, map};
 ghost use Rattle.receipt_core.specs.Acceptance.{IsMeaning, Meaning};
 ghost use Rattle.replica_core.specs.Absorbing.{with_entries};
 ghost use Rattle.replica_core.specs.Convergence.{AreEvents};
@@ -11,9 +11,12 @@ ghost use Rattle.replica_texts.specs.Snapshots.{held_lines};
 ghost use Rattle.replica_journal.specs.Journal.{AreWellFormed};
 ghost use Rattle.side_by_side.specs.Offering.{IsEntryHeld, Kept, OffersInTurn};
 ghost use Rattle.side_by_side.specs.Promise.{AddsFitting, LinesSay};
+ghost use Rattle.side_by_side.specs.PassedSteps.{IsAfterSteps, IsHeldOn, PassesOwn};
 ghost use Rattle.side_by_side.specs.PairWorlds.{AreSteps, PairRun, pair_after, side_run, world_at};
 ghost use Rattle.side_by_side.specs.declared.fate.Fate.{Fate};
 ghost use Rattle.side_by_side.specs.declared.fate.Fate.TheVariants.{NoPlace};
+ghost use Rattle.side_by_side.specs.Sides.{Passing, PassesPartToOther, PassesToOther, lines_in};
+ghost use Rattle.side_by_side.specs.declared.offer_counts.Offered.{Offered};
 ghost use Rattle.side_by_side.specs.declared.sides.Side.{Side};
 
 /// What comes of lines that are offered.
@@ -71,4 +74,26 @@ pub fn pair_worlds()
         → AreEvents (side_run past side).events }
 {
     replica_core::laws::provenance();
+}
+
+/// A side that passes on what it holds to the other side makes steps of a run of a pair of worlds.
+/// So all that is so of each side of a run is so after each call of
+/// [`Sides::pass_on`](crate::Sides::pass_on) and [`Sides::share`](crate::Sides::share).
+///
+/// - `passes`: after a call that went through, what the replica holds on both sides is what it
+///   has after some more steps, in each of which it offers what it holds on this side.
+/// - `begins`: the same is so after a call for which memory ran out.
+/// - `own`: the lines of all that a side holds say nothing that it does not hold.
+pub fn passing()
+    ensures passes { (past : PairRun) (replica : ℕ) (from : Side) (p : Passing) (offered : Offered)
+        → PassesOwn past replica from p → PassesToOther from p offered
+        → IsAfterSteps past replica from p.new }
+    ensures begins { (past : PairRun) (replica : ℕ) (from : Side) (p : Passing)
+        → PassesOwn past replica from p → PassesPartToOther from p
+        → IsAfterSteps past replica from p.new }
+    ensures own { (held : Option Meaning) → ((m : Meaning) → held ≡ Some m → IsMeaning m)
+        → (entry : Entry) → LinesSay (lines_in held) entry → IsHeldOn held entry }
+{
+    receipt_core::laws::sets();
+    replica_core::laws::effects();
 }

@@ -1,9 +1,12 @@
 //! Both closures of a replica that is between two configurations.
-ghost use Rattle.std.specs.Prelude.{◌≡◌, ◌↔◌, None, IsTrue, IfOk, OnErr, MatchOption};
+ghost use Rattle.std.specs.Prelude.{◌≡◌, ◌↔◌, None, IsTrue, IfOk, OnErr, OnSome, MatchOption};
+ghost use Rattle.std.specs.Borrow.{LendsIf, LendsSo, sem};
 ghost use Rattle.byte_lines.specs.Lines.{lines_of};
 ghost use Rattle.side_by_side.specs.Sides.{HasDigest, IsUnder, NamesSide, Passing, lines_in};
 ghost use Rattle.side_by_side.specs.Sides.{PassesToOther, PassesPartToOther, meanings};
 ghost use Rattle.side_by_side.specs.Sides.{side_meaning, sides_held};
+ghost use Rattle.side_by_side.specs.LentSides.{HasLent, with_side};
+ghost use Rattle.side_by_side.specs.contracts.sides.Sides.{the_row};
 
 use crate::held_offering::offer_held;
 use crate::offer_counts::{Offered, no_lines};
@@ -53,27 +56,31 @@ impl<C: Closure> Sides<C> {
     }
 
     /// The closure of a side, if there is one.
-    pub fn closure(&self, side: Side) -> Option<&C>
-        ensures { meanings (λ c. (C.state c.now).meaning) result
-            ≡ side_meaning (sides_held (λ c. (C.state c).meaning) self.now.next self.now.previous)
+    pub fn closure(&mut self, side: Side) -> Option<&mut C>
+        ensures* lends { sem 𝓛 (LendsIf (the_row C.row) C.row self.entry result
+            (with_side side self.old) self.old) }
+        ensures is { meanings (λ c. (C.state c.now).meaning) result
+            ≡ side_meaning (sides_held (λ c. (C.state c).meaning) self.old.next self.old.previous)
             side }
     {
         match side {
-            Side::Next => Some(&self.next),
-            Side::Previous => match &self.previous {
-                Some(closure) => Some(closure),
-                None => None,
-            },
+            Side::Next => Some(&mut self.next),
+            Side::Previous => self.previous.as_mut(),
         }
     }
 
-    /// The closure by which a have is answered that names this digest: that of the side whose
-    /// configuration has it. Nothing that the other side holds is in it.
-    pub fn under(&self, digest: ConfigId) -> Option<&C>
-        ensures { MatchOption result
-            (NamesSide (sides_held (λ c. (C.state c).meaning) self.now.next self.now.previous)
+    /// The closure by which a question or a have is answered that names this digest: that of the
+    /// side whose configuration has it. Nothing that the other side holds is in it.
+    pub fn under(&mut self, digest: ConfigId) -> Option<&mut C>
+        ensures* lends { sem 𝓛 (LendsSo (the_row C.row) C.row self.entry result
+            (λ new w. OnSome result (HasLent (λ side. NamesSide
+            (sides_held (λ c. (C.state c).meaning) self.old.next self.old.previous)
+            digest.0 (Some side)) self.old new w))
+            (λ new. new ≡ self.old)) }
+        ensures is { MatchOption result
+            (NamesSide (sides_held (λ c. (C.state c).meaning) self.old.next self.old.previous)
             digest.0 None)
-            (λ c. IsUnder (sides_held (λ c. (C.state c).meaning) self.now.next self.now.previous)
+            (λ c. IsUnder (sides_held (λ c. (C.state c).meaning) self.old.next self.old.previous)
             digest.0 (C.state c.now).meaning) }
     {
         match self.side_of(digest) {
