@@ -12,7 +12,7 @@ _fedbundle() {
             COMPREPLY=($(compgen -f -- "$word"))
             return
             ;;
-        --allow|--domain|--endpoint|--every|--expires-within|--format|--health|--key|--listen|--most-bytes|--most-receipts|--most-records|--most-request-bytes|--now|--peer|--peer-quiet|--peers|--public-key|--sessions|--wait) return ;;
+        --allow|--domain|--endpoint|--every|--expires-within|--format|--health|--health-host|--key|--listen|--most-bytes|--most-receipts|--most-records|--most-request-bytes|--now|--peer|--peer-quiet|--peers|--public-key|--sessions|--wait) return ;;
     esac
     case ${COMP_WORDS[1]} in
         canon) words='--domain --format --verbose --help' ;;
@@ -33,7 +33,7 @@ _fedbundle() {
         distrust) words='--config --state --domain --key --public-key --dry-run --new --wait --most-receipts --most-records --verbose --at --help' ;;
         serve) words='--config --state --listen --sessions --most-receipts --most-records --verbose --help' ;;
         pull) words='--config --state --peer --sums --wait --most-bytes --most-receipts --most-records --verbose --help' ;;
-        replica) words='--config --previous --state --socket --read-socket --listen --health --audit --listen-anywhere --peers --every --peer-quiet --expires-within --most-bytes --most-receipts --most-records --most-request-bytes --new --verbose --help' ;;
+        replica) words='--config --previous --state --socket --read-socket --listen --health --health-host --audit --listen-anywhere --peers --every --peer-quiet --expires-within --most-bytes --most-receipts --most-records --most-request-bytes --new --verbose --help' ;;
         stop) words='--wait --verbose --at --help' ;;
         help) words='canon config new report list diff graph status bundle explain observe merge migrate reseed polls distrust serve pull replica stop help' ;;
         *) return ;;

@@ -8,6 +8,7 @@
   replica without peers, with one that answers, and with one that was quiet for longer than it may be.
 - bad: requests that are wrong in some seventy ways. Each gets one response with an error, or a close, and the replica answers
   the next one. Odd ones that may be answered get at most one response.
+- hosts: which hosts are let in: addresses, localhost and those of --health-host; a page of another site is not.
 - slow: seventeen clients that send a byte a second, and forty that send nothing, do not make a `bundle --at` wait.
 - prometheus: `prometheus` scrapes two replicas for half a minute: values, rules, and each query of the dashboard.
 - page: Chromium shows what `status`, `list --keys` and `report` print, and what is observed meanwhile, under the policy, in a
@@ -45,7 +46,7 @@ sys.path.insert(0, str(Path(__file__).resolve().parent / "lib"))
 from browser import Browser, find_browser  # noqa: E402
 from harness import HANG, TOP, find_program, listener_of_own, temporary  # noqa: E402
 from needs import has, left_out, why_not  # noqa: E402
-from watched_replica import EXAMPLES, WatchedReplica, has_health, receipts_of_examples  # noqa: E402
+from watched_replica import EXAMPLES, WatchedReplica, has_health, has_names, receipts_of_examples  # noqa: E402
 
 RULES = TOP / "deploy/prometheus-rules.yml"
 CASES = TOP / "tests/prometheus-rules.test.yml"
@@ -127,7 +128,8 @@ class Scene:
         listener.close()
         spare, nobody = listener_of_own()
         spare.close()
-        self.two = make(program, folder / "two", self.config, words=["--listen", f"127.0.0.1:{port}"])
+        names = ["--health-host", NAMED] if has_names(program) and not has_stand_in else []
+        self.two = make(program, folder / "two", self.config, words=["--listen", f"127.0.0.1:{port}", *names])
         peers = f"127.0.0.1:{port},127.0.0.1:{nobody}"
         self.one = make(program, folder / "one", self.config, receipts, ["--peers", peers, "--every", "3"])
         self.alone = make(program, folder / "alone", self.config, words=["--peers", f"127.0.0.1:{nobody}"], quiet=2)
@@ -201,7 +203,7 @@ def is_answering(replica):
 def look_at_fields(path, reply, kind):
     """The fields that each response has, each once."""
     wanted = {"connection": "close", "content-length": str(len(reply.body)), "x-content-type-options": "nosniff",
-              "cache-control": "no-store"}
+              "cross-origin-resource-policy": "same-origin", "cache-control": "no-store"}
     seen = {name: reply.of(name) for name in wanted}
     check(seen == {name: [value] for name, value in wanted.items()}, f"{path}: fields", reply.fields)
     check(reply.version == "HTTP/1.1" and not reply.of("transfer-encoding"), f"{path}: version", reply.version)
@@ -440,6 +442,50 @@ def look_at_unfinished(replica):
         read, seconds = ends.get(name, (None, HANG))
         check(is_one_reply(read, True), f"a request without an end, {name}: {said_of(read)}", read)
     check(is_answering(replica), "the replica answers after them")
+
+
+# ---- hosts
+
+NAMED = "prometheus.example,Other.Example"
+# What a request may have as Host. A name that somebody lets lead to this address is none of these.
+LET_IN = ["127.0.0.1", "127.0.0.1:1", "10.1.2.3:9463", "[::1]", "[::1]:9463", "localhost", "LocalHost:80", ""]
+KEPT_OUT = ["evil.example", "evil.example:9463", "localhost.evil.example", "127.0.0.1.evil.example", "evil.localhost", "x", "1.2.3.4x",
+            "prometheus.example"]
+
+
+def status_for(replica, path, *fields, version="1.1", method="GET"):
+    head = "".join(f"{line}\r\n" for line in [f"{method} {path} HTTP/{version}", *fields, ""])
+    return Reply(reply_to(replica, head.encode()))
+
+
+def look_at_hosts(scene, room):
+    for host in LET_IN:
+        seen = status_for(scene.one, "/status.json", f"Host: {host}").status
+        check(seen == 200, f"the host {host!r} is let in", seen)
+    for host in KEPT_OUT:
+        for path in ("/live", "/metrics", "/keys.json", "/graph.dot?domain=a.example"):
+            reply = status_for(scene.one, path, f"Host: {host}")
+            check(reply.status == 403 and reply.body.count(b"\n") == 1, f"the host {host!r} is not, {path}", reply.status, reply.body[:99])
+    reply = status_for(scene.one, "/status.json", "Host: evil.example", method="HEAD")
+    check(reply.status == 403 and not reply.body, "nor is it for HEAD", reply.status)
+    look_at_fields("a host that is not let in", status_for(scene.one, "/live", "Host: evil.example"), TEXT)
+    check(status_for(scene.one, "/live", version="1.0").status == 200, "a request of HTTP/1.0 without a host is let in")
+    check(status_for(scene.one, "/live", "Host: evil.example", version="1.0").status == 403, "one with another host is not")
+    for site, wanted in (("cross-site", 403), ("same-origin", 200), ("same-site", 200), ("none", 200)):
+        seen = status_for(scene.one, "/keys.json", "Host: 127.0.0.1", f"sec-fetch-site: {site}").status
+        check(seen == wanted, f"a request that a browser calls {site}: {wanted}", seen)
+    check(has_names(scene.two.program), "a replica has --health-host")
+    for host in ("prometheus.example", "PROMETHEUS.example:9463", "other.example"):
+        seen = status_for(scene.two, "/metrics", f"Host: {host}").status
+        check(seen == 200, f"{host!r} is let in by --health-host", seen)
+    for host in ("example", "prometheus.example.evil.example", "prometheus.example,Other.Example"):
+        seen = status_for(scene.two, "/metrics", f"Host: {host}").status
+        check(seen == 403, f"{host!r} is not", seen)
+    for names in ("", "a.example,", "a.example:80"):
+        ran = subprocess.run([scene.two.program, "replica", "--config", "config", "--state", "none", "--socket", "none", "--new",
+                              "--health", "127.0.0.1:0", "--health-host", names], capture_output=True, text=True, cwd=scene.two.folder)
+        check((ran.returncode, ran.stderr.split("\n")[0]) == (1, "fedbundle: bad address"), f"--health-host {names!r} is refused",
+              ran.returncode, ran.stderr)
 
 
 # ---- slow clients
@@ -904,8 +950,8 @@ def look_at_end(browser, scene):
     check([row[:6] for row in after] == [row[:6] for row in before], "and still shows what it saw", after)
 
 
-PARTS = {"texts": look_at_texts, "rules": look_at_rules, "paths": look_at_paths, "bad": look_at_bad, "slow": look_at_slow,
-         "prometheus": look_at_prometheus, "page": look_at_page}
+PARTS = {"texts": look_at_texts, "rules": look_at_rules, "paths": look_at_paths, "bad": look_at_bad, "hosts": look_at_hosts,
+         "slow": look_at_slow, "prometheus": look_at_prometheus, "page": look_at_page}
 
 
 def main():

@@ -383,17 +383,28 @@ def went_back(world):
 
 
 def start_anew(world, document, *replicas):
-    """Follows steps 3 to 5: this bundle becomes the seed, on each of these replicas."""
-    replicas[0].give("b.test.json", json.dumps(document))
-    world.follow(replicas[0])
-    world.follow(replicas[0])
-    switch(world, *replicas)
+    """Follows steps 3 to 5: this bundle, which has the first authority only, becomes the seed, on each of these replicas."""
+    one = replicas[0]
+    one.give("b.test.json", json.dumps(document))
+    world.follow(one)
+    world.names = {"digest": public_key(one, world.b, "--at /run/fedbundle/socket")}
+    world.follow(one)
+    want(public_key(one, world.a, "--config config.new --state none --new") != world.names["digest"], "two public keys wanted", world.names)
+    switch(world, commands(world.next()[1]), *replicas)
 
 
-def switch(world, *replicas):
-    """Follows the next block, which changes to `config.new`, on each replica. The first one has that file. A timer is started only
+def public_key(one, authority, of):
+    """The digest of the public key of an authority, as `list --keys` of this replica or of these files has it."""
+    told = one.run(f"fedbundle list {of} --domain b.test --keys", by_root=False)[1]
+    found = re.search(rf"^key {authority.id()} domain b.test public-key (\w+) ", told, re.M)
+    want(bool(found), "a line of the key wanted", told)
+    return found[1]
+
+
+def switch(world, block, *replicas):
+    """Follows the block that changes to `config.new` on each replica. The first one has that file. A timer is started only
     where it is enabled, as that of the pusher at all but the first."""
-    text, block = replicas[0].path(f"{HOME}/config.new").read_text(), commands(world.next()[1])
+    text = replicas[0].path(f"{HOME}/config.new").read_text()
     for one in replicas:
         one.run(f"systemctl {'disable' if one is replicas[0] else 'enable'} fedbundle-spire.timer")
         one.give("config.new", text)
@@ -404,23 +415,26 @@ def switch(world, *replicas):
         want(timer == ("inactive" if one is replicas[0] else "active"), "a timer only where it is enabled wanted", timer)
 
 
+def pushed(one, line):
+    """Runs the pusher, which prints a line that begins so."""
+    one.run("systemctl start fedbundle-spire.service")
+    told = one.run("journalctl -u fedbundle-spire.service -n 3")[1]
+    want(line in told, f"{line} wanted", told)
+
+
 @runbook("A key is compromised")
 def compromised(world):
     one, two = world.replica("one", "two")
     with_spire(one)
     one.run("groupadd spire")
+    pushed(one, "b.test: given, sequence 2")
     publish(world, world.leaf_b, world.fetch.bundle(3, world.b), one)
-    status, _ = one.run("systemctl start fedbundle-spire.service")
-    told = one.run("journalctl -u fedbundle-spire.service -n 3")[1]
-    want((status, "b.test: given, sequence 3" in told) == (0, True), "the bundle at SPIRE wanted", told)
+    pushed(one, "b.test: given, sequence 3")
     one.run("systemctl start fedbundle-spire.timer")
     world.follow(one)
     want(one.run("systemctl is-active fedbundle-spire.timer")[1] == "inactive\n", "a timer that is stopped wanted", "it is active")
     world.follow(one)
-    keys = one.run("fedbundle list --at /run/fedbundle/socket --domain b.test --keys")[1]
-    stolen = re.search(rf"^key {world.b.id()} domain b.test public-key (\w+) ", keys, re.M)
-    want(bool(stolen), "the stolen key wanted", keys)
-    world.names = {"key": world.b.id(), "digest": stolen[1]}
+    world.names = {"key": world.b.id(), "digest": public_key(one, world.b, "--at /run/fedbundle/socket")}
     world.follow(one)
     want(one.sequence() == 3, "no change by a look wanted", one.sequence())
     world.follow(one)
@@ -428,14 +442,18 @@ def compromised(world):
     until(lambda: "\nrecords 1 of 4096\n" in two.run("fedbundle status --at /run/fedbundle/socket")[1], "the record at the other site")
     world.follow(one, two)
     same_reports(one, two)
-    one.run("systemctl start fedbundle-spire.service")
-    told = one.run("journalctl -u fedbundle-spire.service -n 3")[1]
-    want("b.test: held: sequence 2 is lower than 3" in told, "a bundle that is held back wanted", told)
+    pushed(one, "b.test: held: sequence 2 is lower than 3")
     world.follow(one)
-    world.follow(one)
-    want(json.loads(one.path("/srv/b.test").read_text())["spiffe_sequence"] == 2, "the bundle at SPIRE wanted", told)
-    world.follow(one)
+    want(not one.path("/srv/b.test").exists(), "no bundle at SPIRE wanted", "there is one")
+    status, told = one.run("fedbundle status --at /run/fedbundle/socket | grep -E 'b.test .*(distrusted key|no trusted)'")
+    want(status == 0 and "lists the distrusted key" in told, "a warning wanted", told)
+    # The new bundle has only the key that was gone with the one before, so the pusher holds it back too.
     publish(world, world.leaf_a, world.fetch.bundle(4, world.a), one)
+    world.follow(one)
+    pushed(one, "b.test: held: a key that went away with sequence 3")
+    world.follow(one)
+    world.follow(one)
+    want(json.loads(one.path("/srv/b.test").read_text())["spiffe_sequence"] == 4, "the bundle at SPIRE wanted", "another one")
     world.follow(one)
     want((one.sequence(), "lists the distrusted key" in one.run("fedbundle status --at /run/fedbundle/socket")[1]) == (4, False),
          "a bundle without the key wanted", one.report())
@@ -612,8 +630,9 @@ def domain_added(world):
     want((one.sequence("c.test"), one.sequence()) == (2, 3), "two bundles wanted", one.report())
 
 
-# Keeps what it is given as the bundle of the domain.
+# Keeps what it is given as the bundle of the domain. It has no registration entries.
 SPIRE = """#!/bin/sh
+[ "$1" != entry ] || exec echo 'Found 0 entries'
 for word; do
     [ "$before" != -id ] || domain=/srv/${word#spiffe://}
     [ "$before" != -path ] || path=$word
@@ -796,7 +815,7 @@ def store_full(world):
     status, told = one.run(f"fedbundle distrust --at /run/fedbundle/socket --domain b.test --key {key}", by_root=False)
     want(status == 0, "a record wanted", told)
     world.follow(one)
-    switch(world, one)
+    switch(world, world.of(SEEDED, -2), one)
     world.follow(one)
 
 

@@ -1,20 +1,30 @@
 #!/usr/bin/env python3
-"""Makes the tables of docs/REFERENCE.md that come from the sources: limits, codes, errors without a code, and metrics.
+"""Makes the tables of docs/REFERENCE.md and docs/GUARANTEES.md that come from the sources.
 
-A table is between the lines `<!-- made: NAME -->` and `<!-- end -->`. The script writes its rows and all of their cells except the
-last, which is written by hand on the page, and kept. The first cell says which row it is.
+A table is between the lines `<!-- made: NAME -->` and `<!-- end -->`. In REFERENCE these are limits, codes, errors without a code,
+and metrics: the script writes the rows and all of their cells except the last, which is written by hand on the page, and kept. The
+first cell says which row it is.
 
-usage: reference [--check]     --check writes nothing, and ends with status 1 if the page is not what it would write, or if the last
-    cell of a row is empty, or if an event of the sources is not on the page
+In GUARANTEES these are the promises of crates. A row is there for what its second cell names by hand: a law or function, with its
+crate, and perhaps some of its clauses. The first cell is the first sentence of its docstring, and the first of what the docstring says of
+each of these clauses, or its first paragraph if it has no list of them. A new row is `|  | `CRATE::NAME` |`.
+
+usage: reference [--check]     --check writes nothing, and ends with status 1 if a page is not what it would write, or if the last
+    cell of a row is empty, or if an event of the sources is not on the page, or if a row names what has no docstring
 """
 import re
 import sys
+from functools import cache
 from pathlib import Path
 
 TOP = Path(__file__).resolve().parent.parent
-PAGE = TOP / "docs/REFERENCE.md"
+PAGE, PROMISES = TOP / "docs/REFERENCE.md", TOP / "docs/GUARANTEES.md"
 TABLE = re.compile(r"(<!-- made: (\w+) -->\n\n(\|.*\n\|.*\n))((?:\|.*\n)*)(?=\n<!-- end -->)")
 ERROR = re.compile(r'((?: +/// .*\n)+) +#\[error\("([A-Z])(\d+) (\w+)([^"]*)"\)\]')
+# A function with its docstring, the type that a method is of, and what a docstring says of clauses.
+DOCUMENTED = re.compile(r"^(?P<said>(?: *///.*\n)+)(?:^ *#\[.*\n)*^(?P<indent> *)(?:pub )?fn (?P<name>\w+)"
+                        r"|^(?:pub )?(?:impl|trait)(?:<[^>]*>)? (?:[^{\n]* for )?(?P<owner>\w+)", re.M)
+OF_CLAUSES = re.compile(r"^- ((?:`\w+`(?:, )?)+): (.*)$", re.M)
 # Codes that only callers of the library see.
 OF_LIBRARY = {"L1", "L2", "L3", "P1", "P2", "V1", "V2"}
 # What is limited, and the constant that says it.
@@ -84,13 +94,13 @@ def errors():
 
 
 def metrics():
-    """Each metric with its type and its text of HELP."""
+    """Each metric with its text of HELP."""
     for source in sources():
         helps = dict(re.findall(r'(\w+::\w+) => "([A-Z1].*\.)"', source))
         named = re.findall(r'(\w+::\w+) => "(fedbundle_\w+)"', source)
         pairs = [(name, helps[variant]) for variant, name in named if variant in helps]
         pairs += re.findall(r'"(fedbundle_\w+)",\s*"([A-Z].*\.)",', source)
-        yield from ([f"`{name}`", "counter" if name.endswith("_total") else "gauge", said] for name, said in pairs)
+        yield from ([f"`{name}`", said] for name, said in pairs)
 
 
 def made(text):
@@ -109,17 +119,70 @@ def made(text):
     return TABLE.sub(table, text), empty
 
 
+@cache
+def docstrings(crate):
+    """The docstring of each function of a crate, by its name, which has the crate before it, and between them the type of a method,
+    or `laws`."""
+    found = {}
+    for path in sorted(TOP.glob(f"crates/{crate}/src/**/*.rt")):
+        owner = ""
+        for item in DOCUMENTED.finditer(path.read_text()):
+            owner = item["owner"] or owner
+            before = f"{owner}::" if item["indent"] else "laws::" if path.name == "laws.rt" else ""
+            if item["name"]:
+                found[f"{crate}::{before}{item['name']}"] = re.sub(r"^ */// ?", "", item["said"], flags=re.M)
+    return found
+
+
+def first_sentence(text):
+    """The first sentence, with a capital letter, and without links and numbers of sections."""
+    sentence = re.match(r".*?\.(?= [A-Z`\[]|$)|.*", " ".join(text.split()))[0]
+    sentence = re.sub(r"\[(`[^`]*`)\](?:\([^)]*\))?", r"\1", sentence).replace("crate::", "")
+    return re.sub(r" \([^()]*\bsection [^()]*\)", "", sentence[0].upper() + sentence[1:])
+
+
+def promise(said, clauses):
+    """The first sentence of a docstring, and the first of what it says of each of these clauses; if it has no list of clauses, its
+    first paragraph."""
+    said = re.sub(r"\n +", " ", said)
+    first, items = re.split(r"\n- |\n\n", said)[0], OF_CLAUSES.findall(said)
+    if clauses and not items:
+        return " ".join(first_sentence(text) for text in re.split(r"(?<=\.)\s(?=[A-Z`\[])", first))
+    found = [more for names, more in items if set(re.findall(r"\w+", names)) & set(clauses)]
+    return " ".join(first_sentence(text) for text in [first, *found])
+
+
+def promised(text):
+    """The page of the promises with its tables made, and what its rows name and the crates do not have."""
+    lines, missing, inside = [], [], False
+    for line in text.splitlines():
+        inside = line == "<!-- made: promises -->" or inside and line != "<!-- end -->"
+        if inside and line.startswith("| ") and not line.startswith("| Claim"):
+            cell = line.split("|")[2].strip()
+            name, *clauses = re.findall(r"`([\w:]+)`", cell.split("(")[0])
+            said = docstrings(name.split("::")[0]).get(name)
+            missing += [] if said else [name]
+            line = f"| {promise(said, clauses) if said else ''} | {cell} |"
+        lines.append(line)
+    return "\n".join(lines) + "\n", missing
+
+
 def main():
-    text = PAGE.read_text()
+    text, guarantees = PAGE.read_text(), PROMISES.read_text()
     wanted, empty = made(text)
+    promises, missing = promised(guarantees)
     names = set(re.findall(r"\bevent=([a-z-]+)", "\n".join(sources())))
     faults = [f"the last cell of {key} is empty" for key in empty]
     faults += [f"the event {name} is not there" for name in sorted(names - set(re.findall(r"event=([a-z-]+)", text)))]
+    faults = [f"{PAGE.name}: {fault}" for fault in faults]
+    faults += [f"{PROMISES.name}: {name} is not a function with a docstring" for name in missing]
     if "--check" not in sys.argv[1:]:
         PAGE.write_text(wanted)
-    elif wanted != text:
-        faults.append("it is not what tools/reference.py makes")
-    print("".join(f"docs/REFERENCE.md: {fault}\n" for fault in faults), end="")
+        PROMISES.write_text(promises)
+    else:
+        faults += [f"{page.name}: it is not what tools/reference.py makes"
+                   for page, old, new in ((PAGE, text, wanted), (PROMISES, guarantees, promises)) if old != new]
+    print("".join(f"docs/{fault}\n" for fault in faults), end="")
     sys.exit(1 if faults else 0)
 
 

@@ -161,7 +161,8 @@ class StandIn:
 
 def reply_of(status, body, kind="text/plain; charset=utf-8", is_page=False):
     fields = [f"HTTP/1.1 {status} {REASONS[status]}", "Connection: close", f"Content-Length: {len(body)}",
-              f"Content-Type: {kind}", "X-Content-Type-Options: nosniff", "Cache-Control: no-store"]
+              f"Content-Type: {kind}", "X-Content-Type-Options: nosniff", "Cross-Origin-Resource-Policy: same-origin",
+              "Cache-Control: no-store"]
     fields += [f"Content-Security-Policy: {POLICY}"] if is_page else []
     fields += ["Allow: GET, HEAD"] if status == 405 else []
     return "\r\n".join([*fields, "", ""]).encode() + body

@@ -19,6 +19,11 @@ def has_health(program):
     return "--health " in subprocess.run([program, "replica", "--help"], capture_output=True, text=True).stdout
 
 
+def has_names(program):
+    """Whether names of hosts can be let in there."""
+    return "--health-host " in subprocess.run([program, "replica", "--help"], capture_output=True, text=True).stdout
+
+
 class WatchedReplica:
     """A replica in a folder of its own, with this configuration and these receipts. It runs from its start to its stop, or to
     the end of its holder. If it has a stand-in, that one answers at its address of health. A peer may be quiet for this many

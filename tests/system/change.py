@@ -8,7 +8,8 @@ The new configuration has one domain more and one fewer than the old one, a floo
   keeps both, and one without it removes `state.previous`. After a change back, what fits the old configuration only is there
   again, and so it is for the new one after another change. A state of a third configuration is refused as it is
   without --previous; a file for --previous that is not there, and one of the same configuration, are as none. Both
-  configurations have the limit of --most-records.
+  configurations have the limit of --most-records. If an older state is put back in the middle of a change, both it and what
+  was kept are carried over, or the start is refused. A start that is refused changes no file.
 - kills: starts that carry over, forward and back, are killed (SIGKILL) at random times, up to three of them in a row. The next
   one ends what was begun: both files have the wanted bytes, and nothing else is left.
 - calls: the same after a start is killed before one of its calls of the system, one call after another, and after one is
@@ -20,7 +21,8 @@ The new configuration has one domain more and one fewer than the old one, a floo
   over one after another, half of them by a kill; one goes back, and forward again; one is stopped for some time. What comes
   at one reaches all in each step. No replica shows an older bundle of a domain than it did, or none. At the end, without
   --previous, all have the same report and the same snapshot, with all that was acknowledged.
-- status: what `status --at` says of the previous configuration, and of what the peers were asked.
+- status: what `status --at` says of the previous configuration, and of what the peers were asked: nothing of one that answers
+  under a third configuration, and what a stranger asks is no use of the previous one.
 - figures: only if it is named: the time of a start, and the memory, with 61,440 usual bundles.
 
 Each wait is for a condition, for at most 120 seconds, and no look is about time.
@@ -39,6 +41,7 @@ import random
 import re
 import select
 import signal
+import socket
 import subprocess
 import sys
 import threading
@@ -49,9 +52,10 @@ from pathlib import Path
 sys.dont_write_bytecode = True
 HERE = Path(__file__).resolve().parent
 sys.path.insert(0, str(HERE.parent / "lib"))
-from harness import HANG, KINDS, TOLD, TOP, build_library, find_program, shown, temporary# noqa: E402
+from harness import HANG, KINDS, TOLD, TOP, build_library, find_program, listener_of_own, shown, temporary  # noqa: E402
 from needs import left_out  # noqa: E402
 import replica as replicas  # noqa: E402
+import sums  # noqa: E402
 
 ask, free_address = replicas.ask, replicas.free_address
 
@@ -367,6 +371,11 @@ def cases_of(size):
         Case("forward again", {**files_old, "state.previous": previous_new}, NEW, OLD, whole_new, whole_old, whole_old),
         Case("a second start", {**files_new, "state.previous": previous_old}, NEW, OLD, whole_new, previous_old, whole_old),
         Case("the end", {**files_new, "state.previous": previous_old}, NEW, None, whole_new, None),
+        # An older state is put back in the middle of a change, and what was kept has more than it.
+        Case("put back", {"state": OLD.snapshot([*before, *only_old[::3]]),
+                          "state.previous": OLD.snapshot([*later, *only_old[1::3], *only_old[2::3]])},
+             NEW, OLD, first, whole_old),
+        Case("put back, and no change", {"state": previous_old, "state.previous": whole_old}, OLD, None, previous_old, whole_old),
     ]
 
 
@@ -517,6 +526,9 @@ def other_beginnings(program, above, taught_files):
     for text in (b"", b"garbage\n", third["state"][:-5], old["state"][:40]):
         same_as_without(f"a state that is none, {text[:20]}", replica, {"state": text}, NEW, "old")
     same_as_without("no state", replica, {}, NEW, "old")
+    left = {"state.previous.new": OLD.snapshot(lines)}
+    same_as_without("no state, and what a kill left", replica, left, NEW, "old")
+    same_as_without("a state of a third configuration, and what a kill left", replica, {**third, **left}, NEW, "old")
     same_as_without("a missing file, and a state of the old configuration", replica, old, NEW, "nothing")
     # The same configuration in another spelling.
     (replica.folder / "spelled").write_text(json.dumps(json.loads(NEW.text), indent=1))
@@ -582,6 +594,38 @@ def small_store(program, above):
         want("a state with one record too many: the files", replica.files() == {"state": held}, replica.files())
 
 
+def touched_previous(program, above):
+    """What is kept is changed while a replica runs: nothing is lost that it acknowledges then."""
+    ways = {"emptied": b"", "cut": None, "replaced by another program's": b"text", "of the new one": NEW.snapshot([])}
+    for number, (way, text) in enumerate(ways.items()):
+        what = f"what is kept is {way}"
+        with Replica(program, above / f"touched-{number}") as replica:
+            replica.lay({"state": OLD.snapshot(chain(OLD, PLAIN[0], 2, 3))})
+            replica.start(NEW, OLD)
+            kept = replica.folder / "state.previous"
+            kept.write_bytes(kept.read_bytes()[:-5] if text is None else text)
+            reply = replica.observe(PLAIN[1], 2)
+            want(f"{what}: it goes on", reply is not None and reply[0] == 0, reply)
+            replica.kill()
+            if not replica.start(NEW, OLD):
+                replica.ends()
+                kept.unlink()
+                replica.start(NEW, OLD)
+            held = lines_of(replica.files()["state"])
+            want(f"{what}: what was acknowledged is held", len(held) == 4 and reply[1] in held, len(held), replica.said())
+
+
+def full_of_both(program, above):
+    """A state that was put back, and what was kept, have more records than there may be: no file is changed."""
+    with Replica(program, above / "both", "--most-records", "20") as replica:
+        files = {"state": OLD.snapshot(records(PLAIN[0], 15)), "state.previous": OLD.snapshot(records(PLAIN[1], 10))}
+        replica.lay(files)
+        ran = replica.run(*replica.command(NEW, OLD))
+        right = ran.returncode == 1 and ran.stdout == b"" and ran.stderr.endswith(b"G3 Full\n")
+        want("a state that was put back, and no place for what was kept", right, ran)
+        want("no place for what was kept: the files", replica.files() == files, [*replica.files()])
+
+
 def starts(program, above):
     replica = taught(program, above)
     files = replica.files()
@@ -590,6 +634,8 @@ def starts(program, above):
     other_beginnings(program, above, files)
     full_store(program, above)
     small_store(program, above)
+    full_of_both(program, above)
+    touched_previous(program, above)
     return "a state was carried over, back and over again"
 
 
@@ -987,6 +1033,27 @@ def at_the_end(fleet, key):
 # ---- status
 
 
+def answer_strangely(listener):
+    """Answers each question under a configuration that nobody has."""
+    while True:
+        try:
+            stream, _ = listener.accept()
+        except OSError:
+            return
+        with stream:
+            stream.recv(65_536)
+            stream.sendall(sums.head("0" * 64))
+
+
+def ask_as_stranger(address, digest):
+    """Asks for a bucket from an address that no peer has, and returns what is answered."""
+    host, port = address.rsplit(":", 1)
+    with socket.create_connection((host, int(port)), HANG, source_address=("127.0.0.2", 0)) as stream:
+        stream.sendall(b'{"bucket":0,"config":"%s","format":2,"have":[],"of":256}\n' % digest.encode())
+        stream.shutdown(socket.SHUT_WR)
+        return stream.makefile("rb").read()
+
+
 def lines_of_status(replica):
     reply = replica.ask("status")
     return [line for line in reply[1].decode().splitlines() if not line.startswith("warning: ")] if reply else []
@@ -995,9 +1062,12 @@ def lines_of_status(replica):
 def status(program, above):
     """The replica of which it is asked has a peer of each configuration, and one that is away."""
     nobody = free_address()
-    with Net(program, above, 4, lambda number: [[1, 2], [0], [0], [2]][number]) as net:
+    listener, port = listener_of_own()
+    strange = f"127.0.0.1:{port}"
+    threading.Thread(target=answer_strangely, args=(listener,), daemon=True).start()
+    with listener, Net(program, above, 4, lambda number: [[1, 2], [0], [0], [2]][number]) as net:
         asks, old, new, other = net.replicas
-        asks.words = (*asks.words[:3], f"{asks.words[3]},{nobody}", *asks.words[4:])
+        asks.words = (*asks.words[:3], f"{asks.words[3]},{strange},{nobody}", *asks.words[4:])
         net.start(old, OLD)
         for replica in (new, other):
             net.start(replica, NEW, OLD)
@@ -1006,16 +1076,23 @@ def status(program, above):
         began = int(time.time())
         net.start(asks, NEW, OLD)
         net.start(other, NEW, OLD)
-        wanted = [f"asked {net.addresses[1]} previous", f"asked {net.addresses[2]} next", f"asked {nobody} none"]
-        until("what the peers were asked", lambda: lines_of_status(asks)[-3:] == wanted, lambda: lines_of_status(asks)[-9:])
+        wanted = [f"asked {net.addresses[1]} previous", f"asked {net.addresses[2]} next", f"asked {strange} none",
+                  f"asked {nobody} none"]
+        until("a session with a third configuration", lambda: f"peer={strange} " in asks.said() and " fault=S2" in asks.said(), asks.said)
+        until("what the peers were asked", lambda: lines_of_status(asks)[-4:] == wanted, lambda: lines_of_status(asks)[-12:])
         lines = lines_of_status(asks)
-        used = re.fullmatch(f"previous {OLD.digest} used ([0-9]+)", lines[-4])
-        want("when the previous one was used", used and began <= int(used[1]) <= time.time(), lines[-4], began)
-        peers = [line.split()[:2] for line in lines[-7:-4]]
-        want("the peers come before", peers == [["peer", it] for it in (*net.addresses[1:3], nobody)], lines[-8:])
+        used = re.fullmatch(f"previous {OLD.digest} used ([0-9]+)", lines[-5])
+        want("when the previous one was used", used and began <= int(used[1]) <= time.time(), lines[-5], began)
+        peers = [line.split()[:2] for line in lines[-9:-5]]
+        want("the peers come before", peers == [["peer", it] for it in (*net.addresses[1:3], strange, nobody)], lines[-10:])
         wanted = [f"previous {OLD.digest} used none", f"asked {net.addresses[2]} next"]
         until("a replica whose peers have changed", lambda: lines_of_status(other)[-2:] == wanted,
               lambda: lines_of_status(other)[-4:])
+        answered = ask_as_stranger(net.addresses[3], OLD.digest)
+        want("a stranger is answered under the previous one", OLD.digest.encode() in answered, answered[:200])
+        time.sleep(0.5)
+        lines = lines_of_status(other)
+        want("that is no use of it", lines[-2:] == wanted, lines[-4:])
         lines = lines_of_status(new)
         want("without --previous", not any(line.startswith(("previous ", "asked ")) for line in lines), lines[-4:])
     return "a peer of each configuration, and one that is away"

@@ -14,6 +14,10 @@
   that is cut anywhere is read as its whole lines.
 - A journal of another configuration or format, or with a line that is not one, is refused with the number of its line, and
   no file is changed.
+- An older text is copied over the state, its journal or the audit file of a running replica, they are cut, or get a line more, or
+  another mode: before a change and during a fold. It says so, and nothing is lost that was acknowledged; or it ends.
+- What is put in the place of `state.new` during a fold or a save gets no other name, and stays as it is.
+- A pipe as state, journal, previous state or configuration is refused.
 
 It needs python3. The program is the one that ./fedbundle runs, or the one that $FEDBUNDLE names.
 
@@ -21,9 +25,11 @@ usage: files   the status is 1 if something is wrong
 """
 import fcntl
 import os
+import signal
 import stat
 import subprocess
 import sys
+import threading
 import time
 from pathlib import Path
 
@@ -31,11 +37,16 @@ sys.dont_write_bytecode = True
 sys.path.insert(0, str(Path(__file__).resolve().parent.parent / "lib"))
 from harness import HANG, as_journal, find_program, journaled, lay, shown  # noqa: E402
 from harness import temporary, worked_runs  # noqa: E402
+import replica as replicas  # noqa: E402
 
 ROWS = ["state-files/observe-third-document", "merge/third-merges-second", "distrust/key-of-abc"]
 # Those that a replica without a state can do.
 WITHOUT_STATE = ROWS[1:]
 FOREIGN = b"what another program wrote"
+# A key of so many bytes in each bundle makes the journal long.
+LONG_KEY = 700_000
+# How many folds are begun until one is found under way.
+FOLDS = 5
 # What a running replica writes into its lock.
 MARK = b"a replica is running\n"
 NOBODY = 65534
@@ -263,6 +274,224 @@ def a_bad_journal(program, folder, row):
         want(ended.stdout == b"" and everything(folder) == files, f"{row.name}: {why}: what is changed")
 
 
+# ---- files that others touch while a replica runs
+
+
+def copied_over(older):
+    return lambda name: name.write_bytes(older)
+
+
+def one_line_more(name):
+    with name.open("ab") as file:
+        file.write(b"x\n")
+
+
+def touches(older):
+    """What others do to a file, and which file it then has. All of it leaves the file's number."""
+    return {
+        "an older one is copied over it": copied_over(older),
+        "it is emptied": lambda name: os.truncate(name, 0),
+        "it is cut": lambda name: os.truncate(name, name.stat().st_size - 5),
+        "it gets a line more": one_line_more,
+    }
+
+
+MODE = {"its mode is changed": lambda name: name.chmod(0o640)}
+
+
+class Touched:
+    """A replica whose files are touched, and what it has acknowledged."""
+
+    def __init__(self, program, folder, *words):
+        self.replica, self.acknowledged, self.sequence = replicas.Replica(program, folder, *words), [], 1
+        self.older = {}
+
+    def observe(self, *ders):
+        self.sequence += 1
+        reply = self.replica.observe(self.sequence, *ders) or (None, b"", b"")
+        if reply[0] == 0:
+            self.acknowledged.append(reply[1])
+        return reply
+
+    def begin(self, *names):
+        """It runs on a state and a journal, each with something that an older one of them has not."""
+        replica = self.replica
+        replica.start()
+        self.observe()
+        self.older = {name: (replica.folder / name).read_bytes() for name in names}
+        replica.kill()
+        replica.start()
+        self.observe()
+        return self
+
+    def holds_all(self, what):
+        """After a kill it begins again, with all that was acknowledged."""
+        replica = self.replica
+        if replica.process.poll() is None:
+            replica.kill()
+        else:
+            replica.end()
+        replica.start()
+        want(replica.ready.startswith(b"ready "), f"{what}: it starts again", replica.ready, replica.said())
+        lost = replicas.lost_of(replica, self.acknowledged) if (replica.folder / "state").exists() else self.acknowledged
+        want(not lost, f"{what}: what was acknowledged is held", len(lost), len(self.acknowledged), replica.said())
+        replica.kill()
+
+    def says(self, what, name):
+        event = f"event=lost file={name.removeprefix('state.')}\n"
+        want(self.replica.said().count(event) == 1, f"{what}: it is reported once", self.replica.said())
+
+
+def touched_before_a_change(program, above):
+    for name in ("state", "state.journal"):
+        for number, how in enumerate([*touches(b""), *MODE]):
+            touched = Touched(program, above / f"{name}-{number}").begin(name)
+            what, file = f"{name}, {how}", touched.replica.folder / name
+            {**touches(touched.older[name]), **MODE}[how](file)
+            reply = touched.observe()
+            want(reply[0] == 0 and touched.observe()[0] == 0, f"{what}: it goes on", *reply)
+            touched.says(what, name)
+            touched.holds_all(what)
+
+
+def touched_audit(program, above):
+    for number, how in enumerate(touches(b"")):
+        touched = Touched(program, above / f"audit-{number}", "--audit", "audit").begin("audit")
+        what, file, replica = f"the audit file, {how}", touched.replica.folder / "audit", touched.replica
+        touches(touched.older["audit"])[how](file)
+        reply = touched.observe()
+        want(reply == (3, b"", b"fedbundle: S9 Io\n") and replica.end() == 3, f"{what}: it ends", *reply)
+        want("event=audit fault=S9\n" in replica.said(), f"{what}: it is reported", replica.said())
+        file.unlink()
+        replica.start()
+        touched.holds_all(what)
+
+
+class InAFold:
+    """A replica that is stopped by a signal while it writes its state again."""
+
+    def __init__(self, program, folder):
+        self.touched = Touched(program, folder).begin("state", "state.journal")
+        self.folder, self.process = self.touched.replica.folder, self.touched.replica.process
+        self.new = self.folder / "state.new"
+
+    def __enter__(self):
+        for _ in range(FOLDS):
+            self.client = threading.Thread(target=self.fill)
+            self.client.start()
+            while self.client.is_alive() and not self.has_begun():
+                pass
+            os.kill(self.process.pid, signal.SIGSTOP)
+            # Until the call that it is in has ended.
+            time.sleep(0.05)
+            if self.has_begun():
+                break
+            # The fold has ended before. The next one has more to write.
+            self.__exit__()
+        want(self.has_begun(), "it is stopped in a fold", held_names(self.folder))
+        self.ended = self.folds()
+        return self
+
+    def folds(self):
+        """How many folds it has reported."""
+        return self.touched.replica.said().count("event=fold")
+
+    def has_begun(self):
+        try:
+            return self.new.stat().st_size > 0
+        except FileNotFoundError:
+            return False
+
+    def fill(self):
+        while not self.has_begun() and self.touched.observe(bytes(LONG_KEY))[0] == 0:
+            pass
+
+    def __exit__(self, *_):
+        os.kill(self.process.pid, signal.SIGCONT)
+        self.client.join()
+
+
+def held_names(folder):
+    return sorted(path.name for path in folder.iterdir())
+
+
+def touched_in_a_fold(program, above):
+    for name in ("state", "state.journal"):
+        for number, how in enumerate(touches(b"")):
+            what = f"{name} in a fold, {how}"
+            with InAFold(program, above / f"fold-{name}-{number}") as fold:
+                touches(fold.touched.older[name])[how](fold.folder / name)
+            want(fold.touched.observe()[0] == 0, f"{what}: it goes on", fold.touched.replica.said())
+            fold.touched.says(what, name)
+            fold.touched.holds_all(what)
+
+
+def new_state_is_replaced(program, above):
+    """Another file, or more than was written, is under the name of the new state."""
+    for number, how in enumerate(["a valid one", "another program's", *touches(b"")]):
+        what = f"state.new, {how}"
+        with InAFold(program, above / f"new-{number}") as fold:
+            empty = fold.touched.older["state"]
+            if how in touches(b""):
+                touches(empty)[how](fold.new)
+            else:
+                (fold.folder / "other").write_bytes(empty if number == 0 else FOREIGN)
+                (fold.folder / "other").rename(fold.new)
+        replica = fold.touched.replica
+        want(replicas.within(HANG, lambda: fold.folds() > fold.ended), f"{what}: the fold ends", replica.said())
+        want("event=fold fault=S9\n" in replica.said(), f"{what}: it fails", replica.said())
+        if number == 1:
+            want(fold.new.exists() and fold.new.read_bytes() == FOREIGN, f"{what}: it stays", held_names(fold.folder))
+            fold.new.unlink(missing_ok=True)
+        # The first one is killed before another change, which would look at the state.
+        want(number == 0 or fold.touched.observe()[0] == 0, f"{what}: it goes on", replica.said())
+        fold.touched.holds_all(what)
+
+
+# ---- pipes
+
+
+def pipes_are_refused(program, above):
+    """Nothing is read from a pipe that has the name of a file, so nothing waits for who writes into it."""
+    def ends(what, folder, words, wanted):
+        before = held_in(folder)
+        try:
+            ended = subprocess.run([program, *words], cwd=folder, stdin=subprocess.DEVNULL, capture_output=True, timeout=20)
+            seen = ended.returncode, ended.stdout, ended.stderr
+        except subprocess.TimeoutExpired:
+            seen = None, b"", b"it waits"
+        want(seen[0] in (1, 3) and seen[1] == b"" and seen[2] == wanted, what, *seen)
+        after = {name: held for name, held in held_in(folder).items() if name != "state.lock"}
+        want(after == before, f"{what}: what is changed", held_names(folder))
+
+    config = ["--config", "config", "--state", "state"]
+    run = ["replica", *config, "--socket", "socket"]
+    for name, words, wanted in (
+        ("state", run, b"fedbundle: S9 Io\n"),
+        ("state.journal", run, b"fedbundle: journal: S9 Io\n"),
+        ("state.previous", [*run, "--previous", "other"], b"fedbundle: S9 Io\n"),
+        ("config", run, b"fedbundle: E3 Io\n"),
+        ("other", [*run, "--previous", "other"], b"fedbundle: E3 Io\n"),
+        ("state", ["list", *config], b"fedbundle: S9 Io\n"),
+        ("state.journal", ["list", *config], b"fedbundle: journal: S9 Io\n"),
+        ("config", ["list", *config], b"fedbundle: E3 Io\n"),
+    ):
+        folder = above / "pipes"
+        folder.mkdir()
+        replica = replicas.Replica(program, folder)
+        other = {**replicas.CONFIG, "floors": {replicas.DOMAIN: 1}}
+        (folder / "other").write_text(replicas.json.dumps(other))
+        subprocess.run([program, "new", *config], cwd=folder, check=True)
+        for lock in (folder / "state.lock", *([folder / name] if (folder / name).exists() else [])):
+            lock.unlink()
+        os.mkfifo(folder / name)
+        ends(f"{words[0]} with a pipe as {name}", folder, words, wanted)
+        for path in folder.iterdir():
+            path.unlink()
+        folder.rmdir()
+        del replica
+
+
 def main():
     program = find_program()
     rows = worked_runs()
@@ -291,6 +520,8 @@ def main():
             if "state" in rows[name].files:
                 a_bad_journal(program, folder, rows[name])
         a_cut_journal(program, folder, rows["state-files/bundle"])
+        for part in (touched_before_a_change, touched_audit, touched_in_a_fold, new_state_is_replaced, pipes_are_refused):
+            part(program, Path(room))
     for fault in faults[:20]:
         print(fault)
     print(f"{ran} things looked at; {len(faults)} wrong")

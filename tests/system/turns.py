@@ -11,6 +11,9 @@
   run next to a good one, whose record is there within three times `--every`.
 - `room`: sixty clients ask for a large bundle and do not read it, and six send a large input. Those are answered that
   fit into `--most-request-bytes`, and the others are refused with `too many requests`.
+- `readers`: sixty-four clients at the socket of --read-socket ask for a large bundle and do not read it. One who wants to
+  change something finds a place, and bytes, at the other socket.
+- `gone`: four thousand connections are made and closed at each address. What comes after them is answered within half a second.
 - `flood`: thousands of connections that are cut, and others that say nothing right, make few lines of the log, which say how
   many there were.
 
@@ -319,6 +322,66 @@ def room(program, above):
     return f"{60 - most // size} of 60 and {told} of 6 were refused"
 
 
+def look(replica, *words):
+    """A request that is whole, at the socket at which nothing can be changed; its reply is not read."""
+    stream = socket.socket(socket.AF_UNIX)
+    stream.connect(str(replica.folder / "read"))
+    stream.sendall(json.dumps(words).encode() + b"\n")
+    stream.shutdown(socket.SHUT_WR)
+    return stream
+
+
+def readers(program, above):
+    said = []
+    for name, words, places in ("places", [], 48), ("bytes", ["--most-request-bytes", "20000000"], None):
+        with Replica(program, above / name, "--read-socket", "read", *words) as replica:
+            want("a large bundle", replica.observe(2, b"key" * 233_000)[0] == 0)
+            size = len(replica.ask("bundle", "--domain", DOMAIN)[1])
+            streams = [look(replica, "bundle", "--domain", DOMAIN) for _ in range(64)]
+            time.sleep(2)
+            changed = replica.ask("distrust", "--domain", DOMAIN, "--key", hashlib.sha256(b"stolen").hexdigest())
+            want(f"a change beside 64 readers, {name}", changed is not None and changed[0] == 0, changed)
+            seen = replica.ask("bundle", "--domain", DOMAIN)
+            want(f"a bundle at the socket for changes, {name}", seen is not None and seen[0] == 0, seen and seen[2])
+            told = refused(streams)
+            places = places or 15_000_000 // size
+            want(f"the readers for whom there is none, {name}", abs(64 - places - told) <= 1, told, places)
+            stream = look(replica, "bundle", "--domain", DOMAIN)
+            want(f"a reader after them, {name}", refused([stream]) == 0)
+            said.append(f"{told} of 64 readers were refused for {name}")
+    return ", ".join(said)
+
+
+def live(address):
+    with socket.create_connection(address.rsplit(":", 1), 20) as stream:
+        stream.sendall(b"GET /live HTTP/1.0\r\n\r\n")
+        try:
+            return stream.makefile("rb").read()
+        except TimeoutError:
+            return b"nothing"
+
+
+def gone(program, above):
+    at, health = free_address(), free_address()
+    with Replica(program, above / "gone", "--listen", at, "--health", health) as replica:
+        subprocess.run([program, "new", "--config", "config", "--state", "other"], cwd=replica.folder, check=True)
+        def pull():
+            words = [program, "pull", "--config", "config", "--state", "other", "--peer", at, "--sums"]
+            return subprocess.run(words, cwd=replica.folder, capture_output=True, timeout=120).returncode == 0
+
+        said = []
+        for name, address, ask in ("/live", health, lambda: live(health).endswith(b"live\n")), ("a pull", at, pull):
+            want(f"{name}, before", ask())
+            lone = min(seconds_of(ask) for _ in range(3))
+            for _ in range(4096):
+                socket.create_connection(address.rsplit(":", 1), 60).close()
+            answered = []
+            took = seconds_of(lambda: answered.append(ask()))
+            want(f"{name}, after 4,096 that left", answered == [True] and took < lone + 0.5, took, lone)
+            said.append(f"{name} took {took:.2f} s after 4,096 that left, and {lone:.2f} s before")
+    return ", ".join(said)
+
+
 def cut(stream, text):
     """Says something, and cuts the connection."""
     try:
@@ -350,7 +413,8 @@ def flood(program, above):
 
 
 def main():
-    parts = {"reports": reports, "disk": disk, "table": table, "sessions": sessions, "room": room, "flood": flood}
+    parts = {"reports": reports, "disk": disk, "table": table, "sessions": sessions, "room": room, "readers": readers,
+             "gone": gone, "flood": flood}
     program = find_program()
     for name in sys.argv[1:] or parts:
         with temporary() as above:

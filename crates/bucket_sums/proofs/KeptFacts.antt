@@ -17,15 +17,15 @@ use Rattle.receipt_core.specs.Order.{distrust_total, receipt_total}
 use Rattle.receipt_core.specs.Rising.{with_items}
 use Rattle.receipt_core.proofs.RisingFacts.{Contains-from_has, Has, Has-from_contains, each_has}
 use Rattle.closure_core.specs.AcceptedList.{is_in_bucket, receipts_in}
+use Rattle.replica_core.specs.Convergence.{IsPartOf}
 use Rattle.replica_core.specs.Session.{state_of}
 use Rattle.replica_core.specs.State.{State, id_cmp, no_state}
 use Rattle.replica_core.proofs.ContainsFacts.{contains-none, filter-from, filter-to}
 use Rattle.replica_core.proofs.RisingListFacts.{rising_head, rising_nil, rising_tail}
 use Rattle.replica_texts.specs.Messages.{record_text}
-use Rattle.bucket_sums.specs.Keeping.{AreKeptSums, HasGrown}
 use Rattle.bucket_sums.specs.Parts.{count_in, part_sum}
 use Rattle.bucket_sums.specs.Sums.{bucket_sums_from, ids_text, sums_of}
-use Rattle.bucket_sums.specs.Inside.KeptSteps.{ArePartSums, IsRisingBoth, IsSumOf, HasCountsOf, sums_in}
+use Rattle.bucket_sums.specs.Inside.KeptSteps.{AreKeptSums, ArePartSums, IsRisingBoth, IsSumOf, HasCountsOf, sums_in}
 use Rattle.bucket_sums.specs.declared.kept_sums.CountedSum.{CountedSum}
 use Rattle.bucket_sums.specs.declared.kept_sums.KeptSums.{KeptSums}
 use Rattle.bucket_sums.proofs.SumFacts.{bytes_of}
@@ -106,11 +106,11 @@ same_items cmp t xs ys p q there size =
 -- ---- a part that has not changed
 
 -- If the number of receipts or records in a part is what it was, its sum is what it was.
-part_same : (before state : State) (part : ℕ) → IsRisingBoth before → IsRisingBoth state → HasGrown before state
+part_same : (before state : State) (part : ℕ) → IsRisingBoth before → IsRisingBoth state → IsPartOf before state
     → count_in before part ≡ count_in state part → part_sum before part ≡ part_sum state part
 part_same before state zero old new grown size =
     ap (λ (xs : List Distrust). sha256 (flat_map record_text xs))
-    (same_items distrust_cmp distrust_total before.records state.records old.records new.records grown.records size)
+    (same_items distrust_cmp distrust_total before.records state.records old.records new.records grown.distrusts size)
 part_same before state (suc bucket) old new grown size =
     ap (λ (rs : List Receipt). sha256 (ids_text (with_items id_cmp (map receipt_id_of rs) [])))
     (same_items receipt_cmp receipt_total (receipts_in bucket before.held) (receipts_in bucket state.held)
@@ -122,11 +122,11 @@ part_same before state (suc bucket) old new grown size =
     size)
 
 -- If the numbers of receipts and of records are the same, all is the same.
-state_same : (before state : State) → IsRisingBoth before → IsRisingBoth state → HasGrown before state → length before.held ≡ length state.held
+state_same : (before state : State) → IsRisingBoth before → IsRisingBoth state → IsPartOf before state → length before.held ≡ length state.held
     → length before.records ≡ length state.records → before ≡ state
 state_same before state old new grown receipts records =
     let held = same_items receipt_cmp receipt_total before.held state.held old.held new.held grown.receipts receipts in
-    let distrusts = same_items distrust_cmp distrust_total before.records state.records old.records new.records grown.records records in
+    let distrusts = same_items distrust_cmp distrust_total before.records state.records old.records new.records grown.distrusts records in
     λ i. record { held = held i; records = distrusts i }
 
 -- ---- all parts
@@ -179,7 +179,7 @@ pub kept_none : (kept : KeptSums) → kept.parts.items ≡ [] → kept.receipts 
 kept_none kept none zero_kept state = record {
   before = no_state;
   rising = record { held = rising_nil receipt_cmp; records = rising_nil distrust_cmp };
-  grown = record { receipts = λ r h. absurd (contains-none r h); records = λ x h. absurd (contains-none x h) };
+  grown = record { receipts = λ r h. absurd (contains-none r h); distrusts = λ x h. absurd (contains-none x h) };
   sums = subst (ArePartSums no_state 0) (sym none) tt;
   receipts = zero_kept;
 }
@@ -223,10 +223,10 @@ sums_taken_out [] = refl
 sums_taken_out (k ∷ parts) = ap (λ (l : List (List ℕ)). k.sum.0 ∷ l) (sums_taken_out parts)
 
 -- What a copy of the sums is, if they are those of what is held.
-pub copied_sums : {E : Type 0} (P : Type 0) (r : Result (List (List ℕ)) E) (own all : List (List ℕ)) → (P → own ≡ all) → IfOk r (λ s. s ≡ own)
-    → IfOk r (λ s. P → s ≡ all)
-copied_sums P (Ok s) own all e h = λ p. h ∙ e p
-copied_sums P (Err x) own all e h = h
+pub copied_sums : {E : Type 0} (r : Result (List (List ℕ)) E) (own all : List (List ℕ)) → own ≡ all → IfOk r (λ s. s ≡ own)
+    → IfOk r (λ s. s ≡ all)
+copied_sums (Ok s) own all e h = h ∙ e
+copied_sums (Err x) own all e h = h
 
 -- Sums of what is held are kept.
 pub now_kept : (kept : KeptSums) (m : Meaning) → IsMeaning m → ArePartSums (state_of m) 0 kept.parts.items → kept.receipts ≡ length m.held
@@ -234,7 +234,7 @@ pub now_kept : (kept : KeptSums) (m : Meaning) → IsMeaning m → ArePartSums (
 now_kept kept m valid sums receipts = record {
   before = state_of m;
   rising = rises m valid;
-  grown = record { receipts = λ r h. h; records = λ x h. h };
+  grown = record { receipts = λ r h. h; distrusts = λ x h. h };
   sums = sums;
   receipts = receipts;
 }
@@ -247,13 +247,13 @@ first_of_parts (one ∷ parts) k is =
     (parts, ap (λ (x : CountedSum). x ∷ parts) same)
 
 -- Sums that are kept are still kept when what is held has grown.
-pub kept_grown : (kept : KeptSums) (old new : State) → AreKeptSums kept old → HasGrown old new → AreKeptSums kept new
+pub kept_grown : (kept : KeptSums) (old new : State) → AreKeptSums kept old → IsPartOf old new → AreKeptSums kept new
 kept_grown kept old new were more = record {
   before = were.before;
   rising = were.rising;
   grown = record {
     receipts = λ r h. more.receipts r (were.grown.receipts r h);
-    records = λ x h. more.records x (were.grown.records x h);
+    distrusts = λ x h. more.distrusts x (were.grown.distrusts x h);
   };
   sums = were.sums;
   receipts = were.receipts;

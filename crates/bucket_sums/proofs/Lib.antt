@@ -11,6 +11,7 @@ mod QuietFacts
 mod QuietStepFacts
 mod QuietPullFacts
 mod KeptFacts
+mod GrownFacts
 mod ReadFacts
 mod MarkedFacts
 mod QuietLawFacts
@@ -19,4 +20,5 @@ mod BothSidesFacts
 mod ChangingFacts
 mod CourseFacts
 mod QuietRunFacts
+mod QuietServeFacts
 mod SizeFacts

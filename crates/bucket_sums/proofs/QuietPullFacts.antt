@@ -326,6 +326,7 @@ about_still plan pulling e m start came bytes written stopped h = record {
       (written ++ due_have pulling) (quiet_piece bytes m) stopped refl h.pulls;
   taken = taken_same (count_of_pulling pulling) came (quiet_piece bytes m) h.taken refl;
   idle = h.idle;
+  ended = h.ended;
 }
 
 -- After an error nothing that comes is taken.

@@ -5,4 +5,5 @@ pub mod QuestionSteps
 pub mod AnswerSteps
 pub mod OpeningSteps
 pub mod QuietSteps
+pub mod QuietTurns
 pub mod QuietPullSteps

@@ -1,7 +1,6 @@
 -- What a caller cites.
 pub mod Sums
 pub mod Parts
-pub mod Keeping
 pub mod Sessions
 pub mod Lines
 pub mod Questions

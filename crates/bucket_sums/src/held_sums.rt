@@ -3,10 +3,8 @@ ghost use Rattle.std.specs.Prelude.{◌≡◌, ◌++◌, IfOk, OnOk, flat_map, m
 ghost use Rattle.sha2.specs.Sha256.{sha256};
 ghost use Rattle.replica_core.specs.Session.{state_of};
 ghost use Rattle.replica_texts.specs.Messages.{record_text};
-ghost use Rattle.bucket_sums.specs.Sums.{bucket_sum, ids_text, records_sum, sums_of};
+ghost use Rattle.bucket_sums.specs.Sums.{bucket_sum, ids_text, records_sum};
 
-use crate::part_marks::PART_COUNT;
-use crate::part_sums::Sums;
 use crate::sum::Sum;
 use closure_core::{Closure, Distrusts};
 use jwk_set::KeyId;
@@ -15,25 +13,6 @@ use replica_core::bucket_ids;
 use sha2::{Digest, Sha256};
 use spiffe_name::TrustDomain;
 use std::alloc::{AllocError, Global};
-
-/// The sums of what the closure holds: a SHA-256 over the lines of its records of distrust, and
-/// one for each bucket over the ids of its receipts, in order. For an
-/// [`ExchangeClosure`](trust_closure::ExchangeClosure) no receipt's id is computed.
-///
-/// # Errors
-/// Memory ran out.
-pub fn sums_held<C: Closure>(alloc: Global, closure: &C) -> Result<Sums, AllocError>
-    ensures { IfOk result (λ sums. sums ≡ sums_of (state_of (C.state closure.now).meaning)) }
-{
-    let mut sums = Vec::with_capacity(alloc, PART_COUNT)?;
-    let records = sum_of_records(alloc, closure)?;
-    sums.push(records)?;
-    'buckets: for bucket in 0..256u16 {
-        let sum = sum_of_bucket(alloc, closure, bucket as u8)?;
-        sums.push(sum)?;
-    }
-    Ok(Sums::of_all(sums))
-}
 
 pub(crate) fn sum_of_bucket<C: Closure>(
     alloc: Global,

@@ -26,11 +26,8 @@ pub(crate) struct CountedSum {
 /// The sums of what a closure holds, kept from one session to the next. What is held only grows. So
 /// a part whose number of receipts or records is that of when its sum was computed is the same, and
 /// its sum is not computed again.
-///
-/// All closures that are given to it are to be one that changes: each holds what those before it
-/// held.
 #[derive(Debug, Drop)]
-pub struct KeptSums {
+pub(crate) struct KeptSums {
     // Those of the records, and of each bucket; none before the first time.
     parts: Vec<CountedSum>,
     // How many receipts were held then.
@@ -38,11 +35,11 @@ pub struct KeptSums {
 }
 
 impl KeptSums {
-    ghost use Rattle.bucket_sums.specs.Keeping.{AreKeptSums};
-    ghost use Rattle.bucket_sums.specs.Inside.KeptSteps.{ArePartSums, IsSumOf, HasCountsOf};
+    ghost use Rattle.bucket_sums.specs.Inside.KeptSteps.{AreKeptSums, ArePartSums, IsSumOf};
+    ghost use Rattle.bucket_sums.specs.Inside.KeptSteps.{HasCountsOf};
 
     /// Keeps none yet.
-    pub fn new(alloc: Global) -> KeptSums
+    pub(crate) fn new(alloc: Global) -> KeptSums
         ensures { (state : State) → AreKeptSums result state }
     {
         KeptSums {
@@ -51,17 +48,16 @@ impl KeptSums {
         }
     }
 
-    /// The sums of what the closure holds, as [`sums_held`](crate::sums_held) computes them. If
-    /// nothing changed since the last call, this takes no time that grows with what is held.
-    ///
-    /// # Errors
-    /// Memory ran out.
-    pub fn sums_of<C: Closure>(&mut self, alloc: Global, closure: &C) -> Result<Sums, AllocError>
+    /// The sums of what the closure holds.
+    pub(crate) fn sums_of<C: Closure>(
+        &mut self,
+        alloc: Global,
+        closure: &C,
+    ) -> Result<Sums, AllocError>
+        requires { AreKeptSums self.old (state_of (C.state closure.now).meaning) }
         ensures sums { IfOk result
-            (λ sums. AreKeptSums self.old (state_of (C.state closure.now).meaning)
-            → sums ≡ sums_of (state_of (C.state closure.now).meaning)) }
-        ensures kept { AreKeptSums self.old (state_of (C.state closure.now).meaning)
-            → AreKeptSums self.new (state_of (C.state closure.now).meaning) }
+            (λ sums. sums ≡ sums_of (state_of (C.state closure.now).meaning)) }
+        ensures kept { AreKeptSums self.new (state_of (C.state closure.now).meaning) }
     {
         let _valid = closure.config();
         if self.is_same(closure) {
@@ -99,11 +95,11 @@ impl KeptSums {
         alloc: Global,
         closure: &C,
     ) -> Result<Vec<CountedSum>, AllocError>
-        requires { IsMeaning (C.state closure.now).meaning }
+        requires valid { IsMeaning (C.state closure.now).meaning }
+        requires kept { AreKeptSums self.now (state_of (C.state closure.now).meaning) }
         ensures all { IfOk result (λ parts. length parts.items ≡ part_count) }
         ensures sums { IfOk result
-            (λ parts. AreKeptSums self.now (state_of (C.state closure.now).meaning)
-            → ArePartSums (state_of (C.state closure.now).meaning) 0 parts.items) }
+            (λ parts. ArePartSums (state_of (C.state closure.now).meaning) 0 parts.items) }
     {
         let mut parts = Vec::with_capacity(alloc, PART_COUNT)?;
         'places: for part in 0..PART_COUNT {
@@ -123,8 +119,8 @@ impl KeptSums {
     ) -> Result<CountedSum, AllocError>
         requires part { part < part_count }
         requires valid { IsMeaning (C.state closure.now).meaning }
-        ensures { IfOk result (λ k. AreKeptSums self.now (state_of (C.state closure.now).meaning)
-            → IsSumOf (state_of (C.state closure.now).meaning) part k) }
+        requires kept { AreKeptSums self.now (state_of (C.state closure.now).meaning) }
+        ensures { IfOk result (λ k. IsSumOf (state_of (C.state closure.now).meaning) part k) }
     {
         let count = count_of(closure, part);
         if let Some(kept) = self.kept(part) {

@@ -28,7 +28,6 @@ ghost use Rattle.replica_sync.specs.declared.piece_pulling.Pulling.{Pulling};
 ghost use Rattle.replica_sync.specs.declared.piece_serving.Serving.{Serving};
 ghost use Rattle.replica_texts.specs.SoleLines.{written_header};
 ghost use Rattle.bucket_sums.specs.Changing.{AsksMarkedParts, HoldsNoLess, IsOwnPiece, OnlyGrows};
-ghost use Rattle.bucket_sums.specs.Keeping.{AreKeptSums, HasGrown};
 ghost use Rattle.bucket_sums.specs.declared.kept_sums.KeptSums.{KeptSums};
 ghost use Rattle.bucket_sums.specs.Lines.{part_count};
 ghost use Rattle.bucket_sums.specs.Questions.{sums_answer};
@@ -199,11 +198,4 @@ pub fn message_sizes()
         → length (bytes_came asked) ≡ length (written_header config) + 16706 }
     ensures answer { (config : Configuration) (marks : List Bool) → length marks ≡ part_count
         → length (sums_answer config marks) ≡ length (written_header config) + 259 }
-{}
-
-/// Sums that are kept are those of something that is held, also when that has grown. So whoever
-/// gives [`KeptSums`](crate::KeptSums) a closure that only grows gets the sums of what it holds.
-pub fn kept_sums()
-    ensures { (kept : KeptSums) (old new : State) → AreKeptSums kept old → HasGrown old new
-        → AreKeptSums kept new }
 {}

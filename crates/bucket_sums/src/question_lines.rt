@@ -22,18 +22,6 @@ impl QuestionLines {
     ghost use Rattle.bucket_sums.specs.Inside.QuestionSteps.{RefusesQuestionLine};
     ghost use Rattle.bucket_sums.specs.Inside.QuestionSteps.{TakesQuestionLine};
 
-    /// Before the first line.
-    pub(crate) fn new(alloc: Global, own: Sums) -> QuestionLines
-        ensures begun { result.is_begun ≡ false }
-        ensures none { marks_so_far result.sums ≡ [] }
-        ensures own { own_sums result.sums ≡ own }
-    {
-        QuestionLines {
-            is_begun: false,
-            sums: SumLines::new(alloc, own),
-        }
-    }
-
     /// After the first line.
     pub(crate) fn begun(alloc: Global, own: Sums) -> QuestionLines
         ensures begun { result.is_begun ≡ true }

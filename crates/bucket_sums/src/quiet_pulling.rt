@@ -7,11 +7,10 @@ ghost use Rattle.replica_core.specs.Session.{have_of, state_of};
 ghost use Rattle.replica_core.specs.declared.error.SyncError.TheVariants.{NoMemory};
 ghost use Rattle.replica_sync.specs.PulledPieces.{JournalsAll, PulledPiece, bytes_read};
 ghost use Rattle.replica_texts.specs.Messages.{have_text};
-ghost use Rattle.bucket_sums.specs.Keeping.{AreKeptSums};
 ghost use Rattle.bucket_sums.specs.Questions.{sums_question as question_of};
 ghost use Rattle.bucket_sums.specs.Sums.{sums_of};
 
-use crate::kept_sums::KeptSums;
+use crate::summed_closure::SummedClosure;
 use crate::sums_asking::{SumsAsking, sums_question};
 use closure_core::Closure;
 use replica_sync::{Pulling, SyncError};
@@ -57,20 +56,16 @@ impl QuietPulling {
     /// [`SyncError::NoMemory`]: memory ran out.
     pub fn new<C: Closure>(
         alloc: Global,
-        closure: &C,
-        kept: &mut KeptSums,
+        closure: &mut SummedClosure<C>,
     ) -> Result<QuietPulling, SyncError>
-        ensures ok { IfOk result (λ p. AreKeptSums kept.old (state_of (C.state closure.now).meaning)
-            → HasPulledQuietly p (C.state closure.now).meaning [] []) }
+        ensures ok { IfOk result (λ p. HasPulledQuietly p (C.state closure.old).meaning [] []) }
         ensures asks { IfOk result
-            (λ p. AreKeptSums kept.old (state_of (C.state closure.now).meaning)
-            → due_asked p ≡ question_of (C.state closure.now).meaning.config
-            (sums_of (state_of (C.state closure.now).meaning))) }
-        ensures kept { AreKeptSums kept.old (state_of (C.state closure.now).meaning)
-            → AreKeptSums kept.new (state_of (C.state closure.now).meaning) }
+            (λ p. due_asked p ≡ question_of (C.state closure.old).meaning.config
+            (sums_of (state_of (C.state closure.old).meaning))) }
+        ensures same { closure.new ≡ closure.old }
         ensures refused { IfErr result (λ e. e ≡ NoMemory) }
     {
-        let sums = kept.sums_of(alloc, closure)?;
+        let sums = closure.sums(alloc)?;
         Ok(QuietPulling {
             stage: Stage::Asking(SumsAsking::new(alloc)),
             question: sums_question(alloc, closure.config(), &sums)?,

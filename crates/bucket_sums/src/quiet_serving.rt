@@ -1,21 +1,23 @@
 //! A connection that is served: a question of sums or none, and then haves.
-ghost use Rattle.std.specs.Prelude.{◌≡◌, ◌≤◌, ◌<◌, ◌++◌, ◌∷◌, ◌⊎◌, [], List, ℕ, None, Some};
+ghost use Rattle.std.specs.Prelude.{◌≡◌, ◌+◌, ◌≤◌, ◌<◌, ◌++◌, ◌∷◌, ◌⊎◌, [], List, ℕ, None, Some};
 ghost use Rattle.std.specs.Prelude.{IfOk, IfErr, OnOk, MatchResult, drop, length, take, vec_len};
 ghost use Rattle.fed_config.specs.Configuration.{Configuration};
-ghost use Rattle.replica_core.specs.Session.{state_of};
 ghost use Rattle.replica_sync.specs.ServedPieces.{Came, HasServedPieces, came_taken, due_give};
 ghost use Rattle.replica_sync.specs.ServedPieces.{fault_of_serving, records_answered};
-ghost use Rattle.bucket_sums.specs.Keeping.{AreKeptSums};
 ghost use Rattle.bucket_sums.specs.RecordsOnce.{has_feed, left_out_if};
 ghost use Rattle.bucket_sums.specs.Inside.QuietSteps.{limit_of_opening};
 ghost use Rattle.bucket_sums.specs.Questions.{longest_line};
 
 use crate::first_line::{FirstLine, take_first_line};
-use crate::kept_sums::KeptSums;
+use crate::part_marks::PART_COUNT;
+use crate::summed_closure::SummedClosure;
 use crate::sums_serving::{LONGEST_LINE, SumsServing};
 use closure_core::Closure;
 use replica_sync::{LinePart, Serving, SyncError};
 use std::alloc::Global;
+
+// The lines of a question: the first one, and one for each sum.
+const QUESTION_SIZE: u64 = PART_COUNT as u64 + 1;
 
 /// What comes first on a connection.
 #[derive(Drop)]
@@ -53,13 +55,16 @@ pub struct QuietServing {
 impl QuietServing {
     ghost use Rattle.bucket_sums.specs.Quiet.{HasServedQuietly, ServesQuietly, due_marks};
     ghost use Rattle.bucket_sums.specs.Quiet.{IsBetween, due_quiet, fault_in, fault_of_quiet};
+    ghost use Rattle.bucket_sums.specs.QuietRuns.{lines_asked};
+    ghost use Rattle.bucket_sums.specs.Inside.QuietTurns.{bytes_owed, turns_left};
     ghost use Rattle.bucket_sums.specs.Serving.{TakesToLine};
     ghost use Rattle.replica_sync.specs.ServedPieces.{fault_of_serving};
     ghost use Rattle.replica_core.specs.declared.error.SyncError.TheVariants.{Truncated};
 
     /// The beginning of a session.
     pub fn new(alloc: Global) -> QuietServing
-        ensures { (config : Configuration) → HasServedQuietly config result [] [] }
+        ensures begins { (config : Configuration) → HasServedQuietly config result [] [] }
+        ensures idle { due_quiet result ≡ [] }
     {
         QuietServing {
             opening: Opening::FirstLine(LinePart::new(alloc, LONGEST_LINE)),
@@ -83,19 +88,18 @@ impl QuietServing {
     pub fn read<C: Closure>(
         &mut self,
         alloc: Global,
-        closure: &C,
-        kept: &mut KeptSums,
+        closure: &mut SummedClosure<C>,
         piece: &[u8],
     ) -> Result<usize, SyncError>
         ensures serves { (config : Configuration) (came : List Came) (written : List ℕ)
-            → (C.state closure.now).meaning.config ≡ config
-            → AreKeptSums kept.old (state_of (C.state closure.now).meaning)
+            → (C.state closure.old).meaning.config ≡ config
             → HasServedQuietly config self.old came written → HasServedQuietly config self.new
-            (came ++ came_taken piece.now (C.state closure.now).meaning result ∷ []) written }
-        ensures kept { AreKeptSums kept.old (state_of (C.state closure.now).meaning)
-            → AreKeptSums kept.new (state_of (C.state closure.now).meaning) }
+            (came ++ came_taken piece.now (C.state closure.old).meaning result ∷ []) written }
+        ensures same { closure.new ≡ closure.old }
         ensures within { IfOk result (λ used. used ≤ length piece.now) }
         ensures taken { IfOk result (TakesToLine (0 < length (due_quiet self.new)) piece.now) }
+        ensures goes { due_quiet self.old ≡ [] → 0 < length piece.now
+            → IfOk result (λ used. turns_left self.new < turns_left self.old + used) }
         ensures waits { 0 < length (due_quiet self.old) → self.new ≡ self.old }
         ensures fault { MatchResult result (λ _. fault_of_quiet self.new ≡ None)
             (λ e. fault_of_quiet self.new ≡ Some e) }
@@ -106,7 +110,7 @@ impl QuietServing {
         if !self.output().is_empty() {
             return Ok(0);
         }
-        match self.advance(alloc, closure, kept, piece) {
+        match self.advance(alloc, closure, piece) {
             Ok(used) => Ok(used),
             Err(why) => {
                 self.fault = Some(why);
@@ -119,28 +123,27 @@ impl QuietServing {
     fn advance<C: Closure>(
         &mut self,
         alloc: Global,
-        closure: &C,
-        kept: &mut KeptSums,
+        closure: &mut SummedClosure<C>,
         piece: &[u8],
     ) -> Result<usize, SyncError>
         requires { due_quiet self.old ≡ [] }
         ensures serves { (config : Configuration) (came : List Came) (written : List ℕ)
-            → (C.state closure.now).meaning.config ≡ config
-            → AreKeptSums kept.old (state_of (C.state closure.now).meaning)
+            → (C.state closure.old).meaning.config ≡ config
             → ServesQuietly None config self.old came written
             → ServesQuietly (fault_in result) config self.new
-            (came ++ came_taken piece.now (C.state closure.now).meaning result ∷ []) written }
-        ensures kept { AreKeptSums kept.old (state_of (C.state closure.now).meaning)
-            → AreKeptSums kept.new (state_of (C.state closure.now).meaning) }
+            (came ++ came_taken piece.now (C.state closure.old).meaning result ∷ []) written }
+        ensures same { closure.new ≡ closure.old }
         ensures within { IfOk result (λ used. used ≤ length piece.now) }
         ensures taken { IfOk result (TakesToLine (0 < length (due_quiet self.new)) piece.now) }
+        ensures goes { 0 < length piece.now
+            → IfOk result (λ used. turns_left self.new < turns_left self.old + used) }
         ensures fault { self.new.fault ≡ self.old.fault }
     {
         let config = closure.config();
         match &mut self.opening {
-            Opening::Plain => self.haves.read(alloc, closure, piece),
+            Opening::Plain => self.haves.read(alloc, &*closure, piece),
             Opening::Answered => {
-                let used = self.haves.read(alloc, closure, piece)?;
+                let used = self.haves.read(alloc, &*closure, piece)?;
                 leave_out_if(&mut self.haves, has_line_feed(&piece[..used]));
                 Ok(used)
             }
@@ -156,16 +159,16 @@ impl QuietServing {
                 Ok(used)
             }
             Opening::FirstLine(part) => match take_first_line(part, config, piece)? {
-                FirstLine::Within => self.haves.read(alloc, closure, piece),
+                FirstLine::Within => self.haves.read(alloc, &*closure, piece),
                 FirstLine::Sums(used) => {
-                    let own = kept.sums_of(alloc, closure)?;
+                    let own = closure.sums(alloc)?;
                     self.opening = Opening::Question(SumsServing::after_first_line(alloc, own));
                     self.haves = Serving::new(alloc);
                     Ok(used)
                 }
                 FirstLine::Haves => {
                     self.opening = Opening::Plain;
-                    self.haves.read(alloc, closure, piece)
+                    self.haves.read(alloc, &*closure, piece)
                 }
             },
         }
@@ -188,11 +191,24 @@ impl QuietServing {
         ensures serves { (config : Configuration) (came : List Came) (written : List ℕ)
             → HasServedQuietly config self.old came written → HasServedQuietly config self.new came
             (written ++ take count (due_quiet self.old)) }
+        ensures owed { bytes_owed self.new + count ≡ bytes_owed self.old }
+        ensures turns { turns_left self.new ≡ turns_left self.old }
+        ensures fault { fault_of_quiet self.new ≡ fault_of_quiet self.old }
     {
         if self.written < self.marks.len() {
             self.written += count;
         } else {
             self.haves.wrote(count);
+        }
+    }
+
+    // How many of the lines that came are the question's, once it is answered.
+    pub(crate) fn question_size(&self) -> u64
+        ensures { result ≡ lines_asked self.now }
+    {
+        match self.opening {
+            Opening::Answered => QUESTION_SIZE,
+            Opening::FirstLine(_) | Opening::Question(_) | Opening::Plain => 0,
         }
     }
 

@@ -1,8 +1,7 @@
 //! A question that comes in pieces, and the answer to it.
-ghost use Rattle.std.specs.Prelude.{◌≡◌, ◌↔◌, ◌<◌, ◌≤◌, ◌⊎◌, ◌++◌, [], List, ℕ, None, Some, length};
-ghost use Rattle.std.specs.Prelude.{IsTrue, IfOk, IfErr, OnOk, MatchResult, slice_index_or, true};
+ghost use Rattle.std.specs.Prelude.{◌≡◌, ◌↔◌, ◌<◌, ◌≤◌, ◌++◌, List, ℕ, None, Some, length};
+ghost use Rattle.std.specs.Prelude.{IsTrue, IfOk, IfErr, MatchResult, slice_index_or, true};
 ghost use Rattle.fed_config.specs.Configuration.{Configuration};
-ghost use Rattle.replica_core.specs.declared.error.SyncError.TheVariants.{Truncated};
 ghost use Rattle.replica_texts.specs.Snapshots.{ended};
 ghost use Rattle.replica_texts.specs.SoleLines.{written_header};
 ghost use Rattle.replica_sync.specs.Pieces.{longest};
@@ -23,7 +22,7 @@ pub(crate) const LONGEST_LINE: usize = 512;
 /// the question in pieces of any size, and then says the answer. It compares each sum as its line
 /// comes, and keeps none of them.
 #[derive(Drop)]
-pub struct SumsServing {
+pub(crate) struct SumsServing {
     part: LinePart,
     question: QuestionLines,
     fault: Option<SyncError>,
@@ -35,18 +34,6 @@ impl SumsServing {
     ghost use Rattle.bucket_sums.specs.Serving.{TakesToLine};
     ghost use Rattle.bucket_sums.specs.Serving.{fault_of_question, marks_made, own_sums_of};
     ghost use Rattle.bucket_sums.specs.Inside.QuestionSteps.{FailsQuestion, StepsQuestion};
-
-    /// The beginning of a question, whose sums are compared with these.
-    pub fn new(alloc: Global, own: Sums) -> SumsServing
-        ensures begins { (config : Configuration) → HasTakenQuestion config result [] }
-        ensures own { own_sums_of result ≡ own }
-    {
-        SumsServing {
-            part: LinePart::new(alloc, LONGEST_LINE),
-            question: QuestionLines::new(alloc, own),
-            fault: None,
-        }
-    }
 
     /// A question whose first line came.
     pub(crate) fn after_first_line(alloc: Global, own: Sums) -> SumsServing
@@ -74,7 +61,7 @@ impl SumsServing {
     /// - [`SyncError::VersionDiffers`]: it is of another format,
     /// - [`SyncError::NotCanonical`]: a line after it is not 64 lower-case hexadecimal digits,
     /// - [`SyncError::NoMemory`]: memory ran out.
-    pub fn read(&mut self, alloc: Global, config: &Config, piece: &[u8]) -> Result<usize, SyncError>
+    fn read(&mut self, alloc: Global, config: &Config, piece: &[u8]) -> Result<usize, SyncError>
         ensures takes { (came : List ℕ) → HasTakenQuestion config.now self.old came
             → HasTakenQuestion config.now self.new (came ++ bytes_taken piece.now result) }
         ensures within { IfOk result (λ used. used ≤ length piece.now) }
@@ -103,7 +90,7 @@ impl SumsServing {
     ///
     /// # Errors
     /// Those of [`SumsServing::read`].
-    pub fn read_lines(
+    pub(crate) fn read_lines(
         &mut self,
         alloc: Global,
         config: &Config,
@@ -151,7 +138,7 @@ impl SumsServing {
     }
 
     /// Whether the question has ended. What follows it is not read.
-    pub fn has_asked(&self) -> bool
+    pub(crate) fn has_asked(&self) -> bool
         ensures asked { IsTrue result ↔ HasAsked self.now }
         ensures all { length (own_sums_of self.now) ≡ part_count }
     {
@@ -163,7 +150,7 @@ impl SumsServing {
     ///
     /// # Errors
     /// Memory ran out.
-    pub fn answer(&self, alloc: Global, config: &Config) -> Result<Vec<u8>, AllocError>
+    pub(crate) fn answer(&self, alloc: Global, config: &Config) -> Result<Vec<u8>, AllocError>
         ensures { IfOk result
             (λ text. text.items ≡ sums_answer config.now (marks_made self.now)) }
     {
@@ -177,34 +164,12 @@ impl SumsServing {
 
     /// Whether the sum of the records of distrust is another one. Before its line came this is
     /// true.
-    pub fn records_differ(&self) -> bool
+    pub(crate) fn records_differ(&self) -> bool
         ensures { result ≡ slice_index_or (marks_made self.now) 0 true }
     {
         match self.question.sums().marks().first() {
             Some(mark) => *mark,
             None => true,
-        }
-    }
-
-    /// Whether the stream may end here: the question has ended.
-    ///
-    /// # Errors
-    /// The error that was found; or [`SyncError::Truncated`]: the stream ends before that.
-    pub fn end(&self) -> Result<(), SyncError>
-        ensures whole { OnOk result ((fault_of_question self.now ≡ None) × HasAsked self.now) }
-        ensures refused { IfErr result (λ e. (fault_of_question self.now ≡ Some e)
-            ⊎ ((fault_of_question self.now ≡ None) × (e ≡ Truncated)
-            × (HasAsked self.now → ⊥))) }
-    {
-        match self.fault {
-            Some(why) => Err(why),
-            None => {
-                if self.has_asked() {
-                    Ok(())
-                } else {
-                    Err(SyncError::Truncated)
-                }
-            }
         }
     }
 }

@@ -1,1 +1,2 @@
 mod PieceFacts
+mod TurnFacts

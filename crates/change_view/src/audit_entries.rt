@@ -1,7 +1,12 @@
 //! The entry by which a line of the audit file is found to be of a change that is held.
+ghost use Rattle.std.specs.Prelude.{◌≡◌};
+ghost use Rattle.sha2.specs.Sha256.{sha256};
+ghost use Rattle.change_view.specs.TurnTexts.{final_line};
+
 use closure_core::Closure;
 use receipt_core::Distrust;
 use sha2::{Digest, Sha256};
+use state_steps::end_line;
 use std::alloc::{AllocError, Global};
 
 /// How each line of the audit file begins.
@@ -28,13 +33,14 @@ pub enum AuditLine {
 }
 
 /// The SHA-256 of the last line of the text, without its line feed; of nothing if it has no line.
-pub fn last_line_digest(text: &[u8]) -> [u8; 32] {
-    let whole = text.strip_suffix(b"\n").unwrap_or(text);
-    let begin = match whole.iter().rposition(|byte| *byte == b'\n') {
-        Some(end) => end.saturating_add(1).min(whole.len()),
-        None => 0,
-    };
-    Sha256::digest(&whole[begin..])
+#[tactic(auto, using(crate::proofs::TurnFacts::last_behind))]
+pub(crate) fn last_line_digest(text: &[u8]) -> [u8; 32]
+    ensures { result ≡ sha256 (final_line text.now) }
+{
+    match end_line(text) {
+        Some(end) => Sha256::digest(end.line),
+        None => Sha256::digest(b""),
+    }
 }
 
 /// What the line is, without its line feed, or `None` if it is not one of an audit file.

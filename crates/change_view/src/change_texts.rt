@@ -126,7 +126,7 @@ fn push_new(out: &mut Vec<u8>, new: NewEntries) -> Result<(), AllocError>
 ///
 /// # Errors
 /// Memory ran out. Nothing is said then of what is there.
-pub fn push_audit_line(
+pub(crate) fn push_audit_line(
     alloc: Global,
     out: &mut Vec<u8>,
     moment: u64,

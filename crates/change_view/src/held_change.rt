@@ -17,13 +17,13 @@ pub enum HeldChange {
     Pull(String, NewEntries),
 }
 
-/// A change, and the lines that the journal gets for it.
+/// A change, and how many bytes the journal gets for it.
 #[derive(Debug, Drop)]
 pub struct JournalledChange {
     /// What it did.
     pub change: HeldChange,
-    /// The SHA-256 of the last of the lines, without its line feed.
-    pub last: [u8; 32],
+    /// The length of its lines, one of which it has at least.
+    pub bytes: usize,
 }
 
 /// A bundle that was observed, and was not before.

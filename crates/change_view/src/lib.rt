@@ -2,18 +2,19 @@
 //! a line of the audit file. It knows closures only by their trait.
 //!
 //! `held_change` is what is reported, and `reporting` makes it of what is held after the change and
-//! of the lines that the journal gets for it. `change_texts` writes it. `audit_entries` finds out
-//! whether a line of the audit file is of a change that is held.
+//! of the lines that the journal gets for it. `change_texts` writes it. `turn_lines` has what the
+//! journal and the audit file get in a turn, in one order. `audit_entries` finds out whether a line
+//! of the audit file is of a change that is held.
 #![tactic(auto)]
 
 mod audit_entries;
 mod change_texts;
 mod held_change;
 mod reporting;
+mod turn_lines;
 
-pub use audit_entries::{
-    AUDIT_BEGINNING, AuditLine, holds_line, last_line_digest, read_audit_line,
-};
-pub use change_texts::{push_audit_line, push_event, push_start_line};
+pub use audit_entries::{AUDIT_BEGINNING, AuditLine, holds_line, read_audit_line};
+pub use change_texts::{push_event, push_start_line};
 pub use held_change::{DistrustedKey, HeldChange, JournalledChange, NewEntries, ObservedBundle};
 pub use reporting::{accepted_count, count_entries, distrusted_key, observed_bundle};
+pub use turn_lines::{LinesReport, TurnLines, TurnTexts, lines_of_changes, turn_texts};

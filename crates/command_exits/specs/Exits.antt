@@ -62,3 +62,4 @@ abbrev pub exit_of_option : OptionError → Exit
 exit_of_option unread.Usage = Usage
 exit_of_option (unread.BadNumber name) = BadNumber name
 exit_of_option unread.BadKey = BadKey
+exit_of_option (unread.EmptyPath name) = EmptyPath name

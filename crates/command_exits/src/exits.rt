@@ -29,7 +29,7 @@ pub enum Exit {
     /// `--now` is not a time.
     BadMoment,
     /// `--listen`, `--peer` or one of `--peers` is not the address of a socket, or has port 0
-    /// although others have to know the port.
+    /// although others have to know the port; or a name of `--health-host` is empty or has a port.
     BadAddress,
     /// The domain has no current bundle.
     NoBundle,
@@ -171,6 +171,7 @@ impl From<OptionError> for Exit {
             OptionError::Usage => Exit::Usage,
             OptionError::BadNumber(option) => Exit::BadNumber(option),
             OptionError::BadKey => Exit::BadKey,
+            OptionError::EmptyPath(option) => Exit::EmptyPath(option),
         }
     }
 }

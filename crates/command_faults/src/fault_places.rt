@@ -13,14 +13,22 @@ use serde_json::Value;
 use state_files::{journal_path, load_state};
 use std::alloc::{AllocError, Global};
 use std::io::Read;
+use std::os::unix::fs::FileTypeExt;
 use std::{fs, io};
 use trust_closure::{Closure, IndexedClosure};
 
 /// The path of standard input as a file.
 const STANDARD_INPUT: &str = "/dev/stdin";
 
-// The bytes of the file, or what the system says. A folder is opened, and then not read.
+/// The system's number for a file that is there already (`EEXIST`).
+const FILE_EXISTS: i32 = 17;
+
+// The bytes of the file, or what the system says. A folder is opened, and then not read. A pipe is
+// not opened.
 fn read_file(rt: &HostRuntime, path: &str) -> io::Result<Vec<u8>> {
+    if fs::symlink_metadata(rt, path)?.file_type().is_fifo() {
+        return Err(io::Error::from_raw_os_error(FILE_EXISTS));
+    }
     let mut file = fs::open(rt, path)?;
     let mut bytes = Vec::new(rt.alloc());
     file.read_to_end(&mut bytes)?;

@@ -4,7 +4,7 @@
 use crate::fault_places::{say_bundle, say_config, say_state, say_stream};
 use command_exits::{CommandError, Exit, Step, SystemFault, status};
 use command_line::{Call, CommandName, OptionName, given};
-use command_streams::options::{address, config, known_address, may_listen};
+use command_streams::options::{address, config, health_names, known_address, may_listen};
 use command_streams::{is_verbose_for, print_exit, quoted, say, shown, words_of};
 use fed_config::Config;
 use spiffe_name::{NameError, SpiffeId, TrustDomain};
@@ -171,6 +171,14 @@ fn say_addresses(rt: &HostRuntime, call: &Call<'_>, why: &str) -> Result<(), All
             }
             _ => {}
         }
+    }
+    if let Err(Exit::BadAddress) = health_names(rt.alloc(), call) {
+        return say_option(
+            rt,
+            call,
+            OptionName::HealthHost,
+            "has an empty name or a port",
+        );
     }
     say_option(rt, call, OptionName::Peers, why)
 }

@@ -12,10 +12,11 @@ use Rattle.command_line.specs.declared.command_name.CommandName.TheVariants as c
 use Rattle.command_line.specs.declared.command_name.OptionName.{OptionName}
 use Rattle.command_line.specs.declared.command_name.OptionName.TheVariants.{At}
 use Rattle.command_line.specs.declared.words.WordsError.{WordsError}
-use Rattle.command_line.specs.declared.words.WordsError.TheVariants.{Words, Usage, NoMemory}
+use Rattle.command_line.specs.declared.words.WordsError.TheVariants.{Words, Usage, NoMemory, Flawed}
 use Rattle.command_line.specs.declared.words.WordsPlace.{WordsPlace}
 use Rattle.command_line.specs.Inside.WordsErrors.{KeepsKind}
-use Rattle.command_line.specs.Words.{IsNoCall, RefusesWords, given, is_settled_in, leaf, name_text, named, options_of}
+use Rattle.command_line.specs.Checks.{RefusesWords}
+use Rattle.command_line.specs.Words.{IsNoCall, given, is_settled_in, leaf, name_text, named, options_of}
 use Rattle.command_line.specs.Words.{settled_at, the_command}
 
 -- what is left is the next item and what is left after it
@@ -141,6 +142,7 @@ pub refused_words : (place : WordsPlace) (words : List Text) (error : Error) (wh
 refused_words place words error (Words refused) (inl memory) kind lacks = (let clash = lacks memory in absurd (cc))
 refused_words place words error (Words refused) (inr among) kind lacks = subst (λ k. IsAmong k (fault_of the_command words)) (sym kind) among
 refused_words place words error Usage has kind lacks = absurd kind
+refused_words place words error (Flawed call flaw) has kind lacks = absurd kind
 refused_words place words error NoMemory has kind lacks = search rules
 
 -- no subcommand is named that has all that it needs, so the arguments are not a call

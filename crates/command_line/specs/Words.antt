@@ -1,10 +1,10 @@
 -- The arguments of the command line, as clap's definition of a command reads them.
 use Rattle.std.specs.Prelude.{Bool, true, false, ◌&&◌, ◌||◌, not, if◌then◌else◌}
 use Rattle.std.specs.Prelude.{◌≡◌, ℕ, List, [], ◌∷◌, map, fold, codes, Option, Some, is_some}
-use Rattle.std.specs.Prelude.{Result, MatchResult, find, option_map}
+use Rattle.std.specs.Prelude.{find}
 use Rattle.std.specs.List.{list_all}
 use Rattle.std.specs.Str.{bytes_eq}
-use Rattle.clap.specs.Words.{App, IsAmong, Row, Rule, Text, fault_of, first_of, kind_of, new_app}
+use Rattle.clap.specs.Words.{App, Row, Rule, Text, fault_of, first_of, new_app}
 use Rattle.clap.specs.Words.{new_rule, subcommand_of, with_rule, with_subcommand}
 use Rattle.clap.specs.declared.builder.action.ArgAction.TheVariants.{Set, SetTrue}
 use Rattle.command_line.specs.declared.command_name.CommandName.{CommandName}
@@ -12,9 +12,6 @@ use Rattle.command_line.specs.declared.command_name.CommandName.TheVariants as c
 use Rattle.command_line.specs.declared.command_name.OptionName.{OptionName}
 use Rattle.command_line.specs.declared.words.WordsPlace.{WordsPlace}
 use Rattle.command_line.specs.declared.words.WordsPlace.TheVariants.{CommandLine, Request}
-use Rattle.command_line.specs.declared.words.Call.{Call}
-use Rattle.command_line.specs.declared.words.WordsError.{WordsError}
-use Rattle.command_line.specs.declared.words.WordsError.TheVariants.{Words, Usage, NoMemory}
 use Rattle.command_line.specs.declared.command_name.OptionName.TheVariants.{Config, State, Domain}
 use Rattle.command_line.specs.declared.command_name.OptionName.TheVariants.{Endpoint, Key, Now}
 use Rattle.command_line.specs.declared.command_name.OptionName.TheVariants.{Listen}
@@ -32,6 +29,7 @@ use Rattle.command_line.specs.declared.command_name.OptionName.TheVariants.{List
 use Rattle.command_line.specs.declared.command_name.OptionName.TheVariants.{Keys, OptionalKey}
 use Rattle.command_line.specs.declared.command_name.OptionName.TheVariants.{PublicKey, Polls}
 use Rattle.command_line.specs.declared.command_name.OptionName.TheVariants.{OptionalNow, Health}
+use Rattle.command_line.specs.declared.command_name.OptionName.TheVariants.{HealthHost}
 use Rattle.command_line.specs.declared.command_name.OptionName.TheVariants.{ExpiresWithin, Audit}
 use Rattle.command_line.specs.declared.command_name.OptionName.TheVariants.{PeerQuiet, Floors}
 use Rattle.command_line.specs.declared.command_name.OptionName.TheVariants.{Previous}
@@ -79,6 +77,7 @@ option_text ExpiresWithin = codes "expires-within"
 option_text PeerQuiet = codes "peer-quiet"
 option_text Polls = codes "polls"
 option_text Health = codes "health"
+option_text HealthHost = codes "health-host"
 option_text Audit = codes "audit"
 option_text Previous = codes "previous"
 option_text MostReceipts = codes "most-receipts"
@@ -122,6 +121,7 @@ may_be_left_out ExpiresWithin = true
 may_be_left_out PeerQuiet = true
 may_be_left_out Polls = true
 may_be_left_out Health = true
+may_be_left_out HealthHost = true
 may_be_left_out Audit = true
 may_be_left_out Previous = true
 may_be_left_out MostReceipts = true
@@ -197,8 +197,8 @@ options_of command.Serve = Config ∷ State ∷ Listen ∷ Sessions ∷ MostRece
 options_of command.Pull = Config ∷ State ∷ Peer ∷ Sums ∷ Wait ∷ MostBytes ∷ MostReceipts
     ∷ MostRecords ∷ Verbose ∷ []
 options_of command.Replica = Config ∷ Previous ∷ State ∷ Socket ∷ ReadSocket ∷ OptionalListen
-    ∷ Health ∷ Audit ∷ ListenAnywhere ∷ Peers ∷ Every ∷ PeerQuiet ∷ ExpiresWithin ∷ MostBytes
-    ∷ MostReceipts ∷ MostRecords ∷ MostRequestBytes ∷ New ∷ Verbose ∷ []
+    ∷ Health ∷ HealthHost ∷ Audit ∷ ListenAnywhere ∷ Peers ∷ Every ∷ PeerQuiet ∷ ExpiresWithin
+    ∷ MostBytes ∷ MostReceipts ∷ MostRecords ∷ MostRequestBytes ∷ New ∷ Verbose ∷ []
 options_of command.Stop = Wait ∷ Verbose ∷ At ∷ []
 
 abbrev pub all_names : List CommandName
@@ -291,16 +291,3 @@ pub record IsNoCall (place : WordsPlace) (words : List Text) : Type 0 where
   pub taken : fault_of the_command words ≡ []
   pub none : (name : CommandName) (texts : List (Option Text)) → CallsFrom place words name texts
       → ⊥
-
--- Why arguments are refused: by clap, and its error has a kind that clap gives at these arguments;
--- since they are not a call; or memory ran out.
-abbrev pub RefusesWords : WordsPlace → List Text → WordsError → Type 0
-RefusesWords place words (Words error) = IsAmong (kind_of error) (fault_of the_command words)
-RefusesWords place words Usage = IsNoCall place words
-RefusesWords place words NoMemory = Unit {0}
-
--- The result of reading arguments: the call that they are, or why they are not a call.
-abbrev pub ReadsWords : WordsPlace → List Text → Result Call WordsError → Type 0
-ReadsWords place words result = MatchResult result
-    (λ call. CallsFrom place words call.name (map (option_map (λ t. t.now)) call.texts.items))
-    (RefusesWords place words)

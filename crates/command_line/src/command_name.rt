@@ -54,6 +54,8 @@ pub enum OptionName {
     PeerQuiet,
     Polls,
     Health,
+    /// The names by which the address of health may be asked.
+    HealthHost,
     Audit,
     /// The configuration that a replica changes from.
     Previous,
@@ -178,6 +180,7 @@ impl OptionName {
             OptionName::PeerQuiet => "peer-quiet",
             OptionName::Polls => "polls",
             OptionName::Health => "health",
+            OptionName::HealthHost => "health-host",
             OptionName::Audit => "audit",
             OptionName::Previous => "previous",
             OptionName::MostReceipts => "most-receipts",
@@ -232,6 +235,7 @@ impl OptionName {
                 | OptionName::PeerQuiet
                 | OptionName::Polls
                 | OptionName::Health
+                | OptionName::HealthHost
                 | OptionName::Audit
                 | OptionName::Previous
                 | OptionName::MostReceipts
@@ -469,7 +473,7 @@ static PULL: [OptionName; 9] = [
     OptionName::Verbose,
 ];
 
-static REPLICA: [OptionName; 19] = [
+static REPLICA: [OptionName; 20] = [
     OptionName::Config,
     OptionName::Previous,
     OptionName::State,
@@ -477,6 +481,7 @@ static REPLICA: [OptionName; 19] = [
     OptionName::ReadSocket,
     OptionName::OptionalListen,
     OptionName::Health,
+    OptionName::HealthHost,
     OptionName::Audit,
     OptionName::ListenAnywhere,
     OptionName::Peers,

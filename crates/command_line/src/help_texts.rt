@@ -4,8 +4,8 @@ use crate::command_name::{CommandName, OptionName};
 /// What `--version` prints: the version on a line of its own; then the kit with which it is proved
 /// and built, and the formats: the numbers are those in the first lines that are written.
 pub const VERSION: &str = "\
-0.10.0
-kit rattle-kit-13f logic dac8208d650f15bf
+0.11.0
+kit rattle-kit-13b logic dac8208d650f15bf
 state format 2, and 1 is read
 journal format 2
 have format 2 of 256
@@ -45,13 +45,13 @@ Reads the configuration, or with --at asks a running replica for its own; with -
 another one, too; and nothing from standard input.
 
 Writes to standard output a line `config` with the configuration's digest, and then its
-relationships, its trust domains and its seeds, a line each; with --with the lines that
-only the first configuration has, each after `- `, and then those that only the other
-has, each after `+ `. It writes no file. Replicas exchange receipts only if their
-configurations are equal, that is, have one digest.
+relationships, its trust domains, its seeds and its floors, a line each; with --with the
+lines that only the first configuration has, each after `- `, and then those that only
+the other has, each after `+ `. It writes no file. Replicas exchange receipts only if
+their configurations are equal, that is, have one digest.
 
---format json prints one object: `config`, `relationships`, `domains` and `seeds`. It
-cannot be combined with --with.
+--format json prints one object: `config`, `relationships`, `domains` and `seeds`, and
+`floors` if there is one. It cannot be combined with --with.
 
 Ends with 0; with 1 if two configurations have two digests; with 1 and nothing printed if
 one is refused; with 2 if the format is neither text nor json.";
@@ -363,16 +363,17 @@ change what it holds: those who may only look are in that socket's group.
 Answers other replicas at the address of --listen, as `serve` does, and pulls from each of
 --peers, as `pull --sums` does. Everyone who reaches it gets all that is held, so an address
 that is not a loopback address is refused without --listen-anywhere. At most 160 connections are
-open at once: 64 requests of this machine, 48 on which other replicas ask, 16 at the
-address of --health, one with each peer, and some that are only refused. A connection on
-which nothing moves for 30 seconds, or which is older than 600 seconds, is closed, and so is
-a pull in which fewer than 1,000 bytes move in a second. If there are too many, the one that
-has asked nothing whole for the longest is closed.
+open at once: 64 requests of this machine, of them 48 at the socket of --read-socket, 48 on
+which other replicas ask, 16 at the address of --health, one with each peer, and some that
+are only refused. A connection on which nothing moves for 30 seconds, or which is older than
+600 seconds, is closed, and so is a pull in which fewer than 1,000 bytes move in a second. If
+there are too many, the one that has asked nothing whole for the longest is closed.
 
 At the address of --health it answers HTTP requests, GET and HEAD: /live, /ready, /metrics
 for Prometheus, /status.json, /report.json, /keys.json, /graph.dot and / for people. Nothing
-can be changed there. A certificate is warned of --expires-within before its end, and a peer
-that was quiet for --peer-quiet.
+can be changed there. It is asked by an IP address, by localhost or by a name of
+--health-host; other names, and pages of other sites in a browser, are refused. A certificate
+is warned of --expires-within before its end, and a peer that was quiet for --peer-quiet.
 
 With --previous it changes from that configuration to the one of --config. A state of the
 previous one is carried over at the start, as by `migrate`; what it held remains in
@@ -445,6 +446,7 @@ impl OptionName {
             OptionName::PeerQuiet => "SECONDS",
             OptionName::Polls => "FILE",
             OptionName::Health => "ADDRESS",
+            OptionName::HealthHost => "NAME,..",
             OptionName::Audit => "PATH",
             OptionName::Previous => "FILE",
             OptionName::MostReceipts => "COUNT",
@@ -521,6 +523,8 @@ impl OptionName {
                 "The path of a file to which a line of JSON is appended for each change",
             OptionName::Health =>
                 "The address of health, metrics and a page: an IP address and a port",
+            OptionName::HealthHost =>
+                "The names by which --health may be asked, with commas between them",
             OptionName::Previous =>
                 "The configuration to change from; a missing file counts as if it was not named",
             OptionName::MostReceipts => "How many receipts may be held, from 1 to 4194304 [65536]",
@@ -685,10 +689,10 @@ impl CommandName {
             CommandName::Replica => {
                 "fedbundle replica --config <FILE> [--previous <FILE>] --state <FILE> \
                 --socket <PATH> [--read-socket <PATH>] [--listen <ADDRESS>] [--health <ADDRESS>] \
-                [--audit <PATH>] [--listen-anywhere] [--peers <ADDRESS,..>] [--every <SECONDS>] \
-                [--peer-quiet <SECONDS>] [--expires-within <DAYS>] [--most-bytes <BYTES>] \
-                [--most-receipts <COUNT>] [--most-records <COUNT>] [--most-request-bytes <BYTES>] \
-                [--new] [--verbose]"
+                [--health-host <NAME,..>] [--audit <PATH>] [--listen-anywhere] \
+                [--peers <ADDRESS,..>] [--every <SECONDS>] [--peer-quiet <SECONDS>] \
+                [--expires-within <DAYS>] [--most-bytes <BYTES>] [--most-receipts <COUNT>] \
+                [--most-records <COUNT>] [--most-request-bytes <BYTES>] [--new] [--verbose]"
             }
             CommandName::Stop => "fedbundle stop --at <PATH> [--wait <SECONDS>] [--verbose]",
         }

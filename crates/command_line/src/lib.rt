@@ -1,8 +1,9 @@
 //! The arguments of the command line, without a file, a stream or a replica: the subcommands and
-//! their options, what help says of them, the call that arguments make, and what the texts of
-//! options say.
+//! their options, what help says of them, the call that arguments make, what it is refused for, and
+//! what the texts of options say.
 #![tactic(auto)]
 
+mod checks;
 mod command_name;
 mod help_texts;
 mod option_error;

@@ -4,15 +4,18 @@ ghost use Rattle.std.specs.List.{list_all};
 ghost use Rattle.clap.specs.Words.{app_of, found_of, kind_of, rule_of, rows_of};
 ghost use Rattle.clap.specs.declared.error.kind.ErrorKind.TheVariants.{InvalidSubcommand};
 ghost use Rattle.clap.specs.declared.error.kind.ErrorKind.TheVariants.{OutOfMemory};
-ghost use Rattle.command_line.specs.Inside.WordsErrors.{KeepsKind};
-ghost use Rattle.command_line.specs.Words.{ReadsWords, given, is_settled};
+ghost use Rattle.command_line.specs.Checks.{ReadsWords};
+ghost use Rattle.command_line.specs.Inside.WordsErrors.{KeepsKind, ParsesWords};
+ghost use Rattle.command_line.specs.Words.{given, is_settled};
 ghost use Rattle.command_line.specs.Words.{is_settled_in, leaf, name_text, named, rule_of_option};
 ghost use Rattle.command_line.specs.Words.{settled_at, the_command};
 ghost use Rattle.command_line.specs.declared.words.WordsError.TheVariants.{NoMemory};
 ghost use Rattle.command_line.specs.declared.words.WordsPlace.TheVariants.{CommandLine, Request};
 
+use crate::checks::flaw_of;
 use crate::command_name::{COMMANDS, CommandName, OptionName};
 use crate::help_texts;
+use crate::option_error::OptionError;
 use clap::error::ErrorKind;
 use clap::{Arg, ArgAction, ArgMatches, Command};
 use std::alloc::{AllocError, AllocFailed, Global};
@@ -29,11 +32,13 @@ pub struct Call<'a> {
 
 /// Why arguments do not make a call.
 #[derive(Debug, Drop)]
-pub enum WordsError {
+pub enum WordsError<'a> {
     /// The command does not have them, or they ask for its help or version.
     Words(clap::Error),
     /// The subcommand, or one of its options, is missing.
     Usage,
+    /// They make this call, whose options have this flaw.
+    Flawed(Call<'a>, OptionError),
     /// Memory ran out.
     NoMemory,
 }
@@ -57,8 +62,10 @@ pub(crate) enum WordsPlace {
 /// - [`WordsError::Words`]: `clap` refuses the arguments, or they ask for help or for the version,
 /// - [`WordsError::Usage`]: `clap` takes the arguments, and the subcommand or an option that it
 ///   wants is missing, or `--at` is given with one that a running replica has itself,
+/// - [`WordsError::Flawed`]: the path of a file or of a socket is empty, `distrust` has neither a
+///   key nor a public key or has both, or `--at` is given with `--new`,
 /// - [`WordsError::NoMemory`]: memory ran out.
-pub fn read_words<'a>(alloc: Global, words: &'a [&'a str]) -> Result<Call<'a>, WordsError>
+pub fn read_words<'a>(alloc: Global, words: &'a [&'a str]) -> Result<Call<'a>, WordsError<'a>>
     ensures { ReadsWords CommandLine (map (λ w. w.now) words.now) result }
 {
     read_call(alloc, words, WordsPlace::CommandLine)
@@ -69,8 +76,9 @@ pub fn read_words<'a>(alloc: Global, words: &'a [&'a str]) -> Result<Call<'a>, W
 /// replica has itself.
 ///
 /// # Errors
-/// Those of [`read_words`]; [`WordsError::Usage`] if one of these five is given.
-pub fn read_request<'a>(alloc: Global, words: &'a [&'a str]) -> Result<Call<'a>, WordsError>
+/// Those of [`read_words`]; [`WordsError::Usage`] if one of these five is given, and
+/// [`WordsError::Flawed`] if `--new` is, since the replica has a state.
+pub fn read_request<'a>(alloc: Global, words: &'a [&'a str]) -> Result<Call<'a>, WordsError<'a>>
     ensures { ReadsWords Request (map (λ w. w.now) words.now) result }
 {
     read_call(alloc, words, WordsPlace::Request)
@@ -80,21 +88,26 @@ fn read_call<'a>(
     alloc: Global,
     words: &'a [&'a str],
     place: WordsPlace,
-) -> Result<Call<'a>, WordsError>
+) -> Result<Call<'a>, WordsError<'a>>
     ensures { ReadsWords place (map (λ w. w.now) words.now) result }
 {
     match parse_words(alloc, words, place) {
+        Ok(call) => match flaw_of(&call, place) {
+            None => Ok(call),
+            Some(flaw) => Err(WordsError::Flawed(call, flaw)),
+        },
         Err(WordsError::Words(error)) => Err(with_all_names(alloc, error)),
-        read => read,
+        Err(error) => Err(error),
     }
 }
 
+// The call, whatever its options say.
 fn parse_words<'a>(
     alloc: Global,
     words: &'a [&'a str],
     place: WordsPlace,
-) -> Result<Call<'a>, WordsError>
-    ensures { ReadsWords place (map (λ w. w.now) words.now) result }
+) -> Result<Call<'a>, WordsError<'a>>
+    ensures { ParsesWords place (map (λ w. w.now) words.now) result }
 {
     let Ok(command) = command(alloc) else {
         return Err(WordsError::NoMemory);
@@ -119,7 +132,7 @@ fn parse_words<'a>(
     }
 }
 
-fn refusal_of(error: clap::Error) -> WordsError
+fn refusal_of<'a>(error: clap::Error) -> WordsError<'a>
     ensures kind { KeepsKind error result }
     ensures memory { kind_of error ≡ OutOfMemory → result ≡ NoMemory }
 {
@@ -131,7 +144,7 @@ fn refusal_of(error: clap::Error) -> WordsError
 
 // If an argument is not a subcommand, clap suggests the closest one. That may be `distrust`, which
 // cannot be taken back. So all are named instead.
-fn with_all_names(alloc: Global, error: clap::Error) -> WordsError
+fn with_all_names<'a>(alloc: Global, error: clap::Error) -> WordsError<'a>
     ensures { KeepsKind error result }
 {
     match error.kind() {

@@ -83,6 +83,7 @@ fn do_words<C: Closure>(
     match read_words(case.alloc, words) {
         Ok(call) => do_call::<C>(case, &call, devices),
         Err(WordsError::Usage) => usage(devices),
+        Err(WordsError::Flawed(_, _)) => usage(devices),
         Err(WordsError::NoMemory) => Err(CommandError::NoMemory),
         Err(WordsError::Words(_)) => {
             print_out(b"words that are not taken\n", 2, devices);

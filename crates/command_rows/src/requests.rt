@@ -173,9 +173,14 @@ pub(crate) fn changes(call: &Call<'_>) -> bool {
     }
 }
 
+// A running replica has a state, so it is not asked as if there may be none.
 fn line_of(alloc: Global, call: &Call<'_>) -> Result<String, AllocError> {
     let words = request_words(alloc, call)?;
-    let texts: Vec<&str> = words.iter().map(|word| word.as_str()).collect(alloc)?;
+    let texts: Vec<&str> = words
+        .iter()
+        .map(|word| word.as_str())
+        .filter(|word| *word != "--new")
+        .collect(alloc)?;
     write_request_words(alloc, texts.as_slice())
 }
 

@@ -48,6 +48,7 @@ fn answer_split(alloc: Global, words: &str, answer: &mut String) -> Result<(), A
     match read_words(alloc, words.as_slice()) {
         Ok(call) => show_call(&call, answer),
         Err(WordsError::Usage) => answer.push_str("usage\n"),
+        Err(WordsError::Flawed(_, _)) => answer.push_str("flawed\n"),
         Err(WordsError::Words(_)) => answer.push_str("refused\n"),
         Err(WordsError::NoMemory) => answer.push_str("no memory\n"),
     }

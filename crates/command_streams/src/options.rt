@@ -6,10 +6,16 @@ use fed_config::{Config, Limits};
 use std::alloc::Global;
 use std::fs::Files;
 use std::net::SocketAddr;
+use std::os::unix::fs::FileTypeExt;
 use std::{fs, io};
 
-/// The file, to be read from its beginning.
+/// The file, to be read from its beginning. A pipe that has the name is refused: to open it would
+/// wait for who writes into it.
 pub fn file<R: Files>(files: &R, path: &str) -> Result<FromRead<R::File>, CommandError> {
+    match fs::symlink_metadata(files, path) {
+        Ok(there) if there.file_type().is_fifo() => return Err(CommandError::Io),
+        _ => {}
+    }
     match fs::open(files, path) {
         Ok(file) => Ok(FromRead::new(file)),
         Err(error) if error.kind() == io::ErrorKind::OutOfMemory => Err(CommandError::NoMemory),
@@ -49,6 +55,24 @@ pub fn known_address(text: &str) -> Result<SocketAddr, Exit> {
         known if known.port() != 0 => Ok(known),
         _ => Err(Exit::BadAddress),
     }
+}
+
+/// The names, other than `localhost`, by which the address of the pages may be asked: without a
+/// port, since any will do.
+pub fn health_names<'a>(alloc: Global, call: &Call<'a>) -> Result<Vec<&'a str>, Exit> {
+    let mut names = Vec::new(alloc);
+    let Some(text) = given(call, OptionName::HealthHost) else {
+        return Ok(names);
+    };
+    for name in text.split(',') {
+        if name.is_empty() || name.contains(':') {
+            return Err(Exit::BadAddress);
+        }
+        if names.push(name).is_err() {
+            return Err(Exit::Refused(CommandError::NoMemory));
+        }
+    }
+    Ok(names)
 }
 
 /// How many sessions are served.

@@ -1,3 +1,4 @@
 pub mod Arrivals
 pub mod GivingWay
+pub mod Room
 pub mod Turns

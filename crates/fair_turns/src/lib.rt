@@ -13,7 +13,7 @@ mod session_time;
 mod turns;
 
 pub use arrivals::Arrivals;
-pub use byte_room::ByteRoom;
+pub use byte_room::{ByteRoom, RoomUser};
 pub use giving_way::{Candidate, first_to_go};
 pub use session_time::most_seconds;
 pub use turns::{Turns, Work, comes_first};

@@ -39,8 +39,11 @@ const MOST_PEERS: usize = 16;
 /// Runs the replica until it is asked to end.
 pub(crate) fn run(rt: &HostRuntime, config: Config, call: &Call<'_>) -> Result<u8, Exit> {
     let configs = configs_of(rt, config, call)?;
-    let peers = peers_of(rt.alloc(), given(call, OptionName::Peers))?;
-    let settings = settings_of(call, peers.as_slice(), progress_mode(rt))?;
+    let lists = GivenLists {
+        peers: peers_of(rt.alloc(), given(call, OptionName::Peers))?,
+        names: options::health_names(rt.alloc(), call)?,
+    };
+    let settings = settings_of(call, &lists, progress_mode(rt))?;
     for address in [settings.listen, settings.health].into_iter().flatten() {
         warn_of_anywhere(rt, address);
     }
@@ -62,9 +65,16 @@ fn configs_of(rt: &HostRuntime, next: Config, call: &Call<'_>) -> Result<GivenCo
     })
 }
 
+// The lists of the arguments: from whom it pulls, and by which names its pages may be asked.
+#[derive(Drop)]
+struct GivenLists<'a> {
+    peers: Vec<SocketAddr>,
+    names: Vec<&'a str>,
+}
+
 fn settings_of<'a, 'p>(
     call: &Call<'a>,
-    peers: &'p [SocketAddr],
+    lists: &'p GivenLists<'a>,
     progress: ProgressMode,
 ) -> Result<Settings<'a, 'p>, Exit> {
     let manner = manner_of(call)?;
@@ -75,9 +85,10 @@ fn settings_of<'a, 'p>(
         audit: given(call, OptionName::Audit),
         listen: listen_of(call)?,
         health: health_of(call)?,
+        health_names: lists.names.as_slice(),
         page_limits: page_limits_of(call)?,
         version: first_line(VERSION),
-        peers,
+        peers: lists.peers.as_slice(),
         every: Duration::from_secs(every_of(given(call, OptionName::Every))?),
         most_bytes: manner.most_bytes,
         most_request_bytes: request_bytes_of(given(call, OptionName::MostRequestBytes))?,

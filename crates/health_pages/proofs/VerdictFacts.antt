@@ -11,7 +11,7 @@ use Rattle.health_pages.specs.declared.asked_page.PageFault.{PageFault}
 use Rattle.health_pages.specs.declared.asked_page.PageFault.TheVariants.{BadHead, TooLong}
 use Rattle.health_pages.specs.declared.head_verdict.HeadVerdict.{HeadVerdict}
 use Rattle.health_pages.specs.Heads.{AnswersWhole, EndsAt, IsVerdict, IsVerdictOfHead, RefusesRequest, SaysHead}
-use Rattle.health_pages.specs.Heads.{asked_of, head_end, head_limit, is_head, result_view, with_piece}
+use Rattle.health_pages.specs.Heads.{asked_of, head_end, head_limit, host_of, host_view, is_head, result_view, with_piece}
 
 -- ---- the place at which a head ends
 
@@ -54,15 +54,15 @@ no_end bytes p a none = none p a.0.low a.0.high a.1
 -- ---- verdicts
 
 abbrev AreSame : HeadVerdict → HeadVerdict → Type 0
-AreSame v w = (v.is_head ≡ w.is_head) × (result_view v.asked ≡ result_view w.asked)
+AreSame v w = (v.is_head ≡ w.is_head) × (result_view v.asked ≡ result_view w.asked) × (host_view v ≡ host_view w)
 
 same_refusal : (fault : PageFault) (v w : HeadVerdict) → RefusesRequest fault v → RefusesRequest fault w → AreSame v w
-same_refusal fault v w a b = (a.is_head ∙ sym b.is_head, a.asked ∙ sym b.asked)
+same_refusal fault v w a b = (a.is_head ∙ sym b.is_head, a.asked ∙ sym b.asked, a.host ∙ sym b.host)
 
 same_heads : (bytes : List ℕ) (v w : HeadVerdict) → SaysHead bytes v → SaysHead bytes w → AreSame v w
 same_heads bytes v w a b =
     let same : a.head ≡ b.head = (request_unique bytes a.head b.head [] [] a.is.reads b.is.reads).0 in
-    (a.is_head ∙ ap (λ h. is_head h.method) same ∙ sym b.is_head, a.asked ∙ ap asked_of same ∙ sym b.asked)
+    (a.is_head ∙ ap (λ h. is_head h.method) same ∙ sym b.is_head, a.asked ∙ ap asked_of same ∙ sym b.asked, a.host ∙ ap host_of same ∙ sym b.host)
 
 one_of_head : (bytes : List ℕ) (v w : HeadVerdict) → IsVerdictOfHead bytes v → IsVerdictOfHead bytes w → AreSame v w
 one_of_head bytes v w a b =

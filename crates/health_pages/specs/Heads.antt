@@ -1,9 +1,10 @@
 -- What the bytes of a request ask for (RFC 9112). The head is all up to the first empty line; what
 -- comes after it is not read.
 use Rattle.std.specs.Prelude.{◌≡◌, ℕ, ◌+◌, ◌-◌, ◌<◌, ◌≤◌, ◌⊎◌, ◌==◌, ◌&&◌, ◌||◌, ◌++◌, not}
-use Rattle.std.specs.Prelude.{List, [], Bool, true, false, codes, count_by, if◌then◌else◌, length}
-use Rattle.std.specs.Prelude.{map, nat_le, Option, Some, None, Result, Ok, Err, take}
-use Rattle.std.specs.List.{list_all}
+use Rattle.std.specs.Prelude.{List, [], Bool, false, codes, count_by, if◌then◌else◌, length}
+use Rattle.std.specs.Prelude.{find, map, nat_le, Option, Some, None, option_map, Result, Ok, Err}
+use Rattle.std.specs.Prelude.{take}
+use Rattle.std.specs.List.{list_all, list_any}
 use Rattle.std.specs.Char.{to_ascii_lowercase}
 use Rattle.std.specs.Str.{bytes_eq}
 use Rattle.httparse.specs.declared.spans.HeaderSpan.{HeaderSpan}
@@ -16,7 +17,7 @@ use Rattle.health_pages.specs.declared.asked_page.Page.{Page}
 use Rattle.health_pages.specs.declared.asked_page.PageFault.{PageFault}
 use Rattle.health_pages.specs.declared.asked_page.PageFault.TheVariants.{TooLong, BadHead}
 use Rattle.health_pages.specs.declared.asked_page.PageFault.TheVariants.{BadMethod, NoPage}
-use Rattle.health_pages.specs.declared.asked_page.PageFault.TheVariants.{BadFields}
+use Rattle.health_pages.specs.declared.asked_page.PageFault.TheVariants.{BadFields, CrossSite}
 use Rattle.health_pages.specs.declared.head_verdict.HeadVerdict.{HeadVerdict}
 use Rattle.health_pages.specs.Pages.{asked_view, page_at}
 
@@ -57,23 +58,47 @@ abbrev pub are_fine : ℕ → List (List ℕ × List ℕ) → Bool
 are_fine minor fields = list_all is_bodiless fields
     && is_hosted minor (count_by (λ field. has_field_name (codes "host") field.0) fields)
 
+-- a browser says that a page of another site asks (Fetch Metadata)
+abbrev pub is_cross_site : List ℕ × List ℕ → Bool
+is_cross_site field =
+    has_field_name (codes "sec-fetch-site") field.0 && bytes_eq field.1 (codes "cross-site")
+
+-- why the fields are refused, if they are
+abbrev pub fields_fault : ℕ → List (List ℕ × List ℕ) → Option PageFault
+fields_fault minor fields = if are_fine minor fields
+    then (if list_any is_cross_site fields then Some CrossSite else None) else Some BadFields
+
+-- the value of the first `Host` field
+abbrev pub host_in : List (List ℕ × List ℕ) → Option (List ℕ)
+host_in fields = option_map (λ field. field.1)
+    (find (λ field. has_field_name (codes "host") field.0) fields)
+
 -- ---- a head
 
-abbrev pub asked_with : Option (Page × Option (List ℕ)) → (fine : Bool)
+abbrev pub asked_with : Option (Page × Option (List ℕ)) → Option PageFault
     → Result (Page × Option (List ℕ)) PageFault
-asked_with None fine = Err NoPage
-asked_with (Some asked) true = Ok asked
-asked_with (Some asked) false = Err BadFields
+asked_with None fault = Err NoPage
+asked_with (Some asked) None = Ok asked
+asked_with (Some asked) (Some fault) = Err fault
 
--- what a head with this method and target asks for, or the first of the causes of a refusal
-abbrev pub asked_by : (method target : List ℕ) → (fine : Bool)
+-- what a head with this method and target asks for, or the first of the causes of a refusal;
+-- `fault`: why its fields are refused
+abbrev pub asked_by : (method target : List ℕ) → (fault : Option PageFault)
     → Result (Page × Option (List ℕ)) PageFault
-asked_by method target fine = if is_get method || is_head method
-    then asked_with (page_at target) fine else Err BadMethod
+asked_by method target fault = if is_get method || is_head method
+    then asked_with (page_at target) fault else Err BadMethod
 
 -- the same for a whole head
 abbrev pub asked_of : RequestHead → Result (Page × Option (List ℕ)) PageFault
-asked_of h = asked_by h.method h.target (are_fine h.minor (map name_and_value h.fields))
+asked_of h = asked_by h.method h.target (fields_fault h.minor (map name_and_value h.fields))
+
+-- the host that it asks
+abbrev pub host_of : RequestHead → Option (List ℕ)
+host_of h = host_in (map name_and_value h.fields)
+
+-- the same for what is read
+abbrev pub host_view : HeadVerdict → Option (List ℕ)
+host_view v = option_map (λ host. host.now) v.host
 
 -- the same for what is read
 abbrev pub result_view : Result AskedPage PageFault → Result (Page × Option (List ℕ)) PageFault
@@ -102,11 +127,13 @@ pub record SaysHead (bytes : List ℕ) (v : HeadVerdict) : Type 0 where
   pub is : IsHead bytes head
   pub is_head : v.is_head ≡ is_head head.method
   pub asked : result_view v.asked ≡ asked_of head
+  pub host : host_view v ≡ host_of head
 
 -- the head is refused without a look at its parts
 pub record RefusesRequest (fault : PageFault) (v : HeadVerdict) : Type 0 where
   pub is_head : v.is_head ≡ false
   pub asked : result_view v.asked ≡ Err fault
+  pub host : host_view v ≡ None
 
 -- the verdict on all bytes of a head
 abbrev pub IsVerdictOfHead : List ℕ → HeadVerdict → Type 0

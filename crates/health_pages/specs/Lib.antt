@@ -1,5 +1,6 @@
 pub mod Pages
 pub mod Heads
+pub mod Hosts
 pub mod HeadParts
 pub mod Responses
 pub mod FixedTexts

@@ -11,12 +11,14 @@ use Rattle.health_pages.specs.declared.response.ResponseStatus.{ResponseStatus}
 use Rattle.health_pages.specs.declared.response.ResponseStatus.TheVariants.{Done, BadRequest}
 use Rattle.health_pages.specs.declared.response.ResponseStatus.TheVariants.{NotFound, NotAllowed}
 use Rattle.health_pages.specs.declared.response.ResponseStatus.TheVariants.{TooLong, Unavailable}
+use Rattle.health_pages.specs.declared.response.ResponseStatus.TheVariants.{Forbidden}
 
 -- ---- the head
 
 abbrev pub status_phrase : ResponseStatus → List ℕ
 status_phrase Done = codes "200 OK"
 status_phrase BadRequest = codes "400 Bad Request"
+status_phrase Forbidden = codes "403 Forbidden"
 status_phrase NotFound = codes "404 Not Found"
 status_phrase NotAllowed = codes "405 Method Not Allowed"
 status_phrase TooLong = codes "431 Request Header Fields Too Large"
@@ -58,7 +60,7 @@ content_line content = response_line (codes "Content-Type: ") (type_text content
 -- the fields that each response has
 abbrev pub fixed_lines : List ℕ
 fixed_lines = codes "Connection: close\r\nX-Content-Type-Options: nosniff\r\n"
-    ++ codes "Cache-Control: no-store\r\n"
+    ++ codes "Cross-Origin-Resource-Policy: same-origin\r\nCache-Control: no-store\r\n"
 
 -- the other fields, and the empty line
 abbrev pub further_lines : ResponseStatus → ContentType → List ℕ
@@ -89,6 +91,8 @@ fault_status fault.BadHead = BadRequest
 fault_status fault.BadMethod = NotAllowed
 fault_status fault.NoPage = NotFound
 fault_status fault.BadFields = BadRequest
+fault_status fault.CrossSite = Forbidden
+fault_status fault.BadHost = Forbidden
 
 abbrev pub page_fault_text : PageFault → List ℕ
 page_fault_text fault.TooLong = codes "head too long\n"
@@ -96,6 +100,8 @@ page_fault_text fault.BadHead = codes "bad head\n"
 page_fault_text fault.BadMethod = codes "bad method\n"
 page_fault_text fault.NoPage = codes "no page\n"
 page_fault_text fault.BadFields = codes "bad fields\n"
+page_fault_text fault.CrossSite = codes "request of another site\n"
+page_fault_text fault.BadHost = codes "host not named by --health-host\n"
 
 -- ---- what the pages are
 

@@ -83,6 +83,10 @@ pub enum PageFault {
     NoPage,
     /// A body is announced, or the number of `Host` fields is wrong.
     BadFields,
+    /// A browser says that a page of another site asks.
+    CrossSite,
+    /// The host that is asked is a name that is not let in.
+    BadHost,
 }
 
 /// The page of a request's target.

@@ -11,11 +11,13 @@ pub fn memory_response<'a>(is_head: bool) -> &'a [u8]
     if is_head {
         b"HTTP/1.1 503 Service Unavailable\r\nContent-Length: 14\r\n\
           Content-Type: text/plain; charset=utf-8\r\nConnection: close\r\n\
-          X-Content-Type-Options: nosniff\r\nCache-Control: no-store\r\n\r\n"
+          X-Content-Type-Options: nosniff\r\n\
+          Cross-Origin-Resource-Policy: same-origin\r\nCache-Control: no-store\r\n\r\n"
     } else {
         b"HTTP/1.1 503 Service Unavailable\r\nContent-Length: 14\r\n\
           Content-Type: text/plain; charset=utf-8\r\nConnection: close\r\n\
-          X-Content-Type-Options: nosniff\r\nCache-Control: no-store\r\n\r\n\
+          X-Content-Type-Options: nosniff\r\n\
+          Cross-Origin-Resource-Policy: same-origin\r\nCache-Control: no-store\r\n\r\n\
           out of memory\n"
     }
 }
@@ -26,6 +28,7 @@ pub fn crowd_response<'a>() -> &'a [u8]
 {
     b"HTTP/1.1 503 Service Unavailable\r\nContent-Length: 18\r\n\
       Content-Type: text/plain; charset=utf-8\r\nConnection: close\r\n\
-      X-Content-Type-Options: nosniff\r\nCache-Control: no-store\r\n\r\n\
+      X-Content-Type-Options: nosniff\r\n\
+      Cross-Origin-Resource-Policy: same-origin\r\nCache-Control: no-store\r\n\r\n\
       too many requests\n"
 }

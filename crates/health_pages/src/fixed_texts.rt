@@ -47,6 +47,7 @@ impl PageFault {
             PageFault::BadMethod => ResponseStatus::NotAllowed,
             PageFault::NoPage => ResponseStatus::NotFound,
             PageFault::BadHead | PageFault::BadFields => ResponseStatus::BadRequest,
+            PageFault::CrossSite | PageFault::BadHost => ResponseStatus::Forbidden,
         }
     }
 
@@ -60,6 +61,8 @@ impl PageFault {
             PageFault::BadMethod => "bad method\n",
             PageFault::NoPage => "no page\n",
             PageFault::BadFields => "bad fields\n",
+            PageFault::CrossSite => "request of another site\n",
+            PageFault::BadHost => "host not named by --health-host\n",
         }
     }
 }

@@ -1,11 +1,13 @@
 //! What a head asks for, once it has come whole.
-ghost use Rattle.std.specs.Prelude.{◌≡◌, MatchOption, length};
+ghost use Rattle.std.specs.Prelude.{◌≡◌, MatchOption, length, map};
 ghost use Rattle.health_pages.specs.Heads.{IsHeadAt, IsNoHead, IsVerdictOfHead, RefusesRequest};
-ghost use Rattle.health_pages.specs.Heads.{SaysHead, asked_by, field_limit, is_get, is_head};
-ghost use Rattle.health_pages.specs.Heads.{result_view};
+ghost use Rattle.health_pages.specs.Heads.{SaysHead, asked_by, field_limit, host_view, is_get};
+ghost use Rattle.health_pages.specs.Heads.{is_head, result_view};
+ghost use Rattle.health_pages.specs.Hosts.{asked_if, lets_in};
 
+use crate::asked_host::lets_in;
 use crate::asked_page::{AskedPage, PageFault, page_at};
-use crate::head_fields::are_fine;
+use crate::head_fields::{fields_fault, host_in};
 use httparse::Status;
 use httparse::spans::{EMPTY_HEADER_SPAN, HeaderSpan, RequestSpans, parse_request};
 
@@ -17,8 +19,24 @@ const MOST_FIELDS: usize = 64;
 pub struct HeadVerdict<'a> {
     /// Whether the method is HEAD: then the response has no body.
     pub is_head: bool,
-    /// The page, or why there is no page.
+    /// The page, or why there is no page, whichever host is asked.
     pub asked: Result<AskedPage<'a>, PageFault>,
+    /// The host that is asked: the value of the first `Host` field.
+    pub host: Option<&'a [u8]>,
+}
+
+impl<'a> HeadVerdict<'a> {
+    /// The page, or why there is no page, if hosts of these names are let in.
+    pub fn asked_of(&self, names: &[&str]) -> Result<AskedPage<'a>, PageFault>
+        ensures { result_view result ≡ asked_if (lets_in (map (λ n. n.now) names.now)
+            (host_view self.now)) (result_view self.now.asked) }
+    {
+        match self.asked {
+            Ok(asked) if lets_in(names, self.host) => Ok(asked),
+            Ok(_) => Err(PageFault::BadHost),
+            Err(fault) => Err(fault),
+        }
+    }
 }
 
 /// The verdict on a head that is not read.
@@ -28,6 +46,7 @@ pub(crate) fn refused_head<'a>(fault: PageFault) -> HeadVerdict<'a>
     HeadVerdict {
         is_head: false,
         asked: Err(fault),
+        host: None,
     }
 }
 
@@ -62,23 +81,29 @@ fn verdict_of_parts<'a>(
     ensures { SaysHead head.now result }
 {
     let method = spans.method.of(head);
-    let is_fine = are_fine(head, spans.version, &fields[..spans.headers]);
+    let fields = &fields[..spans.headers];
+    let fault = fields_fault(head, spans.version, fields);
     HeadVerdict {
         is_head: is_head(method),
-        asked: asked_by(method, spans.path.of(head), is_fine),
+        asked: asked_by(method, spans.path.of(head), fault),
+        host: host_in(head, fields),
     }
 }
 
-fn asked_by<'a>(method: &[u8], target: &'a [u8], is_fine: bool) -> Result<AskedPage<'a>, PageFault>
-    ensures { result_view result ≡ asked_by method.now target.now is_fine }
+fn asked_by<'a>(
+    method: &[u8],
+    target: &'a [u8],
+    fault: Option<PageFault>,
+) -> Result<AskedPage<'a>, PageFault>
+    ensures { result_view result ≡ asked_by method.now target.now fault }
 {
     if !is_get(method) && !is_head(method) {
         return Err(PageFault::BadMethod);
     }
-    match page_at(target) {
-        Some(asked) if is_fine => Ok(asked),
-        Some(_) => Err(PageFault::BadFields),
-        None => Err(PageFault::NoPage),
+    match (page_at(target), fault) {
+        (Some(asked), None) => Ok(asked),
+        (Some(_), Some(fault)) => Err(fault),
+        (None, _) => Err(PageFault::NoPage),
     }
 }
 

@@ -1,6 +1,7 @@
 //! What follows from the definitions.
 ghost use Rattle.std.specs.Prelude.{◌≡◌, ◌≤◌, ◌++◌, ℕ, List, None, Some, length};
-ghost use Rattle.health_pages.specs.Heads.{IsVerdict, head_limit, result_view, with_piece};
+ghost use Rattle.health_pages.specs.Heads.{IsVerdict, head_limit, host_view, result_view};
+ghost use Rattle.health_pages.specs.Heads.{with_piece};
 ghost use Rattle.health_pages.specs.declared.head_verdict.HeadVerdict.{HeadVerdict};
 
 /// However a stream is cut into pieces, a request has one verdict.
@@ -16,7 +17,8 @@ pub fn verdicts()
         → IsVerdict bytes (Some v) → IsVerdict (with_piece bytes piece) (Some v) }
     ensures one { (bytes : List ℕ) (v w : HeadVerdict)
         → IsVerdict bytes (Some v) → IsVerdict bytes (Some w)
-        → (v.is_head ≡ w.is_head) × (result_view v.asked ≡ result_view w.asked) }
+        → (v.is_head ≡ w.is_head) × (result_view v.asked ≡ result_view w.asked)
+        × (host_view v ≡ host_view w) }
     ensures whole { (bytes : List ℕ) (v : HeadVerdict)
         → IsVerdict bytes (Some v) → IsVerdict bytes None → ⊥ }
 {}

@@ -14,6 +14,7 @@ use std::alloc::{AllocError, Global};
 pub enum ResponseStatus {
     Done,
     BadRequest,
+    Forbidden,
     NotFound,
     NotAllowed,
     TooLong,
@@ -125,7 +126,8 @@ fn push_text(out: &mut Vec<u8>, text: &str) -> Result<(), AllocError>
 fn fixed_lines<'a>() -> &'a str
     ensures { result.now ≡ fixed_lines }
 {
-    "Connection: close\r\nX-Content-Type-Options: nosniff\r\nCache-Control: no-store\r\n"
+    "Connection: close\r\nX-Content-Type-Options: nosniff\r\n\
+     Cross-Origin-Resource-Policy: same-origin\r\nCache-Control: no-store\r\n"
 }
 
 fn status_phrase<'a>(status: ResponseStatus) -> &'a str
@@ -134,6 +136,7 @@ fn status_phrase<'a>(status: ResponseStatus) -> &'a str
     match status {
         ResponseStatus::Done => "200 OK",
         ResponseStatus::BadRequest => "400 Bad Request",
+        ResponseStatus::Forbidden => "403 Forbidden",
         ResponseStatus::NotFound => "404 Not Found",
         ResponseStatus::NotAllowed => "405 Method Not Allowed",
         ResponseStatus::TooLong => "431 Request Header Fields Too Large",

@@ -22,7 +22,10 @@ use Rattle.command_exits.specs.DeviceRuns.{DeviceRun}
 use Rattle.fedbundle.specs.Distrust.{RunsDistrust}
 use Rattle.fedbundle.specs.Observe.{Fetched, IsAsHeld, RefusesToMake}
 use Rattle.command_line.specs.OptionTexts.{SaysFlag}
-use Rattle.command_line.specs.Words.{CallsInRequest, the_command}
+use Rattle.command_line.specs.Checks.{IsSoundRequest}
+use Rattle.command_line.specs.Words.{the_command}
+use Rattle.command_line.specs.declared.option_error.OptionError.{OptionError}
+use Rattle.command_line.specs.declared.words.Call.{Call}
 use Rattle.command_line.specs.declared.words.WordsError.{WordsError}
 use Rattle.command_line.specs.declared.words.WordsError.TheVariants as no_call
 use Rattle.command_line.specs.declared.command_name.CommandName.TheVariants as command
@@ -39,7 +42,7 @@ use Rattle.fedbundle.specs.SaidValues.{SaysRecord, SaysVerdict}
 use Rattle.local_answers.specs.RequestRun.{Answers, AnswersObserve, AnswersShown, CallRun, ChangeRun, Ends, EndsDistrust, EndsMerge, EndsMergeCall, EndsOver}
 use Rattle.local_answers.specs.RequestRun.{AnswersMerge, IsWithinRoom, exit_of_unread}
 use Rattle.local_answers.specs.RequestRun.{EndsObserve, LeavesRoom}
-use Rattle.local_answers.specs.RequestRun.{HasStreams, IsNoRequest, IsWith, RepliesByKind, RepliesTo, RepliesToCall, RepliesToError}
+use Rattle.local_answers.specs.RequestRun.{HasStreams, IsFlawedRequest, IsNoRequest, IsWith, RepliesByKind, RepliesTo, RepliesToCall, RepliesToError}
 use Rattle.local_answers.specs.RequestRun.{SaysOfWords, is_help}
 use Rattle.local_answers.specs.RequestRun.{SaysDistrusted, SaysFetched, change_run, memory_exit, said}
 use Rattle.local_answers.specs.declared.reply.Reply.{Reply}
@@ -67,15 +70,19 @@ printed output errors (Ok reply) nothing with =
     subst (λ l. IsWith reply l [] 0) (sym with.output) (subst (λ l. IsWith reply output l 0) nothing with)
 printed output errors (Err e) nothing with = tt
 
--- The error of reading arguments is replied, and says what they are: clap refuses them, or they are
--- not a call.
+-- The error of reading arguments is replied, and says what they are: clap refuses them, they are not a
+-- call, or they are one with a flaw.
 pub said_of_words : (Refuses : WordsError → Type 0) (spelt words : List (List ℕ)) (error : WordsError) (reply : Reply) → spelt ≡ words
     → ((e : Error) → Refuses (no_call.Words e) → IsAmong (kind_of e) (fault_of the_command spelt))
-    → (Refuses no_call.Usage → IsNoRequest spelt) → Refuses error → RepliesToError error reply → SaysOfWords words reply
-said_of_words Refuses spelt words (no_call.Words e) reply same at_fault none refused replied =
-    inr (record { kind = kind_of e; gives = subst (λ ws. IsAmong (kind_of e) (fault_of the_command ws)) same (at_fault e refused); replied = replied })
-said_of_words Refuses spelt words no_call.Usage reply same at_fault none refused replied = inl (subst IsNoRequest same (none refused), replied)
-said_of_words Refuses spelt words no_call.NoMemory reply same at_fault none refused replied = absurd replied
+    → (Refuses no_call.Usage → IsNoRequest spelt)
+    → ((call : Call) (flaw : OptionError) → Refuses (no_call.Flawed call flaw) → IsFlawedRequest spelt flaw)
+    → Refuses error → RepliesToError error reply → SaysOfWords words reply
+said_of_words Refuses spelt words (no_call.Words e) reply same at_fault none flawed refused replied =
+    inr (inl (record { kind = kind_of e; gives = subst (λ ws. IsAmong (kind_of e) (fault_of the_command ws)) same (at_fault e refused); replied = replied }))
+said_of_words Refuses spelt words no_call.Usage reply same at_fault none flawed refused replied = inl (subst IsNoRequest same (none refused), replied)
+said_of_words Refuses spelt words (no_call.Flawed call flaw) reply same at_fault none flawed refused replied =
+    inr (inr (record { flaw = flaw; has = subst (λ ws. IsFlawedRequest ws flaw) same (flawed call flaw refused); replied = replied }))
+said_of_words Refuses spelt words no_call.NoMemory reply same at_fault none flawed refused replied = absurd replied
 
 -- a kind that is neither of the two shows no help
 no_help : (kind : ErrorKind) → (kind ≢ DisplayHelp) × (kind ≢ DisplayVersion) → is_help kind ≡ false
@@ -110,6 +117,7 @@ by_kind_unjournalled false reply with = with.unjournalled
 pub error_unjournalled : (error : WordsError) (reply : Reply) → RepliesToError error reply → reply.journal.items ≡ []
 error_unjournalled (no_call.Words e) reply replied = by_kind_unjournalled (is_help (kind_of e)) reply replied
 error_unjournalled no_call.Usage reply ended = ended.2.unjournalled
+error_unjournalled (no_call.Flawed call flaw) reply ended = ended.2.unjournalled
 error_unjournalled no_call.NoMemory reply replied = absurd replied
 
 -- ---- `observe`
@@ -258,7 +266,7 @@ none_journalled state (Err exit) none = tt
 
 -- what is replied to a call is replied to the line of its arguments
 pub line_called : (line : List ℕ) (words : List (List ℕ)) (run : CallRun) (result : Result Reply RequestFault) → SaysWords line words
-    → CallsInRequest words run.name run.texts → IfOk result (RepliesToCall run) → IfOk result (RepliesTo line run.running run.change)
+    → IsSoundRequest words run.name run.texts → IfOk result (RepliesToCall run) → IfOk result (RepliesTo line run.running run.change)
 line_called line words run (Ok reply) says calls replied = record {
   words = words;
   says = says;

@@ -1,6 +1,6 @@
 -- What is replied if nothing can be changed.
 use Rattle.std.proofs.Common.{ℕ, false, List, inl, inr, Result, Ok, Err, IfErr, IfOk}
-use Rattle.command_line.specs.Words.{CallsInRequest}
+use Rattle.command_line.specs.Checks.{IsSoundRequest}
 use Rattle.command_exits.specs.declared.exits.Exit.{Exit}
 use Rattle.request_lines.specs.RequestLines.{SaysWords}
 use Rattle.local_answers.specs.Looking.{AnswersLook, Changes, EndsLook, LooksAtCall, RepliesToLook}
@@ -10,7 +10,7 @@ use Rattle.local_answers.specs.declared.request_fault.RequestFault.{RequestFault
 
 -- what is replied to a call is replied to the line of its arguments
 pub line_looked : (line : List ℕ) (words : List (List ℕ)) (run : CallRun) (result : Result Reply RequestFault) → SaysWords line words
-    → CallsInRequest words run.name run.texts → IfOk result (LooksAtCall run) → IfOk result (RepliesToLook line run.running run.change)
+    → IsSoundRequest words run.name run.texts → IfOk result (LooksAtCall run) → IfOk result (RepliesToLook line run.running run.change)
 line_looked line words run (Ok reply) says calls replied = record {
   words = words;
   says = says;

@@ -20,6 +20,7 @@ use Rattle.replica_core.proofs.RisingListFacts.{rising_cons, rising_head, rising
 use Rattle.replica_core.specs.Absorbing.{of_receipts, of_records, with_entry, with_entries}
 use Rattle.replica_core.specs.declared.entry.Entry.{Entry}
 use Rattle.replica_core.specs.declared.entry.Entry.TheVariants.{Record, Receipt as AReceipt}
+use Rattle.replica_texts.specs.Entries.{entry_line}
 use Rattle.replica_texts.specs.SoleLines.{IsWellFormed}
 use Rattle.replica_journal.specs.Journal.{entry_text}
 use Rattle.local_answers.specs.Journalling.{AreLinesOfOther, HoldsEntry, IsLineIfNew}
@@ -278,3 +279,13 @@ line_held m (Record x) text is has none = record {
   lines = record { each = tt; fresh = tt; spelt = none };
   meaning = sym (ap (λ l. record m { records = l }) (record_sets.present x m.records is.records_rising has));
 }
+
+-- ---- no lines
+
+some_bytes : (line rest : List ℕ) → [] ≡ (line ++ 10 ∷ []) ++ rest → ⊥
+some_bytes [] rest e = cc
+some_bytes (b ∷ line) rest e = cc
+
+pub no_entries : (entries : List Entry) → [] ≡ flat_map entry_text entries → entries ≡ []
+no_entries [] e = refl
+no_entries (entry ∷ entries) e = absurd (some_bytes (entry_line entry) (flat_map entry_text entries) e)

@@ -1,7 +1,7 @@
 -- What comes of a request at a socket at which nothing can be changed
 use Rattle.std.specs.Prelude.{◌≡◌, ◌⊎◌, ℕ, List, Option, Bool, true, false, not}
 use Rattle.command_line.specs.OptionTexts.{SaysFlag}
-use Rattle.command_line.specs.Words.{CallsInRequest}
+use Rattle.command_line.specs.Checks.{IsSoundRequest}
 use Rattle.command_line.specs.declared.command_name.CommandName.{CommandName}
 use Rattle.command_line.specs.declared.command_name.CommandName.TheVariants as command
 use Rattle.command_line.specs.declared.command_name.OptionName.TheVariants.{DryRun}
@@ -56,12 +56,12 @@ pub record RepliesWithLookEnd (run : CallRun) (reply : Reply) : Type 0 where
 abbrev pub LooksAtCall : CallRun → Reply → Type 0
 LooksAtCall run reply = AnswersLook run reply ⊎ RepliesWithLookEnd run reply
 
--- The arguments are a call in a request, and that is replied.
+-- The arguments are a call in a request, without a flaw, and that is replied.
 pub record LooksAsCommand (words : List (List ℕ)) (running : RunningStatus) (change : ChangeRun)
     (reply : Reply) : Type 0 where
   pub name : CommandName
   pub texts : List (Option (List ℕ))
-  pub call : CallsInRequest words name texts
+  pub call : IsSoundRequest words name texts
   pub replied : LooksAtCall (call_run name texts running change) reply
 
 -- What is replied to a line of arguments.

@@ -18,12 +18,14 @@ use Rattle.fedbundle.specs.SaidValues.{EndsAtDomain, SaysNoRecord, SaysNoVerdict
 use Rattle.fedbundle.specs.SaidValues.{SaysVerdict}
 use Rattle.fedbundle.specs.Shown.{ShownCall}
 use Rattle.fedbundle.specs.ShownCommands.{RunsShown}
-use Rattle.command_exits.specs.Exits.{IsExitLine, exit_status_of}
+use Rattle.command_exits.specs.Exits.{IsExitLine, exit_of_option, exit_status_of}
+use Rattle.command_line.specs.Checks.{IsSoundRequest, flaw_in_request}
 use Rattle.command_line.specs.Words.{CallsInRequest, the_command}
 use Rattle.command_line.specs.declared.command_name.CommandName.{CommandName}
 use Rattle.command_line.specs.declared.command_name.CommandName.TheVariants as command
 use Rattle.command_line.specs.declared.command_name.OptionName.{OptionName}
 use Rattle.command_line.specs.declared.command_name.OptionName.TheVariants.{Domain, DryRun, Verbose}
+use Rattle.command_line.specs.declared.option_error.OptionError.{OptionError}
 use Rattle.command_line.specs.declared.option_error.OptionError.TheVariants as unread
 use Rattle.command_line.specs.declared.option_texts.Manner.{Manner}
 use Rattle.command_line.specs.declared.words.WordsError.{WordsError}
@@ -381,12 +383,12 @@ pub record RepliesWithEnd (run : CallRun) (reply : Reply) : Type 0 where
 abbrev pub RepliesToCall : CallRun → Reply → Type 0
 RepliesToCall run reply = Answers run.name run reply ⊎ RepliesWithEnd run reply
 
--- The arguments are a call in a request, and that is replied.
+-- The arguments are a call in a request, without a flaw, and that is replied.
 pub record RepliesAsCommand (words : List (List ℕ)) (running : RunningStatus) (change : ChangeRun)
     (reply : Reply) : Type 0 where
   pub name : CommandName
   pub texts : List (Option (List ℕ))
-  pub call : CallsInRequest words name texts
+  pub call : IsSoundRequest words name texts
   pub replied : RepliesToCall (call_run name texts running change) reply
 
 -- clap shows its help or its version
@@ -414,17 +416,32 @@ pub record IsNoRequest (words : List (List ℕ)) : Type 0 where
   pub none : (name : CommandName) (texts : List (Option (List ℕ)))
       → CallsInRequest words name texts → ⊥
 
--- That is replied.
+-- Clap takes the arguments, and they are a call with this flaw.
+pub record IsFlawedRequest (words : List (List ℕ)) (flaw : OptionError) : Type 0 where
+  pub name : CommandName
+  pub texts : List (Option (List ℕ))
+  pub call : CallsInRequest words name texts
+  pub is : flaw_in_request name texts ≡ Some flaw
+
+-- How a command ends by that flaw is replied.
+pub record EndsByFlaw (words : List (List ℕ)) (reply : Reply) : Type 0 where
+  pub flaw : OptionError
+  pub has : IsFlawedRequest words flaw
+  pub replied : IsEnded reply (exit_of_option flaw)
+
+-- What is replied to arguments that are not a call, or that are one with a flaw.
 abbrev pub SaysOfWords : List (List ℕ) → Reply → Type 0
-SaysOfWords words reply = (IsNoRequest words × IsEnded reply Usage) ⊎ ShowsText words reply
+SaysOfWords words reply = (IsNoRequest words × IsEnded reply Usage)
+    ⊎ (ShowsText words reply ⊎ EndsByFlaw words reply)
 
 -- the same, by the error of reading the arguments
 abbrev pub RepliesToError : WordsError → Reply → Type 0
 RepliesToError (no_call.Words error) reply = RepliesByKind (is_help (kind_of error)) reply
 RepliesToError no_call.Usage reply = IsEnded reply Usage
+RepliesToError (no_call.Flawed call flaw) reply = IsEnded reply (exit_of_option flaw)
 RepliesToError no_call.NoMemory reply = ⊥
 
--- The arguments are not a call, and nothing has changed.
+-- The arguments are not a call, or have a flaw, and nothing has changed.
 pub record RepliesToWords (words : List (List ℕ)) (change : ChangeRun) (reply : Reply)
     : Type 0 where
   pub replied : SaysOfWords words reply

@@ -1,10 +1,11 @@
 //! A request, read and carried out.
 ghost use Rattle.std.specs.Prelude.{◌≡◌, IfErr, IfOk, OnErr, map, string_bytes};
 ghost use Rattle.fedbundle.specs.CommandRun.{state_run};
+ghost use Rattle.command_exits.specs.Exits.{exit_of_option};
 ghost use Rattle.local_answers.specs.Inside.AskedRun.{run_of_asked};
 ghost use Rattle.local_answers.specs.Journalling.{JournalsChange};
 ghost use Rattle.local_answers.specs.Replies.{RefusesWordsLine};
-ghost use Rattle.local_answers.specs.RequestRun.{Answers, Ends, RepliesTo, RepliesToCall};
+ghost use Rattle.local_answers.specs.RequestRun.{Answers, Ends, IsEnded, RepliesTo, RepliesToCall};
 ghost use Rattle.local_answers.specs.RequestRun.{RepliesByKind, RepliesToError, bytes_of_files};
 ghost use Rattle.local_answers.specs.RequestRun.{change_run, is_help};
 ghost use Rattle.clap.specs.Words.{kind_of};
@@ -17,7 +18,7 @@ use crate::request_fault::RequestFault;
 use crate::shown_calls::{shown, stop};
 use closure_core::Closure;
 use command_exits::Exit;
-use command_line::{CommandName, WordsError, manner_of, read_request};
+use command_line::{CommandName, OptionError, WordsError, manner_of, read_request};
 use request_lines::read_request_words;
 use status_view::RunningStatus;
 use std::alloc::{AllocError, Global};
@@ -74,15 +75,23 @@ pub(crate) fn texts_of_words(alloc: Global, words: &[String]) -> Result<Vec<&str
     Ok(texts)
 }
 
-// The arguments are not those of a command, or ask for help or for the version.
-pub(crate) fn reply_by_words(alloc: Global, error: &WordsError) -> Result<Reply, AllocError>
+// The arguments are not those of a command, ask for help or for the version, or have a flaw.
+pub(crate) fn reply_by_words(alloc: Global, error: &WordsError<'_>) -> Result<Reply, AllocError>
     ensures { IfOk result (RepliesToError error.now) }
 {
     match error {
         WordsError::Words(shown) => reply_of_clap(alloc, shown),
         WordsError::Usage => Reply::ended(alloc, &Exit::Usage),
+        WordsError::Flawed(_, flaw) => reply_of_flaw(alloc, *flaw),
         WordsError::NoMemory => Err(AllocError),
     }
+}
+
+// The arguments are a call with this flaw.
+fn reply_of_flaw(alloc: Global, flaw: OptionError) -> Result<Reply, AllocError>
+    ensures { IfOk result (λ reply. IsEnded reply (exit_of_option flaw)) }
+{
+    Reply::ended(alloc, &Exit::from(flaw))
 }
 
 fn reply_of_clap(alloc: Global, shown: &clap::Error) -> Result<Reply, AllocError>

@@ -1,7 +1,7 @@
 //! What follows only from the definitions. A call that needs a law calls its function, which does
 //! nothing, and cites what it ensures.
-ghost use Rattle.std.specs.Prelude.{◌≡◌, ◌≢◌, ◌<◌, ◌≤◌, ◌++◌, ◌∷◌, List, Some, slice_get};
-ghost use Rattle.std.specs.Prelude.{true, ℕ};
+ghost use Rattle.std.specs.Prelude.{◌≡◌, ◌≢◌, ◌<◌, ◌≤◌, ◌++◌, [], ◌∷◌, List, Some};
+ghost use Rattle.std.specs.Prelude.{slice_get, true, ℕ};
 ghost use Rattle.fed_config.specs.Configuration.{Configuration};
 ghost use Rattle.fed_config.specs.declared.limits.Limits.{Limits};
 ghost use Rattle.receipt_core.specs.Acceptance.{Meaning, IsMeaning};
@@ -19,6 +19,12 @@ ghost use Rattle.local_answers.specs.ChangeEvents.{replica_in};
 ghost use Rattle.local_answers.specs.ChangeEvents.{sent_give, sent_have};
 ghost use Rattle.local_answers.specs.Journalling.{JournalsChange};
 ghost use Rattle.fedbundle.specs.CommandRun.{StateRun};
+ghost use Rattle.fedbundle.specs.Observe.{IsAsHeld};
+
+/// A request whose reply has no lines for the journal has changed nothing, whatever it asked for.
+pub fn unjournalled()
+    ensures { (state : StateRun) → JournalsChange [] state → IsAsHeld state }
+{}
 
 /// A running replica is one of a world of replicas with one configuration, each with limits of its
 /// own, whatever changes between two of its messages: what changes is a list of events, and each

@@ -2,6 +2,7 @@
 ghost use Rattle.std.specs.Prelude.{◌≡◌, ◌↔◌, ◌<◌, ◌≤◌, ◌++◌, [], IsTrue, drop, length, vec_len};
 
 use crate::reply::Reply;
+use state_steps::OnDisk;
 
 /// A reply that is being sent. Its lines of the journal come first: nothing of the reply may be
 /// sent before they are on the disk.
@@ -49,9 +50,9 @@ impl Sending {
         self.reply.ends
     }
 
-    /// Says that the lines are on the disk: from now on the reply has no lines, and nothing else
-    /// changes.
-    pub fn settle(&mut self)
+    /// Says that the lines are on the disk, of which the token is the proof: from now on the reply
+    /// has no lines, and nothing else changes.
+    pub fn settle(&mut self, _on_disk: &OnDisk)
         ensures settled { self.new.reply.journal.items ≡ [] }
         ensures unsent { unsent self.new ≡ unsent self.old }
         ensures rest { DifferInJournalAlone self.old self.new }

@@ -1,8 +1,12 @@
 //! What a replica holds, and what of it is not on the disk yet.
-use bucket_sums::KeptSums;
-use change_view::JournalledChange;
+ghost use Rattle.std.specs.Prelude.{◌≡◌, IfOk};
+ghost use Rattle.change_view.specs.TurnTexts.{turn_journal};
+
+use bucket_sums::SummedClosure;
+use change_view::{JournalledChange, TurnLines, lines_of_changes};
 use closure_core::Closure;
 use side_by_side::{Side, Sides};
+use state_steps::OnDisk;
 use std::alloc::{AllocError, Global};
 
 /// What a replica holds, and what its peers brought that is not on the disk yet.
@@ -11,19 +15,16 @@ use std::alloc::{AllocError, Global};
 /// fits only the previous configuration, and comes while both are held, is only in memory.
 #[derive(Drop)]
 pub struct HeldState<C: Closure> {
-    /// What it holds under each configuration.
-    pub sides: Sides<C>,
-    /// The sums of what the next side holds, as they were last asked for. They are those of this
-    /// closure, which is never put in the place of another one.
-    pub sums: KeptSums,
-    /// The same for the previous side.
-    pub previous_sums: KeptSums,
+    /// What it holds under each configuration, with the sums of that.
+    pub sides: Sides<SummedClosure<C>>,
     /// The journal's lines of what its peers brought.
     pub fresh: Vec<u8>,
     /// The changes whose lines these are, in their order.
     pub pulled: Vec<JournalledChange>,
     /// Whether memory ran out for what is reported of a change that is not on the disk yet.
     pub has_unreported: bool,
+    // How many bytes of the lines are of what was held when it began.
+    start: usize,
     // The sides of which something was not offered to the other one, since memory ran out.
     owes_next: bool,
     owes_previous: bool,
@@ -33,9 +34,8 @@ impl<C: Closure> HeldState<C> {
     /// Holds what both sides hold. The lines are those of the next side that are not on the disk.
     pub fn new(alloc: Global, sides: Sides<C>, fresh: Vec<u8>) -> HeldState<C> {
         HeldState {
-            sides,
-            sums: KeptSums::new(alloc),
-            previous_sums: KeptSums::new(alloc),
+            sides: summed(alloc, sides),
+            start: fresh.len(),
             fresh,
             pulled: Vec::new(alloc),
             has_unreported: false,
@@ -45,7 +45,7 @@ impl<C: Closure> HeldState<C> {
     }
 
     /// All of the next side is on the disk. What its peers brought is offered to the previous side.
-    pub fn settle(&mut self, alloc: Global) {
+    pub fn settle(&mut self, alloc: Global, _on_disk: &OnDisk) {
         self.owes_previous |= !offer_previous(alloc, &mut self.sides, self.fresh.as_slice());
         if self.owes_previous {
             let mut unkept = Vec::new(alloc);
@@ -55,11 +55,28 @@ impl<C: Closure> HeldState<C> {
         self.fresh.clear();
         self.pulled.clear();
         self.has_unreported = false;
+        self.start = 0;
+    }
+
+    /// All lines of what its peers brought, those of each change by themselves.
+    ///
+    /// # Errors
+    /// Memory ran out.
+    pub fn turn_lines(&self, alloc: Global) -> Result<Vec<TurnLines<'_>>, AllocError>
+        ensures { IfOk result (λ turn. turn_journal turn.items ≡ self.now.fresh.items) }
+    {
+        let noted = if self.has_unreported {
+            0
+        } else {
+            self.pulled.len()
+        };
+        let changes = &self.pulled[..noted];
+        lines_of_changes(alloc, self.fresh.as_slice(), self.start, changes)
     }
 
     /// These lines of the next side, which a request brought, are on the disk: they are offered to
     /// the previous side.
-    pub fn pass_on(&mut self, alloc: Global, lines: &[u8]) {
+    pub fn pass_on(&mut self, alloc: Global, lines: &[u8], _on_disk: &OnDisk) {
         self.owes_previous |= !offer_previous(alloc, &mut self.sides, lines);
     }
 
@@ -79,6 +96,22 @@ impl<C: Closure> HeldState<C> {
         self.owes_next = passed.is_err();
         passed?;
         Ok(())
+    }
+}
+
+// Both sides, of which no sum is computed yet.
+fn summed<C: Closure>(alloc: Global, sides: Sides<C>) -> Sides<SummedClosure<C>> {
+    let Sides { next, previous } = sides;
+    let next = SummedClosure::of(alloc, next);
+    match previous {
+        Some(closure) => Sides {
+            next,
+            previous: Some(SummedClosure::of(alloc, closure)),
+        },
+        None => Sides {
+            next,
+            previous: None,
+        },
     }
 }
 

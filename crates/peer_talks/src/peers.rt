@@ -1,10 +1,11 @@
 //! The replicas from which this one pulls, when, and how a session with each begins.
 use crate::ending::Ending;
 use crate::session_start::{AskedWay, PeerAnswer, SessionStart};
+use replica_sync::SyncError;
 use side_by_side::Side;
 use status_view::{AskedConfig, PeerStatus};
 use std::alloc::{AllocError, Global};
-use std::net::SocketAddr;
+use std::net::{IpAddr, SocketAddr};
 use std::time::{Duration, Instant};
 
 /// For how long a peer that does not know sums is not asked for them.
@@ -101,6 +102,14 @@ impl Peers {
         self.has_previous = true;
     }
 
+    /// Whether one of the peers has this IP address.
+    pub fn has_address(&self, wanted: IpAddr) -> bool {
+        let wanted = wanted.to_canonical();
+        self.places
+            .iter()
+            .any(|place| place.address.ip().to_canonical() == wanted)
+    }
+
     /// What is said of each peer, in the order of the arguments.
     pub fn statuses(&self) -> &[PeerStatus] {
         self.statuses.as_slice()
@@ -173,7 +182,7 @@ impl Peers {
         if let Some(peer) = self.statuses.get_mut(number) {
             peer.receipts = peer.receipts.saturating_add(session.receipts);
             if session.answer == PeerAnswer::Came {
-                peer.asked = Some(asked_config(session.side));
+                peer.asked = asked_config(session);
             }
             match fault {
                 Some(fault) => peer.fault = Some(fault),
@@ -209,9 +218,11 @@ impl PeerPlace {
     }
 }
 
-fn asked_config(side: Side) -> AskedConfig {
-    match side {
-        Side::Next => AskedConfig::Next,
-        Side::Previous => AskedConfig::Previous,
+// Under which configuration a peer has answered, if it was one of those that it was asked under.
+fn asked_config(session: SessionEnd) -> Option<AskedConfig> {
+    match (session.ending, session.side) {
+        (Ending::Fault(SyncError::ConfigDiffers), _) => None,
+        (_, Side::Next) => Some(AskedConfig::Next),
+        (_, Side::Previous) => Some(AskedConfig::Previous),
     }
 }

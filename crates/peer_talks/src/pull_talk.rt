@@ -4,8 +4,8 @@ use crate::held_state::HeldState;
 use crate::peers::DueSession;
 use crate::session_start::{AskedWay, PeerAnswer, SessionStart};
 use crate::unread_bytes::UnreadBytes;
-use bucket_sums::{KeptSums, QuietPulling};
-use change_view::{HeldChange, JournalledChange, NewEntries, count_entries, last_line_digest};
+use bucket_sums::QuietPulling;
+use change_view::{HeldChange, JournalledChange, NewEntries, count_entries};
 use closure_core::Closure;
 use replica_sync::SyncError;
 use side_by_side::Side;
@@ -216,24 +216,12 @@ fn begin<C: Closure>(
     held: &mut HeldState<C>,
     way: AskedWay,
 ) -> Result<QuietPulling, SyncError> {
-    match (way.side, &held.sides.previous) {
-        (Side::Next, _) => begin_on(alloc, &held.sides.next, &mut held.sums, way.start),
-        (Side::Previous, Some(closure)) => {
-            begin_on(alloc, closure, &mut held.previous_sums, way.start)
-        }
-        (Side::Previous, None) => Err(SyncError::ConfigDiffers),
-    }
-}
-
-fn begin_on<C: Closure>(
-    alloc: Global,
-    closure: &C,
-    sums: &mut KeptSums,
-    start: SessionStart,
-) -> Result<QuietPulling, SyncError> {
-    match start {
-        SessionStart::Sums => QuietPulling::new(alloc, closure, sums),
-        SessionStart::Haves => QuietPulling::without_sums(alloc, closure),
+    let Some(closure) = held.sides.closure(way.side) else {
+        return Err(SyncError::ConfigDiffers);
+    };
+    match way.start {
+        SessionStart::Sums => QuietPulling::new(alloc, closure),
+        SessionStart::Haves => QuietPulling::without_sums(alloc, &*closure),
     }
 }
 
@@ -246,6 +234,6 @@ fn pulled(
 ) -> Result<JournalledChange, AllocError> {
     Ok(JournalledChange {
         change: HeldChange::Pull(format!(in alloc; "{peer}")?, new),
-        last: last_line_digest(lines),
+        bytes: lines.len(),
     })
 }

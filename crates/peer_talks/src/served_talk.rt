@@ -5,16 +5,16 @@ use crate::named_config::{is_head_short, named_config};
 use crate::unread_bytes::UnreadBytes;
 use bucket_sums::QuietServing;
 use closure_core::Closure;
+use fed_config::ConfigId;
 use replica_sync::SyncError;
-use side_by_side::Side;
 use std::alloc::{AllocError, Global};
 
 /// A connection on which another replica asks, and is answered.
 #[derive(Drop)]
 pub struct ServedTalk {
     serving: QuietServing,
-    // Under which configuration it is answered, once its first bytes have named one.
-    side: Option<Side>,
+    // The digest of the configuration under which it is answered, once its first bytes have come.
+    digest: Option<ConfigId>,
     rest: UnreadBytes,
     // Whether the other side has sent all that it will.
     has_ended: bool,
@@ -24,7 +24,7 @@ impl ServedTalk {
     pub fn new(alloc: Global) -> ServedTalk {
         ServedTalk {
             serving: QuietServing::new(alloc),
-            side: None,
+            digest: None,
             rest: UnreadBytes::new(alloc),
             has_ended: false,
         }
@@ -44,7 +44,7 @@ impl ServedTalk {
 
     // Whether its first bytes have to come.
     fn awaits_side(&self) -> bool {
-        self.side.is_none() && is_head_short(self.rest.left())
+        self.digest.is_none() && is_head_short(self.rest.left())
     }
 
     /// Keeps bytes that came.
@@ -52,36 +52,31 @@ impl ServedTalk {
         self.rest.add(piece)
     }
 
-    /// Takes what is left of the bytes that came, up to the end of the sums or of a have.
+    /// Takes what is left of the bytes that came, up to the end of the sums or of a have. They are
+    /// answered with what is held under the configuration that its first bytes named, and with the
+    /// sums of that.
     pub fn go_on<C: Closure>(
         &mut self,
         alloc: Global,
         held: &mut HeldState<C>,
     ) -> Result<(), Ending> {
         let piece = self.rest.left();
-        let side = match self.side {
-            Some(side) => side,
-            None => side_named(held, piece),
+        let digest = match self.digest {
+            Some(digest) => digest,
+            None => digest_named(held, piece),
         };
-        self.side = Some(side);
-        let used = match (side, &held.sides.previous) {
-            (Side::Next, _) => {
-                let sums = &mut held.sums;
-                self.serving.read(alloc, &held.sides.next, sums, piece)?
-            }
-            (Side::Previous, Some(closure)) => {
-                let sums = &mut held.previous_sums;
-                self.serving.read(alloc, closure, sums, piece)?
-            }
-            (Side::Previous, None) => return Err(Ending::Fault(SyncError::ConfigDiffers)),
+        self.digest = Some(digest);
+        let Some(closure) = held.sides.under(digest) else {
+            return Err(Ending::Fault(SyncError::ConfigDiffers));
         };
+        let used = self.serving.read(alloc, closure, piece)?;
         self.rest.took(used);
         Ok(())
     }
 
-    /// Under which configuration it is answered, if something was read of it.
-    pub fn side(&self) -> Option<Side> {
-        self.side
+    /// The digest of the configuration under which it is answered, if something was read of it.
+    pub fn digest(&self) -> Option<ConfigId> {
+        self.digest
     }
 
     pub fn end_input(&mut self) {
@@ -109,11 +104,11 @@ impl ServedTalk {
     }
 }
 
-// The side whose configuration is named. A question that names none of both is refused by the next
-// one.
-fn side_named<C: Closure>(held: &HeldState<C>, head: &[u8]) -> Side {
+// The digest that is named, if it is that of a side. A question that names none of both is refused
+// by the next one.
+fn digest_named<C: Closure>(held: &HeldState<C>, head: &[u8]) -> ConfigId {
     match named_config(head) {
-        Some(digest) => held.sides.side_of(digest).unwrap_or(Side::Next),
-        None => Side::Next,
+        Some(digest) if held.sides.side_of(digest).is_some() => digest,
+        _ => held.sides.next.config().digest(),
     }
 }

@@ -1,8 +1,5 @@
 //! What is reported of a request that changed what is held.
-use change_view::{
-    HeldChange, JournalledChange, accepted_count, count_entries, distrusted_key, last_line_digest,
-    observed_bundle,
-};
+use change_view::{HeldChange, accepted_count, count_entries, distrusted_key, observed_bundle};
 use closure_core::Closure;
 use command_line::{CommandName, command_of};
 use receipt_core::LineError;
@@ -36,11 +33,11 @@ impl ComingChange {
         alloc: Global,
         closure: &C,
         lines: &[u8],
-    ) -> Result<Option<JournalledChange>, LineError> {
+    ) -> Result<Option<HeldChange>, LineError> {
         if lines.is_empty() {
             return Ok(None);
         }
-        let change = match self.name {
+        Ok(Some(match self.name {
             Some(CommandName::Observe) => {
                 HeldChange::Observe(observed_bundle(alloc, closure, lines)?)
             }
@@ -48,10 +45,6 @@ impl ComingChange {
                 HeldChange::Distrust(distrusted_key(alloc, closure, self.accepted, lines)?)
             }
             _ => HeldChange::Merge(count_entries(lines)),
-        };
-        Ok(Some(JournalledChange {
-            change,
-            last: last_line_digest(lines),
         }))
     }
 }

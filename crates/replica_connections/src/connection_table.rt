@@ -1,14 +1,14 @@
 //! The connections that there are, and how many there may be.
 use crate::live_connection::{BYTES_A_TURN, LiveConnection};
-use crate::local_talk::Surroundings;
+use crate::local_talk::{LocalTalk, Surroundings};
 use crate::talk::Talk;
+use change_view::TurnLines;
 use closure_core::Closure;
-use command_exits::FileFault;
 use fair_turns::{ByteRoom, Candidate, Turns, Work, comes_first, first_to_go};
 use mio::Poll;
 use peer_talks::{Ending, HeldState};
-use replica_sockets::Socket;
-use state_files::Journal;
+use replica_sockets::{Rights, Socket};
+use state_files::OnDisk;
 use std::alloc::{AllocError, Global};
 use std::io;
 use std::net::SocketAddr;
@@ -20,6 +20,10 @@ use std::time::{Clock, Duration, Instant};
 const MOST_CONNECTIONS: usize = 160;
 
 const MOST_LOCAL: usize = 64;
+
+/// How many of those may be at the socket at which nothing can be changed: so they keep out nobody
+/// who wants to change something.
+const MOST_LOOKING: usize = 48;
 
 const MOST_PAGES: usize = 16;
 
@@ -40,8 +44,14 @@ enum Group {
     Served,
     /// Those of this machine that have a request, or a reply of a command.
     Local,
+    /// Those of them that only look.
+    Looking,
+    /// All of this machine that only look: those that are refused, too.
+    AllLooking,
     /// Those of this machine whose request has not come whole, though all that came was read.
     Awaited,
+    /// Those of them that only look.
+    AwaitedLooking,
     Pages,
     /// Those of pages whose head has not come whole, though all that came was read.
     AwaitedPages,
@@ -73,6 +83,9 @@ impl ConnectionTable {
     pub fn has_room_for(&self, talk: &Talk) -> bool {
         match talk {
             Talk::Served(_) => self.has_room() && self.count(Group::Served) < MOST_SERVED,
+            Talk::Local(talk) if looks(talk) => {
+                self.has_room() && self.count(Group::AllLooking) < MOST_LOCAL
+            }
             Talk::Local(_) => self.has_room(),
             Talk::Page(_) => self.has_room() && self.count(Group::Pages) < MOST_PAGES,
             Talk::Pull(_) => self.has_pull_room(),
@@ -123,12 +136,16 @@ impl ConnectionTable {
     }
 
     /// If the number of requests of this machine is at its limit, one that has not come whole makes
-    /// room. Returns whether there is room for one more.
-    pub fn make_local_room(&mut self, alloc: Global, now: Instant) -> bool {
-        if self.count(Group::Local) < MOST_LOCAL {
+    /// room: for one that only looks, another of these. Returns whether there is room for one more.
+    pub fn make_local_room(&mut self, alloc: Global, rights: Rights, now: Instant) -> bool {
+        if self.has_local_room(rights) {
             return true;
         }
-        let Some(serial) = self.first_to_go(Group::Awaited, now) else {
+        let awaited = match rights {
+            Rights::Change => Group::Awaited,
+            Rights::Look => Group::AwaitedLooking,
+        };
+        let Some(serial) = self.first_to_go(awaited, now) else {
             return false;
         };
         for conn in &mut self.connections {
@@ -139,6 +156,14 @@ impl ConnectionTable {
             }
         }
         true
+    }
+
+    fn has_local_room(&self, rights: Rights) -> bool {
+        let has_place = match rights {
+            Rights::Change => true,
+            Rights::Look => self.count(Group::Looking) < MOST_LOOKING,
+        };
+        has_place && self.count(Group::Local) < MOST_LOCAL
     }
 
     fn first_to_go(&self, group: Group, now: Instant) -> Option<usize> {
@@ -224,7 +249,7 @@ impl ConnectionTable {
         rt: &R,
         alloc: Global,
         held: &mut HeldState<C>,
-        around: &Surroundings<'_>,
+        around: &Surroundings<'_, '_, '_>,
         work: Work,
     ) {
         let begun = Instant::now(rt);
@@ -262,11 +287,14 @@ impl ConnectionTable {
         next
     }
 
-    /// Appends to the journal what requests have changed.
-    pub fn append_to(&self, journal: &mut Journal) -> Result<(), FileFault> {
+    /// Adds the lines of what requests have changed.
+    ///
+    /// # Errors
+    /// Memory ran out.
+    pub fn add_lines<'a>(&'a self, turn: &mut Vec<TurnLines<'a>>) -> Result<(), AllocError> {
         for conn in &self.connections {
-            if let Talk::Local(talk) = &conn.talk {
-                journal.append(talk.journal())?;
+            if let Some(part) = conn.talk.turn_lines() {
+                turn.push(part)?;
             }
         }
         Ok(())
@@ -278,10 +306,10 @@ impl ConnectionTable {
     }
 
     /// What requests have changed is on the disk.
-    pub fn settle(&mut self) {
+    pub fn settle(&mut self, on_disk: &OnDisk) {
         for conn in &mut self.connections {
             if let Talk::Local(talk) = &mut conn.talk {
-                talk.settle();
+                talk.settle(on_disk);
             }
         }
     }
@@ -326,7 +354,7 @@ impl ConnectionTable {
         bytes
     }
 
-    /// The connections, in the order in which the journal gets the lines of what they changed.
+    /// The connections.
     pub fn all(&self) -> &[LiveConnection] {
         self.connections.as_slice()
     }
@@ -344,11 +372,23 @@ fn is_of(conn: &LiveConnection, group: Group) -> bool {
         (_, Group::All) => true,
         (Talk::Served(_), Group::Served) | (Talk::Pull(_), Group::Pulls) => true,
         (Talk::Page(_), Group::Pages) => true,
-        (Talk::Page(talk), Group::AwaitedPages) => talk.wants_bytes() && !conn.may_have_come(),
+        (Talk::Page(_), Group::AwaitedPages) => is_awaited(conn),
         (Talk::Local(talk), Group::Local) => talk.takes_place(),
-        (Talk::Local(talk), Group::Awaited) => talk.wants_bytes() && !conn.may_have_come(),
+        (Talk::Local(talk), Group::Looking) => talk.takes_place() && looks(talk),
+        (Talk::Local(talk), Group::AllLooking) => looks(talk),
+        (Talk::Local(_), Group::Awaited) => is_awaited(conn),
+        (Talk::Local(talk), Group::AwaitedLooking) => is_awaited(conn) && looks(talk),
         _ => false,
     }
+}
+
+// Whether it has not come whole, though all that came was read.
+fn is_awaited(conn: &LiveConnection) -> bool {
+    conn.talk.wants_bytes() && !conn.may_have_come()
+}
+
+fn looks(talk: &LocalTalk) -> bool {
+    talk.rights() == Rights::Look
 }
 
 // Whether the time of one turn is over. If the clock fails, it is.

@@ -157,7 +157,7 @@ impl LiveConnection {
         &mut self,
         alloc: Global,
         held: &mut HeldState<C>,
-        around: &Surroundings<'_>,
+        around: &Surroundings<'_, '_, '_>,
     ) {
         // It was this replica that kept it waiting.
         self.moved = around.now;

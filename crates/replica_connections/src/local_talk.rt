@@ -1,24 +1,27 @@
 //! A connection of this machine, on which one request comes and one reply goes.
 use crate::change_notes::ComingChange;
 use crate::request_work::work_of;
-use change_view::JournalledChange;
+use change_view::{HeldChange, TurnLines};
 use closure_core::Closure;
-use fair_turns::{ByteRoom, Work};
+use fair_turns::{ByteRoom, RoomUser, Work};
 use local_answers::{
     PageSource, Reply, RequestFault, RequestParts, Sending, answer_look, answer_request,
 };
 use peer_talks::{Ending, HeldState};
 use replica_sockets::Rights;
+use state_files::OnDisk;
 use std::alloc::Global;
 use std::time::Instant;
 
 /// The time, the room that there is, and what the replica says of itself.
 #[derive(Clone, Copy)]
-pub struct Surroundings<'a> {
+pub struct Surroundings<'a, 'n, 's> {
     pub now: Instant,
     /// The room for requests and replies.
     pub room: ByteRoom,
     pub pages: PageSource<'a>,
+    /// The names of hosts of which pages may be asked.
+    pub page_names: &'n [&'s str],
 }
 
 /// The reply if a change could not be put on the disk. It takes no memory.
@@ -33,7 +36,7 @@ pub struct LocalTalk {
     // How many bytes the request has so far, or the reply of a command.
     held: u64,
     // What it changed that is not on the disk yet.
-    change: Option<JournalledChange>,
+    change: Option<HeldChange>,
 }
 
 // What is being sent.
@@ -60,9 +63,9 @@ impl LocalTalk {
     }
 
     /// One more than there may be: the reply says so, and nothing is read.
-    pub fn refused(alloc: Global) -> LocalTalk {
+    pub fn refused(alloc: Global, rights: Rights) -> LocalTalk {
         LocalTalk {
-            rights: Rights::Look,
+            rights,
             parts: RequestParts::new(alloc),
             answer: LocalAnswer::Fault(RequestFault::TooManyRequests.reply()),
             held: 0,
@@ -79,6 +82,18 @@ impl LocalTalk {
         !matches!(self.answer, LocalAnswer::Fault(_))
     }
 
+    /// What the requests of its socket may do.
+    pub(crate) fn rights(&self) -> Rights {
+        self.rights
+    }
+
+    fn room_user(&self) -> RoomUser {
+        match self.rights {
+            Rights::Change => RoomUser::Writer,
+            Rights::Look => RoomUser::Reader,
+        }
+    }
+
     /// It makes room for another request: the reply says that there are too many.
     pub(crate) fn free_place(&mut self, alloc: Global) {
         self.refuse(alloc, RequestFault::TooManyRequests);
@@ -92,7 +107,7 @@ impl LocalTalk {
     /// Takes bytes of the request. If there are too many, the reply says so immediately.
     pub fn take(&mut self, alloc: Global, piece: &[u8], room: &mut ByteRoom) {
         let count = piece.len() as u64;
-        if !room.take(count) {
+        if !room.take(self.room_user(), count) {
             self.refuse(alloc, RequestFault::TooManyRequests);
         } else if let Err(fault) = self.parts.take(piece) {
             self.refuse(alloc, fault);
@@ -133,29 +148,27 @@ impl LocalTalk {
         &mut self,
         alloc: Global,
         held: &mut HeldState<C>,
-        around: &Surroundings<'_>,
+        around: &Surroundings<'_, '_, '_>,
     ) {
         let mut room = around.room;
         // The lines of what changes take about the room of the input once more.
-        if self.work() == Some(Work::Change) && !room.take(self.held) {
+        if self.work() == Some(Work::Change) && !room.take(self.room_user(), self.held) {
             self.refuse(alloc, RequestFault::TooManyRequests);
             return;
         }
         let coming = self.coming(alloc, &held.sides.next);
         match self.carry_out(alloc, held, around) {
             Ok(reply) => {
-                self.note(alloc, held, coming, &reply);
+                self.note(alloc, &held.sides.next, coming, &reply);
                 self.reply_within(alloc, reply, around.room);
             }
             Err(fault) => self.refuse(alloc, fault),
         }
     }
 
-    // The request as one that may change something, if it is one.
+    // The request as one that may change something. Only its lines of the journal say whether it
+    // does, whatever it waited for.
     fn coming<C: Closure>(&self, alloc: Global, closure: &C) -> Option<ComingChange> {
-        if self.work() != Some(Work::Change) {
-            return None;
-        }
         let request = self.parts.whole().ok()?;
         Some(ComingChange::of(alloc, closure, request.words))
     }
@@ -164,29 +177,32 @@ impl LocalTalk {
     fn note<C: Closure>(
         &mut self,
         alloc: Global,
-        held: &mut HeldState<C>,
+        closure: &C,
         coming: Option<ComingChange>,
         reply: &Reply,
     ) {
-        let Some(coming) = coming else {
-            return;
-        };
-        match coming.made(alloc, &held.sides.next, reply.journal.as_slice()) {
-            Ok(change) => self.change = change,
-            Err(_) => held.has_unreported = true,
+        if let Some(coming) = coming
+            && let Ok(change) = coming.made(alloc, closure, reply.journal.as_slice())
+        {
+            self.change = change;
         }
     }
 
-    /// What it changed that is not on the disk yet.
-    pub fn change(&self) -> Option<&JournalledChange> {
+    /// What it changed that is not on the disk yet, unless memory ran out for it.
+    pub fn change(&self) -> Option<&HeldChange> {
         self.change.as_ref()
+    }
+
+    /// The lines that are to be on the disk before anything is sent, and what reports them.
+    pub(crate) fn turn_lines(&self) -> Option<TurnLines<'_>> {
+        TurnLines::of_request(self.journal(), self.change())
     }
 
     // If there is no room for the reply, and nothing was changed, it is refused.
     fn reply_within(&mut self, alloc: Global, reply: Reply, mut room: ByteRoom) {
         let bytes = bytes_of(&reply);
         let shows_only = reply.journal.is_empty() && !reply.ends;
-        if shows_only && !room.take(bytes) {
+        if shows_only && !room.take(self.room_user(), bytes) {
             self.refuse(alloc, RequestFault::TooManyRequests);
         } else {
             self.reply_with(alloc, LocalAnswer::Whole(Sending::new(reply)));
@@ -198,7 +214,7 @@ impl LocalTalk {
         &self,
         alloc: Global,
         held: &mut HeldState<C>,
-        around: &Surroundings<'_>,
+        around: &Surroundings<'_, '_, '_>,
     ) -> Result<Reply, RequestFault> {
         let request = self.parts.whole()?;
         let (running, words, input) = (&around.pages.running, request.words, request.input);
@@ -228,10 +244,10 @@ impl LocalTalk {
     }
 
     /// The lines are on the disk.
-    pub fn settle(&mut self) {
+    pub fn settle(&mut self, on_disk: &OnDisk) {
         self.change = None;
         if let LocalAnswer::Whole(sending) = &mut self.answer {
-            sending.settle();
+            sending.settle(on_disk);
         }
     }
 

@@ -2,7 +2,7 @@
 use crate::local_talk::Surroundings;
 use crate::request_work::work_of_page;
 use closure_core::Closure;
-use fair_turns::{ByteRoom, Work};
+use fair_turns::{ByteRoom, RoomUser, Work};
 use health_pages::{
     ContentType, HeadBytes, HeadVerdict, PageFault, PageResponse, ResponseSending, crowd_response,
     memory_response, write_response,
@@ -53,7 +53,7 @@ impl PageTalk {
     /// Takes bytes of the request. What comes after its head is let go.
     pub fn take(&mut self, alloc: Global, piece: &[u8], room: &mut ByteRoom) {
         let count = piece.len() as u64;
-        if !room.take(count) {
+        if !room.take(RoomUser::Reader, count) {
             self.reply_with(alloc, PageReply::Fixed(crowd_response()), 0);
         } else if self.head.take(piece).is_err() {
             self.reply_with(alloc, PageReply::Fixed(memory_response(false)), 0);
@@ -86,13 +86,11 @@ impl PageTalk {
         &mut self,
         alloc: Global,
         held: &HeldState<C>,
-        around: &Surroundings<'_>,
+        around: &Surroundings<'_, '_, '_>,
     ) {
-        let is_head = match self.head.verdict() {
-            Some(verdict) => verdict.is_head,
-            None => false,
-        };
-        match self.respond(alloc, held, around) {
+        let verdict = self.head.verdict();
+        let is_head = verdict.is_some_and(|verdict| verdict.is_head);
+        match respond(alloc, held, around, verdict) {
             Ok(response) => {
                 self.reply_within(alloc, ResponseSending::new(response), around.room);
             }
@@ -103,28 +101,10 @@ impl PageTalk {
         }
     }
 
-    fn respond<C: Closure>(
-        &self,
-        alloc: Global,
-        held: &HeldState<C>,
-        around: &Surroundings<'_>,
-    ) -> Result<PageResponse, AllocError> {
-        let Some(verdict) = self.head.verdict() else {
-            return fault_response(alloc, PageFault::BadHead, false);
-        };
-        match verdict.asked {
-            Ok(asked) => {
-                let closure = &held.sides.next;
-                answer_page(alloc, closure, &around.pages, &asked, verdict.is_head)
-            }
-            Err(fault) => fault_response(alloc, fault, verdict.is_head),
-        }
-    }
-
     // If there is no room for the response, it is refused.
     fn reply_within(&mut self, alloc: Global, sending: ResponseSending, mut room: ByteRoom) {
         let bytes = sending.bytes();
-        if room.take(bytes) {
+        if room.take(RoomUser::Reader, bytes) {
             self.reply_with(alloc, PageReply::Whole(sending), bytes);
         } else {
             self.reply_with(alloc, PageReply::Fixed(crowd_response()), 0);
@@ -170,6 +150,25 @@ fn due_work(verdict: Option<HeadVerdict<'_>>) -> Option<Work> {
     match verdict?.asked {
         Ok(asked) => Some(work_of_page(asked.page)),
         Err(_) => Some(Work::Short),
+    }
+}
+
+// A head that never came whole is a bad one.
+fn respond<C: Closure>(
+    alloc: Global,
+    held: &HeldState<C>,
+    around: &Surroundings<'_, '_, '_>,
+    verdict: Option<HeadVerdict<'_>>,
+) -> Result<PageResponse, AllocError> {
+    let Some(verdict) = verdict else {
+        return fault_response(alloc, PageFault::BadHead, false);
+    };
+    match verdict.asked_of(around.page_names) {
+        Ok(asked) => {
+            let closure = &held.sides.next;
+            answer_page(alloc, closure, &around.pages, &asked, verdict.is_head)
+        }
+        Err(fault) => fault_response(alloc, fault, verdict.is_head),
     }
 }
 

@@ -2,6 +2,7 @@
 //! replica, or a question to one.
 use crate::local_talk::{LocalTalk, Surroundings};
 use crate::page_talk::PageTalk;
+use change_view::TurnLines;
 use closure_core::Closure;
 use fair_turns::{ByteRoom, Work};
 use peer_talks::{Ending, HeldState, PullTalk, ServedTalk};
@@ -44,6 +45,14 @@ impl Talk {
         }
     }
 
+    /// The lines that are to be on the disk before the reply to a request is sent.
+    pub(crate) fn turn_lines(&self) -> Option<TurnLines<'_>> {
+        match self {
+            Talk::Local(talk) => talk.turn_lines(),
+            Talk::Page(_) | Talk::Served(_) | Talk::Pull(_) => None,
+        }
+    }
+
     /// How many bytes are held of a request of this machine or for a page, or of what is replied.
     pub(crate) fn held_bytes(&self) -> u64 {
         match self {
@@ -79,7 +88,7 @@ impl Talk {
         &mut self,
         alloc: Global,
         held: &mut HeldState<C>,
-        around: &Surroundings<'_>,
+        around: &Surroundings<'_, '_, '_>,
     ) -> Result<(), Ending> {
         match self {
             Talk::Local(talk) => {

@@ -154,7 +154,9 @@ impl Display for LogEvent {
             LogEvent::AuditCut(lines) => write!(f, "event=audit cut={lines}"),
             LogEvent::AuditFault(why) => write!(f, "event=audit fault={}", session_code(*why)),
             LogEvent::Lost(LostFile::Lock) => f.write_str("event=lost file=lock"),
-            LogEvent::Lost(LostFile::Journal) => f.write_str("event=lost file=journal"),
+            LogEvent::Lost(LostFile::Journal | LostFile::JournalText) => {
+                f.write_str("event=lost file=journal")
+            }
             LogEvent::Lost(LostFile::State) => f.write_str("event=lost file=state"),
         }
     }

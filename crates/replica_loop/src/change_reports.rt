@@ -1,6 +1,5 @@
-//! What is reported of the changes of a turn: the lines of the audit file before they are on the
-//! disk, and the events after that.
-use change_view::push_audit_line;
+//! The changes of a turn: what the files get, and the events once that is on the disk.
+use change_view::{TurnTexts, turn_texts};
 use closure_core::Closure;
 use peer_talks::HeldState;
 use replica_connections::{ConnectionTable, Talk};
@@ -8,30 +7,18 @@ use replica_events::{ErrorStream, log_change};
 use std::alloc::{AllocError, Global};
 use std::io::Eprint;
 
-/// The lines of the audit file for the changes of this turn, in the order in which the journal gets
-/// their lines. It also fails for lack of memory if memory ran out when one of the changes was
-/// made.
-pub(crate) fn audit_lines<C: Closure>(
+/// What the journal and the audit file get in this turn, in one order; without a Unix second there
+/// is no audit file. It also fails for lack of memory if memory ran out when one of the changes was
+/// made that the audit file is to have.
+pub(crate) fn texts_of_turn<'a, C: Closure>(
     alloc: Global,
-    held: &HeldState<C>,
-    table: &ConnectionTable,
-    moment: u64,
-) -> Result<Vec<u8>, AllocError> {
-    if held.has_unreported {
-        return Err(AllocError);
-    }
-    let mut lines = Vec::new(alloc);
-    for made in &held.pulled {
-        push_audit_line(alloc, &mut lines, moment, &made.change, &made.last)?;
-    }
-    for conn in table.all() {
-        if let Talk::Local(talk) = &conn.talk
-            && let Some(made) = talk.change()
-        {
-            push_audit_line(alloc, &mut lines, moment, &made.change, &made.last)?;
-        }
-    }
-    Ok(lines)
+    held: &'a HeldState<C>,
+    table: &'a ConnectionTable,
+    moment: Option<u64>,
+) -> Result<TurnTexts<'a>, AllocError> {
+    let mut turn = held.turn_lines(alloc)?;
+    table.add_lines(&mut turn)?;
+    turn_texts(alloc, moment, turn.as_slice())
 }
 
 /// Reports what requests have changed in this turn, which is on the disk. What peers brought is
@@ -44,9 +31,9 @@ pub(crate) fn log_changes<R: Eprint>(
 ) {
     for conn in table.all() {
         if let Talk::Local(talk) = &conn.talk
-            && let Some(made) = talk.change()
+            && let Some(change) = talk.change()
         {
-            log_change(rt, alloc, errors, &made.change);
+            log_change(rt, alloc, errors, change);
         }
     }
 }

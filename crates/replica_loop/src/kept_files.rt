@@ -1,5 +1,6 @@
 //! The files in which a running replica keeps what it holds: the lock, the state and its journal.
-use crate::change_reports::audit_lines;
+use crate::change_reports::texts_of_turn;
+use change_view::TurnTexts;
 use closure_core::Closure;
 use command_exits::FileFault;
 use peer_talks::HeldState;
@@ -9,7 +10,7 @@ use replica_core::SyncError;
 use replica_events::{ErrorStream, LogEvent, log_event};
 use state_files::{
     AppendFault, AppendStep, AuditFile, FoldFault, FoldPiece, FoldResult, Journal, KeepStep,
-    Keeping, LostFile, StateFold, StateLock, begin_again, save_snapshot,
+    Keeping, LostFile, OnDisk, StateFold, StateLock, begin_again, save_snapshot, stale_file,
 };
 use std::alloc::Global;
 use std::fs::{File, Files};
@@ -88,8 +89,9 @@ impl KeptFiles {
     }
 
     /// Puts on the disk what came, and looks whether it is in the files that have the names. Only
-    /// then it may be acknowledged. The lines of the audit file are on the disk first, in the order
-    /// of [`Keeping`], so a kill leaves no change there is no line of. `moment` is the Unix second.
+    /// then it may be acknowledged, with the token that is given. The lines of the audit file are
+    /// on the disk first, in the order of [`Keeping`], so a kill leaves no change there is no line
+    /// of. `moment` is the Unix second.
     pub(crate) fn keep<C: Closure, R: Files<File = File> + Clock + Eprint>(
         &mut self,
         rt: &R,
@@ -99,16 +101,19 @@ impl KeptFiles {
         table: &ConnectionTable,
         path: &str,
         moment: u64,
-    ) -> Result<(), KeepFault> {
-        let lines = self.lines_of(alloc, held, table, moment)?;
-        self.keeping.add(!lines.is_empty());
+    ) -> Result<OnDisk, KeepFault> {
+        let texts = self.texts_of(alloc, held, table, moment)?;
+        self.keeping.add(!texts.audit.is_empty());
         for _ in 0..KEEP_STEPS {
             let Some(step) = self.keeping.next() else {
                 break;
             };
             let done = match step {
-                KeepStep::Audit(step) => self.audit_step(rt, lines.as_slice(), step),
-                KeepStep::State => self.keep_state(rt, alloc, errors, held, table, path),
+                KeepStep::Audit(step) => self.audit_step(rt, texts.audit.as_slice(), step),
+                KeepStep::State => {
+                    let lines = texts.journal.as_slice();
+                    self.keep_state(rt, alloc, errors, &held.sides.next, lines, path)
+                }
             };
             if let Err(fault) = done {
                 self.keeping.failed();
@@ -116,27 +121,29 @@ impl KeptFiles {
             }
             self.keeping.done();
         }
-        if self.keeping.is_done() {
-            Ok(())
-        } else {
-            Err(KeepFault::State(FileFault::from(SyncError::Io)))
+        match self.keeping.on_disk() {
+            Some(on_disk) => Ok(on_disk),
+            None => Err(KeepFault::State(FileFault::from(SyncError::Io))),
         }
     }
 
-    // The lines that the audit file gets for this turn; none if there is no such file.
-    fn lines_of<C: Closure>(
+    // What the files get for this turn; the audit file only if there is one.
+    fn texts_of<'a, C: Closure>(
         &self,
         alloc: Global,
-        held: &HeldState<C>,
-        table: &ConnectionTable,
+        held: &'a HeldState<C>,
+        table: &'a ConnectionTable,
         moment: u64,
-    ) -> Result<Vec<u8>, KeepFault> {
-        if self.audit.is_none() {
-            return Ok(Vec::new(alloc));
-        }
-        match audit_lines(alloc, held, table, moment) {
-            Ok(lines) => Ok(lines),
-            Err(error) => Err(KeepFault::Audit(FileFault::from(error))),
+    ) -> Result<TurnTexts<'a>, KeepFault> {
+        let moment = if self.audit.is_some() {
+            Some(moment)
+        } else {
+            None
+        };
+        match texts_of_turn(alloc, held, table, moment) {
+            Ok(texts) => Ok(texts),
+            Err(error) if moment.is_some() => Err(KeepFault::Audit(FileFault::from(error))),
+            Err(error) => Err(KeepFault::State(FileFault::from(error))),
         }
     }
 
@@ -160,21 +167,21 @@ impl KeptFiles {
         rt: &R,
         alloc: Global,
         errors: &mut ErrorStream,
-        held: &HeldState<C>,
-        table: &ConnectionTable,
+        closure: &C,
+        lines: &[&[u8]],
         path: &str,
     ) -> Result<(), KeepFault> {
         if self.is_unsettled {
-            if held.fresh.is_empty() && !table.has_changes() {
+            if lines.is_empty() {
                 return Ok(());
             }
-            return Ok(self.begin_again(rt, alloc, errors, &held.sides.next, path)?);
+            return Ok(self.begin_again(rt, alloc, errors, closure, path)?);
         }
-        match self.append(rt, held.fresh.as_slice(), table, path) {
+        match self.append(rt, lines, path) {
             Ok(()) => Ok(()),
             Err(AppendFault::File(fault)) => Err(KeepFault::State(fault)),
             Err(AppendFault::Lost(lost)) => {
-                self.mend(rt, alloc, errors, &held.sides.next, path, lost)?;
+                self.mend(rt, alloc, errors, closure, path, lost)?;
                 Ok(())
             }
         }
@@ -183,18 +190,24 @@ impl KeptFiles {
     fn append<R: Files>(
         &mut self,
         files: &R,
-        pulled: &[u8],
-        table: &ConnectionTable,
+        lines: &[&[u8]],
         path: &str,
     ) -> Result<(), AppendFault> {
-        self.journal.append(pulled)?;
-        table.append_to(&mut self.journal)?;
+        if lines.iter().all(|part| part.is_empty()) {
+            return self.journal.sync(files, &self.lock, path);
+        }
+        if let Some(lost) = self.journal.lost_file(files, &self.lock, path)? {
+            return Err(AppendFault::Lost(lost));
+        }
+        for &part in lines {
+            self.journal.append(part)?;
+        }
         self.journal.sync(files, &self.lock, path)
     }
 
-    // A name leads to another file. If that is the state's, all that is held is written again; if
-    // it is the journal's, it is written, and the replica ends; and if it is the lock's, another
-    // command may have the state, so nothing is written.
+    // Others replaced or changed a file. All that is held is written again; if the journal's name
+    // leads to another file, the replica ends after that; and if the lock's does, another command
+    // may have the state, so nothing is written.
     fn mend<C: Closure, R: Files<File = File> + Clock + Eprint>(
         &mut self,
         rt: &R,
@@ -208,17 +221,20 @@ impl KeptFiles {
         self.fold = None;
         log_event(rt, alloc, errors, LogEvent::Lost(lost));
         match lost {
-            LostFile::Lock => Err(lost.fault()),
+            LostFile::Lock => Err(stale_file()),
             LostFile::Journal => {
                 if let Err(fault) = save_snapshot(rt, alloc, closure, path, self.progress) {
                     log_event(rt, alloc, errors, LogEvent::FoldFault(fault.why));
                 }
-                Err(lost.fault())
+                Err(stale_file())
             }
-            LostFile::State => self.begin_again(rt, alloc, errors, closure, path),
+            LostFile::JournalText | LostFile::State => {
+                self.begin_again(rt, alloc, errors, closure, path)
+            }
         }
     }
 
+    // If another command may have the state, nothing is written, and the replica ends.
     fn begin_again<C: Closure, R: Files<File = File> + Clock + Eprint>(
         &mut self,
         rt: &R,
@@ -227,7 +243,14 @@ impl KeptFiles {
         closure: &C,
         path: &str,
     ) -> Result<(), FileFault> {
-        self.journal = begin_again(rt, alloc, closure, path, self.progress)?;
+        match begin_again(rt, alloc, &self.lock, closure, path, self.progress) {
+            Ok(journal) => self.journal = journal,
+            Err(AppendFault::File(fault)) => return Err(fault),
+            Err(AppendFault::Lost(lost)) => {
+                log_event(rt, alloc, errors, LogEvent::Lost(lost));
+                return Err(stale_file());
+            }
+        }
         self.is_unsettled = false;
         self.note_fold(rt, alloc, errors);
         Ok(())
@@ -263,8 +286,8 @@ impl KeptFiles {
         Ok(())
     }
 
-    // Whether the names lead to the files that this replica has. If one does not, all that is held
-    // is written again, or the replica ends; if the system does not say it, the fold is put off.
+    // Whether the files are as this replica left them. If one is not, all that is held is written
+    // again, or the replica ends; if the system does not say it, the fold is put off.
     fn has_names<C: Closure, R: Files<File = File> + Clock + Eprint>(
         &mut self,
         rt: &R,
@@ -290,13 +313,13 @@ impl KeptFiles {
         path: &str,
         mut fold: StateFold,
     ) -> Result<(), FileFault> {
-        match fold.write_piece(alloc, closure, &self.journal) {
+        if !self.has_names(rt, alloc, errors, closure, path)? {
+            fold.give_up(rt);
+            return Ok(());
+        }
+        match fold.write_piece(rt, alloc, closure, &self.journal) {
             Ok(FoldPiece::More) => self.fold = Some(fold),
-            Ok(FoldPiece::Last) => {
-                if self.has_names(rt, alloc, errors, closure, path)? {
-                    self.end_fold(rt, alloc, errors, closure, path, fold);
-                }
-            }
+            Ok(FoldPiece::Last) => return self.end_fold(rt, alloc, errors, closure, path, fold),
             Err(fault) => {
                 fold.give_up(rt);
                 self.put_off(rt, alloc, errors, fault);
@@ -313,8 +336,8 @@ impl KeptFiles {
         closure: &C,
         path: &str,
         fold: StateFold,
-    ) {
-        match fold.end(rt, alloc, closure, path, &mut self.journal) {
+    ) -> Result<(), FileFault> {
+        match fold.end(rt, alloc, &self.lock, closure, path, &mut self.journal) {
             Ok(FoldResult::Short) => self.note_fold(rt, alloc, errors),
             Ok(FoldResult::Long) => {
                 self.journal.put_off();
@@ -325,7 +348,11 @@ impl KeptFiles {
                 self.is_unsettled = true;
                 log_event(rt, alloc, errors, LogEvent::FoldFault(fault.why));
             }
+            Err(FoldFault::Lost(lost)) => {
+                return self.mend(rt, alloc, errors, closure, path, lost);
+            }
         }
+        Ok(())
     }
 
     /// The replica ends: a snapshot that is being written is given up, unless another command has

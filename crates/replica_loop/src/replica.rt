@@ -10,7 +10,7 @@ use replica_events::{ErrorStream, LogEvent, log_event};
 use replica_sockets::file_at_step;
 use state_files::{
     BegunSides, FoundFiles, GivenConfigs, StateBeginning, StateLock, has_journal, is_marked,
-    remove_previous, settle_previous, state_bytes, try_lock_state,
+    remove_previous, state_bytes, try_lock_state,
 };
 use std::alloc::Global;
 use std::fs::{File, Files};
@@ -60,9 +60,9 @@ fn run_over<C: Closure, R: Runtime<File = File, A = Global> + Net>(
     let alloc = rt.alloc();
     let mut errors = ErrorStream::new(rt, alloc);
     let lock = lock(rt, alloc, settings.state)?;
-    let settled = settle_previous::<C, R>(rt, alloc, configs, settings.state);
-    file_at_step(Step::Save, settled)?;
     let mut beginning = find(rt, alloc, settings)?;
+    let seen = beginning.see_previous::<C, R>(rt, alloc, configs, settings.state);
+    file_at_step(Step::Save, seen)?;
     let begun: BegunSides<C> = load(
         rt,
         alloc,

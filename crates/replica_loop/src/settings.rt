@@ -20,6 +20,8 @@ pub struct Settings<'a, 'p> {
     pub listen: Option<SocketAddr>,
     /// The address of the pages for health and metrics.
     pub health: Option<SocketAddr>,
+    /// The names by which that may be asked.
+    pub health_names: &'p [&'a str],
     /// By which limits these warn.
     pub page_limits: PageLimits,
     /// The version of the program, which they show.

@@ -10,6 +10,7 @@ use change_view::NewEntries;
 use closure_core::Closure;
 use command_exits::{Exit, FileFault, Step};
 use fair_turns::Work;
+use fed_config::ConfigId;
 use health_pages::LoopCounts;
 use local_answers::{PageLimits, PageSource};
 use mio::Events;
@@ -24,7 +25,7 @@ use replica_events::{ErrorStream, EventCounts, LogEvent, log_event};
 use replica_sockets::{Arrival, Listeners, Rights, Socket, at_step, file_at_step};
 use replica_sync::SyncError;
 use side_by_side::{Side, Sides};
-use state_files::{AuditFile, StateBeginning, StateLock};
+use state_files::{AuditFile, OnDisk, StateBeginning, StateLock};
 use status_view::{PreviousStatus, RunningStatus};
 use std::alloc::Global;
 use std::fs::{File, Files};
@@ -230,10 +231,10 @@ impl RunningReplica {
 
     // If there are too many requests of this machine, one of them makes room.
     fn local_talk(&mut self, alloc: Global, rights: Rights) -> LocalTalk {
-        if self.table.make_local_room(alloc, self.now) {
+        if self.table.make_local_room(alloc, rights, self.now) {
             LocalTalk::new(alloc, rights)
         } else {
-            LocalTalk::refused(alloc)
+            LocalTalk::refused(alloc, rights)
         }
     }
 
@@ -330,14 +331,16 @@ impl RunningReplica {
 
     /// Keeps what came on each connection, and answers what takes little. That is shown
     /// immediately: it is what is on the disk, and does not wait for the changes of this turn.
+    /// Pages may be asked of hosts of these names.
     pub(crate) fn read<C: Closure, R: Clock>(
         &mut self,
         rt: &R,
         alloc: Global,
         held: &mut HeldState<C>,
+        names: &[&str],
     ) {
         self.table.read(alloc, self.now);
-        self.carry_out(rt, alloc, held, Work::Short);
+        self.carry_out(rt, alloc, held, names, Work::Short);
         if held.fresh.is_empty() && !self.table.has_changes() {
             self.write();
         }
@@ -349,9 +352,10 @@ impl RunningReplica {
         rt: &R,
         alloc: Global,
         held: &mut HeldState<C>,
+        names: &[&str],
     ) {
         if let Some(work) = self.table.work_after_short() {
-            self.carry_out(rt, alloc, held, work);
+            self.carry_out(rt, alloc, held, names, work);
         }
     }
 
@@ -360,6 +364,7 @@ impl RunningReplica {
         rt: &R,
         alloc: Global,
         held: &mut HeldState<C>,
+        names: &[&str],
         work: Work,
     ) {
         let running = RunningStatus {
@@ -371,6 +376,7 @@ impl RunningReplica {
             now: self.now,
             room: self.table.room(),
             pages: page_source(running, counts, self.version, self.page_limits),
+            page_names: names,
         };
         self.table.carry_out(rt, alloc, held, &around, work);
         if self.ends_at.is_none() && self.table.is_stopped() {
@@ -389,11 +395,11 @@ impl RunningReplica {
     ) -> Result<(), KeepFault> {
         let moment = unix_seconds(rt).unwrap_or(0);
         match self.files.keep(rt, alloc, &mut self.errors, held, &self.table, path, moment) {
-            Ok(()) => {
+            Ok(on_disk) => {
                 log_changes(rt, alloc, &mut self.errors, &self.table);
-                pass_on_requests(alloc, held, &self.table);
-                held.settle(alloc);
-                self.table.settle();
+                pass_on_requests(alloc, held, &self.table, &on_disk);
+                held.settle(alloc, &on_disk);
+                self.table.settle(&on_disk);
                 Ok(())
             }
             Err(fault) => {
@@ -420,7 +426,7 @@ impl RunningReplica {
             if let Some(ending) = conn.ending {
                 let time = self.now.duration_since(conn.begun);
                 note_pull(rt, &mut self.peers, conn, ending, self.now);
-                note_previous(rt, &mut self.previous, conn);
+                note_previous(rt, &mut self.previous, &self.peers, conn);
                 self.counts.note_end(conn, ending);
                 if let Some(event) = event_of(conn, ending, time, is_verbose) {
                     self.events
@@ -525,26 +531,42 @@ fn previous_status<C: Closure>(sides: &Sides<C>) -> Option<PreviousStatus> {
 }
 
 // What requests have changed, which is on the disk, is offered under the previous configuration.
-fn pass_on_requests<C: Closure>(alloc: Global, held: &mut HeldState<C>, table: &ConnectionTable) {
+fn pass_on_requests<C: Closure>(
+    alloc: Global,
+    held: &mut HeldState<C>,
+    table: &ConnectionTable,
+    on_disk: &OnDisk,
+) {
     for conn in table.all() {
         if let Talk::Local(talk) = &conn.talk {
-            held.pass_on(alloc, talk.journal());
+            held.pass_on(alloc, talk.journal(), on_disk);
         }
     }
 }
 
-// If something was said under the previous configuration on a connection that has ended, this is
-// the last time at which it was used.
-fn note_previous<R: Clock>(rt: &R, previous: &mut Option<PreviousStatus>, conn: &LiveConnection) {
-    let is_used = match &conn.talk {
-        Talk::Served(talk) => talk.side() == Some(Side::Previous) && conn.sent_bytes() > 0,
-        Talk::Pull(talk) => talk.side() == Side::Previous && talk.answer() == PeerAnswer::Came,
-        Talk::Local(_) | Talk::Page(_) => false,
-    };
+// If something was said with a peer under the previous configuration on a connection that has
+// ended, this is the last time at which it was used. What others ask means nothing: anybody may.
+fn note_previous<R: Clock>(
+    rt: &R,
+    previous: &mut Option<PreviousStatus>,
+    peers: &Peers,
+    conn: &LiveConnection,
+) {
     if let Some(status) = previous
-        && is_used
+        && conn.peer.is_some_and(|peer| peers.has_address(peer.ip()))
+        && is_under(conn, status.config)
     {
         status.used = unix_seconds(rt).or(status.used);
+    }
+}
+
+// Whether something was said on the connection under the previous configuration, which has this
+// digest.
+fn is_under(conn: &LiveConnection, previous: ConfigId) -> bool {
+    match &conn.talk {
+        Talk::Served(talk) => talk.digest() == Some(previous) && conn.sent_bytes() > 0,
+        Talk::Pull(talk) => talk.side() == Side::Previous && talk.answer() == PeerAnswer::Came,
+        Talk::Local(_) | Talk::Page(_) => false,
     }
 }
 
@@ -641,9 +663,9 @@ pub(crate) fn turn<C: Closure, R: Files<File = File> + Net + Clock + Eprint>(
     running.wait(rt, alloc, events);
     running.accept(rt, alloc);
     running.begin_pulls(rt, alloc, held, settings.most_bytes);
-    running.read(rt, alloc, held);
+    running.read(rt, alloc, held, settings.health_names);
     running.end_connections(rt, alloc, settings.is_verbose);
-    running.go_on(rt, alloc, held);
+    running.go_on(rt, alloc, held, settings.health_names);
     running.commit(rt, alloc, held, settings.state)?;
     running.write();
     running.end_connections(rt, alloc, settings.is_verbose);

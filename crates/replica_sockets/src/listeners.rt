@@ -5,7 +5,7 @@ use crate::socket_path::{FileId, file_id, too_long};
 use crate::step_fault::{at_step, file_at_step};
 use command_exits::{Exit, Step};
 use fair_turns::Arrivals;
-use mio::net::{TcpListener, UnixListener, UnixStream};
+use mio::net::{TcpListener, TcpStream, UnixListener, UnixStream};
 use mio::{Interest, Poll, Token};
 use std::fs::{Files, Permissions};
 use std::io::ErrorKind;
@@ -281,6 +281,9 @@ impl AddressListener {
             return Err(Arrival::Nobody);
         }
         match self.socket.accept() {
+            // It takes no place, so it does not count: one after another, they would keep the
+            // others waiting for as long as their number says.
+            Ok((stream, _)) if has_left(&stream) => Err(Arrival::Left),
             Ok((stream, peer)) => {
                 // Without it an answer may wait for a while.
                 let _ = stream.set_nodelay(true);
@@ -327,6 +330,15 @@ impl LocalListener {
         {
             let _ = fs::remove_file(rt, path);
         }
+    }
+}
+
+// Whether the other side has closed the connection, and sent nothing before.
+fn has_left(stream: &TcpStream) -> bool {
+    let mut first = [0; 1];
+    match stream.peek(&mut first) {
+        Ok(count) => count == 0,
+        Err(error) => !matches!(error.kind(), ErrorKind::WouldBlock | ErrorKind::Interrupted),
     }
 }
 

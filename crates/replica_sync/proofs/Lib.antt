@@ -1,4 +1,5 @@
 mod ServingFacts
+mod DrivenServing
 mod TakingFacts
 pub mod PullingFacts
 pub mod WelcomeFacts
@@ -16,7 +17,8 @@ pub mod PullLinesFacts
 pub mod PulledPieceFacts
 pub mod PullStepFacts
 mod FeedFacts
+mod FeedSearch
+mod DrivenPulls
 mod PullLawFacts
-mod AnswerTakingFacts
 pub mod PlanLawFacts
 mod StandardFacts

@@ -1,6 +1,6 @@
 -- Records of distrust that wait, and those that are taken.
 use Rattle.std.proofs.Common.{◌≡◌, ◌≢◌, ℕ, zero, suc, ◌+◌, ◌-◌, ◌≤◌, inl, inr, List, [], ◌∷◌, ◌++◌, length, length-append, refl, sym, ap, ◌∙◌, subst, arith}
-use Rattle.std.specs.Prelude.{Contains, IfOk, Some, slice_get, Result, Ok, MatchResult}
+use Rattle.std.specs.Prelude.{Contains, Some, slice_get, Ok}
 use Rattle.std.specs.List.{AllByRecursion}
 use Rattle.std.specs.List.Sorted.{IsStrictlySortedBy}
 use Rattle.std.specs.Cmp.{IsTotalOrder}
@@ -13,18 +13,13 @@ use Rattle.receipt_core.specs.Rising.{with_item, with_items}
 use Rattle.receipt_core.specs.Acceptance.{Meaning, IsMeaning}
 use Rattle.receipt_core.specs.Sets.{Always, AreSets}
 use Rattle.replica_core.specs.Absorbing.{AreWelcome, IsWelcome, of_records, with_entry}
-use Rattle.replica_core.specs.declared.entry.Entry.{Entry}
 use Rattle.replica_core.specs.declared.entry.Entry.TheVariants.{Record}
-use Rattle.replica_core.specs.declared.error.SyncError.{SyncError}
 use Rattle.replica_core.proofs.ContainsFacts.{each-from}
 use Rattle.replica_core.proofs.UnwelcomeFacts.{record-welcome, welcome-push, with-records, with_items-push}
 use Rattle.replica_core.proofs.PlaceFacts.{always, with_item-grows}
 use Rattle.replica_core.proofs.RisingListFacts.{rising_append, rising_cons, rising_head, rising_nil, rising_tail}
-use Rattle.replica_texts.specs.Inside.EntrySteps.{TakesEntry}
 use Rattle.replica_texts.specs.SoleLines.{IsWellFormed}
 use Rattle.replica_journal.specs.Journal.{entry_text}
-use Rattle.replica_sync.specs.PulledPieces.{Journals}
-use Rattle.replica_sync.specs.Inside.NewEntries.{HasRefusedNew}
 use Rattle.replica_sync.specs.Inside.Waiting.{IsEmptyNews, MayWait, TakesNews, Waits, held_with}
 use Rattle.replica_sync.specs.declared.news.News.{News}
 
@@ -151,24 +146,6 @@ new_record m news x sets may = λ same.
       | inl mine ↦ not_below x sets.total (each-from (λ (y : Distrust). distrust_cmp y x ≡ Less) later may.above x mine)
       | inr held ↦ may.unheld held
     ]
-
--- ---- what is taken immediately
-
--- If those that waited are held, and none waits afterwards, the line is taken after them.
-pub at_once : (m mid n : Meaning) (old new : News) (number : ℕ) (entry : Entry) (result : Result ℕ SyncError) → mid ≡ held_with old m
-    → new.later.items ≡ [] → MatchResult result (TakesEntry mid entry n) (HasRefusedNew mid number entry n)
-    → IfOk result (λ count. count ≤ 1) → Waits n new → Journals mid n old.journal.items new.journal.items
-    → TakesNews m old number entry n new result
-at_once m mid n old new number entry result before none takes few waits journals =
-    let after : n ≡ held_with new n = sym (held_empty n new none) in
-    record {
-      takes = subst (λ (b : Meaning). MatchResult result (TakesEntry (held_with old m) entry b) (HasRefusedNew (held_with old m) number entry b)) after
-          (subst (λ (a : Meaning). MatchResult result (TakesEntry a entry n) (HasRefusedNew a number entry n)) before takes);
-      few = few;
-      waits = waits;
-      journals = subst (λ (b : Meaning). Journals (held_with old m) b old.journal.items new.journal.items) after
-          (subst (λ (a : Meaning). Journals a n old.journal.items new.journal.items) before journals);
-    }
 
 -- ---- what a call does
 

@@ -1,6 +1,6 @@
 -- A session whose answers come in pieces, if nothing else changes what is held: it is one of a pull
 -- that reads the joined bytes.
-use Rattle.std.proofs.Common.{◌≡◌, ◌≢◌, ℕ, ◌+◌, ◌<◌, ◌≤◌, inl, inr, List, [], ◌∷◌, ◌++◌, length, take}
+use Rattle.std.proofs.Common.{◌≡◌, ◌≢◌, ℕ, ◌+◌, ◌<◌, ◌≤◌, ◌⊎◌, inl, inr, List, [], ◌∷◌, ◌++◌, length, take}
 use Rattle.std.proofs.Common.{Option, None, Some, Ok, Err, refl, sym, ap, ◌∙◌, subst, append_assoc, append-nil, length-append, true, arith}
 use Rattle.std.specs.List.{flat_map}
 use Rattle.std.proofs.lemmas.Grind.{flat_map-append}
@@ -18,7 +18,10 @@ use Rattle.replica_core.specs.State.{State, joined, meaning_of_state, no_state}
 use Rattle.replica_core.specs.declared.entry.Entry.{Entry}
 use Rattle.replica_core.specs.declared.entry.Entry.TheVariants.{Record, Receipt as AReceipt}
 use Rattle.replica_core.specs.declared.error.SyncError.{SyncError}
-use Rattle.replica_core.specs.declared.error.SyncError.TheVariants.{Truncated}
+use Rattle.replica_core.specs.declared.error.SyncError.TheVariants.{Io, NoMemory, Truncated}
+use Rattle.replica_texts.specs.FirstLines.{Expected}
+use Rattle.replica_texts.specs.Gives.{RefusesHead, RefusesNextEntry, Wants}
+use Rattle.replica_texts.specs.declared.entry_line.Wanted.{Wanted}
 use Rattle.replica_sync.specs.SessionRun.{IsWritten, known_run}
 use Rattle.replica_texts.specs.Messages.{give_text, have_text}
 use Rattle.replica_sync.specs.Pulling.{AreGives, HasGained, IsGiveAbout, Pulls, PullsAll, PullsUpTo, RefusesGiveAbout}
@@ -181,7 +184,7 @@ pub record AloneThere (start : Meaning) (came : List PulledPiece) (gives : List 
   pub alone : AreAlone then later held
   pub text : bytes_pulled came ≡ flat_map give_text (gives_of gives) ++ bytes_pulled later
 
-alone_there : (start : Meaning) (came : List PulledPiece) (gives : List PulledGive) (later : List PulledPiece) (held : Meaning)
+pub alone_there : (start : Meaning) (came : List PulledPiece) (gives : List PulledGive) (later : List PulledPiece) (held : Meaning)
     → PulledGives None start came gives later → AreAlone start came held → AloneThere start came gives later held
 alone_there start came gives later held whole alone =
     let parts = halves start (flat_map pieces_of gives) later held (subst (λ (l : List PulledPiece). AreAlone start l held) whole.order alone) in
@@ -196,7 +199,7 @@ alone_there start came gives later held whole alone =
     }
 
 -- The receipts that a session brought are those that are held then and were not.
-gained_there : (start : Meaning) (came : List PulledPiece) (gives : List PulledGive) (later : List PulledPiece) (entries : List Entry) (held : Meaning)
+pub gained_there : (start : Meaning) (came : List PulledPiece) (gives : List PulledGive) (later : List PulledPiece) (entries : List Entry) (held : Meaning)
     → PulledGives None start came gives later → TakesInTurn later entries → AreAlone start came held → HasGained start held (receipts_pulled came)
 gained_there start came gives later entries held whole takes alone =
     alone_gains start came held (entries_pulled gives ++ entries) alone
@@ -204,7 +207,7 @@ gained_there start came gives later entries held whole takes alone =
     (takes_both (flat_map pieces_of gives) later (entries_pulled gives) entries (gives_take start.config 0 gives whole.each) takes))
 
 -- The have about the next bucket is made of what is held when the last answer ended.
-next_have : (start : Meaning) (gives : List PulledGive) (then : Meaning) → GivesAlone start.config 0 start gives then
+pub next_have : (start : Meaning) (gives : List PulledGive) (then : Meaning) → GivesAlone start.config 0 start gives then
     → haves_asked None start gives ≡ haves_of start.config 0 (state_of start) (gives_of gives)
     ++ have_in start.config (after_gives (state_of start) (gives_of gives)) (length (gives_of gives)) ∷ []
 next_have start gives then there =
@@ -214,7 +217,7 @@ next_have start gives then there =
     ++ have_in start.config (after_gives (state_of start) (gives_of gives)) n ∷ []) (sym (length-map gives (λ (g : PulledGive). g.give)))
 
 -- what is held after the answers, with what was taken of the next one
-held_there : (start : Meaning) (gives : List PulledGive) (then held : Meaning) (pieces : List PulledPiece) (content : State)
+pub held_there : (start : Meaning) (gives : List PulledGive) (then held : Meaning) (pieces : List PulledPiece) (content : State)
     → GivesAlone start.config 0 start gives then → AreAlone then pieces held → TakesInTurn pieces (entries_of content)
     → held ≡ meaning_of_state start.config (joined (after_gives (state_of start) (gives_of gives)) content)
 held_there start gives then held pieces content there alone takes =
@@ -242,48 +245,76 @@ all_pulled lines start came held written all alone =
       asked = all.asked ∙ ap (flat_map have_text) there.whole.haves;
     }
 
--- What the other lines of a stream are, if the next answer has this much.
-cut_cause : (lines : AnswerLines) (config : Configuration) (state : State) (before : ℕ) (later : List PulledPiece) (rest : List ℕ)
-    → (lines.is_begun ≡ true → 0 < lines.due.receipts + lines.due.records) → HasNoFeed rest
+-- Why a session ends whose answers continue like this: a device failed, memory ran out, or no line comes any more.
+abbrev pub IsCutAt : List ℕ → SyncError → Type 0
+IsCutAt bytes d = ((d ≡ Io) ⊎ (d ≡ NoMemory)) ⊎ ((d ≡ Truncated) × HasNoFeed bytes)
+
+-- Before the first line of an answer.
+head_cut : (expected : Option Expected) (bytes rest : List ℕ) (d : SyncError) → bytes ≡ rest → IsCutAt rest d
+    → RefusesHead expected (Some bytes) None d
+head_cut expected bytes rest d same (inl (inl failed)) = subst (RefusesHead expected (Some bytes) None) (sym failed) tt
+head_cut expected bytes rest d same (inl (inr out)) = subst (RefusesHead expected (Some bytes) None) (sym out) tt
+head_cut expected bytes rest d same (inr cut) =
+    subst (RefusesHead expected (Some bytes) None) (sym cut.0) (subst HasNoFeed (sym same) cut.1)
+
+-- Before a later line.
+next_cut : (refuses : Wanted → List ℕ → List ℕ → SyncError → Type 0) (count distrusts : ℕ) (content : State) (wanted : Wanted) (bytes : List ℕ) (d : SyncError)
+    → Wants count distrusts content wanted → IsCutAt bytes d → RefusesNextEntry refuses count distrusts content (Some bytes) None d
+next_cut refuses count distrusts content wanted bytes d w (inl (inl failed)) =
+    subst (RefusesNextEntry refuses count distrusts content (Some bytes) None) (sym failed) tt
+next_cut refuses count distrusts content wanted bytes d w (inl (inr out)) =
+    subst (RefusesNextEntry refuses count distrusts content (Some bytes) None) (sym out) tt
+next_cut refuses count distrusts content wanted bytes d w (inr cut) =
+    subst (RefusesNextEntry refuses count distrusts content (Some bytes) None) (sym cut.0) (record { wanted = wanted; wants = w; ends = cut.1 })
+
+-- If the next answer has this much.
+cut_cause : (lines : AnswerLines) (config : Configuration) (state : State) (before : ℕ) (later : List PulledPiece) (rest tail : List ℕ) (d : SyncError)
+    → (lines.is_begun ≡ true → 0 < lines.due.receipts + lines.due.records) → IsCutAt (rest ++ tail) d
     → (some : HasLinesOf config lines before later rest)
-    → RefusesGiveAbout config state lines.bucket (before + 1) some.content (Some (bytes_pulled later)) Truncated
-cut_cause lines config state before later rest due plain some =
+    → RefusesGiveAbout config state lines.bucket (before + 1) some.content (Some (bytes_pulled later ++ tail)) d
+cut_cause lines config state before later rest tail d due cut some =
     let next = next_line lines.due.receipts lines.due.records (due some.begun) in
     inr (record {
       count = some.count;
       distrusts = some.distrusts;
-      further = Some rest;
+      further = Some (rest ++ tail);
       after = None;
-      begins = some.begins;
-      cause = record {
-        wanted = next.wanted;
-        wants = wants next.wanted some.count some.distrusts some.content lines.due.receipts lines.due.records next.receipts_then next.records_then
-            next.order some.receipts some.records;
-        ends = plain;
+      begins = record {
+        first = some.begins.first;
+        heads = some.begins.heads;
+        begun = some.begins.begun;
+        text = ap (λ (l : List ℕ). l ++ tail) some.begins.text ∙ append_assoc _ rest tail;
       };
+      cause = next_cut _ some.count some.distrusts some.content next.wanted (rest ++ tail) d
+          (wants next.wanted some.count some.distrusts some.content lines.due.receipts lines.due.records next.receipts_then next.records_then
+          next.order some.receipts some.records) cut;
     })
 
--- The stream ends before all came.
-pub cut_pulled : (answered : ℕ) (lines : AnswerLines) (start : Meaning) (came : List PulledPiece) (held : Meaning) (rest written : List ℕ)
-    → (lines.is_begun ≡ true → 0 < lines.due.receipts + lines.due.records) → HasNoFeed rest
-    → ContinuesPulling None answered lines start came rest written → AreAlone start came held
-    → PullsUpTo (known_run (bytes_pulled came) written) start held Truncated × HasGained start held (receipts_pulled came)
-cut_pulled answered lines start came held rest written due plain on alone =
+-- The session ends before all came, and a part of what it asks is written.
+pub broken_pulled : (answered : ℕ) (lines : AnswerLines) (start : Meaning) (came : List PulledPiece) (held : Meaning) (rest output written tail : List ℕ)
+    (d : SyncError) → (lines.is_begun ≡ true → 0 < lines.due.receipts + lines.due.records) → IsCutAt (rest ++ tail) d
+    → IsWritten d (Some []) (Some written) output
+    → ContinuesPulling None answered lines start came rest output → AreAlone start came held
+    → PullsUpTo (known_run (bytes_pulled came ++ tail) written) start held d × HasGained start held (receipts_pulled came)
+broken_pulled answered lines start came held rest output written tail d due cut wrote on alone =
     let there = alone_there start came on.gives on.later held on.whole alone in
     let size = length-map on.gives (λ (g : PulledGive). g.give) in
     let few : length on.gives < 256 = on.few in
-    let state = after_gives (state_of start) (gives_of on.gives) in
-    let at : lines.bucket ≡ length (gives_of on.gives) = on.bucket ∙ sym size in
-    let asked = on.asked ∙ ap (flat_map have_text) (next_have start on.gives there.then there.whole) in
+    let gives = gives_of on.gives in
+    let state = after_gives (state_of start) gives in
+    let at : lines.bucket ≡ length gives = on.bucket ∙ sym size in
+    let asked = subst (IsWritten d (Some []) (Some written)) (on.asked ∙ ap (flat_map have_text) (next_have start on.gives there.then there.whole)) wrote in
+    let text : bytes_pulled came ++ tail ≡ flat_map give_text gives ++ (bytes_pulled on.later ++ tail) =
+    ap (λ (l : List ℕ). l ++ tail) there.text ∙ append_assoc (flat_map give_text gives) (bytes_pulled on.later) tail in
     elim on.part [
       | inl none ↦ (
         record {
-          gives = gives_of on.gives;
-          left = Some (bytes_pulled on.later);
-          session = record { each = there.whole.each; text = there.text };
+          gives = gives;
+          left = Some (bytes_pulled on.later ++ tail);
+          session = record { each = there.whole.each; text = text };
           few = omega (arith, size, few);
           content = no_state;
-          cause = inl (record { after = None; cause = subst HasNoFeed (sym none.bytes) plain; none = refl });
+          cause = inl (record { after = None; cause = head_cut _ _ (rest ++ tail) d (ap (λ (l : List ℕ). l ++ tail) none.bytes) cut; none = refl });
           meaning = held_there start on.gives there.then held on.later no_state there.whole there.alone none.takes;
           asked = asked;
         },
@@ -291,19 +322,29 @@ cut_pulled answered lines start came held rest written due plain on alone =
       )
       | inr some ↦ (
         record {
-          gives = gives_of on.gives;
-          left = Some (bytes_pulled on.later);
-          session = record { each = there.whole.each; text = there.text };
+          gives = gives;
+          left = Some (bytes_pulled on.later ++ tail);
+          session = record { each = there.whole.each; text = text };
           few = omega (arith, size, few);
           content = some.content;
-          cause = subst (λ (b : ℕ). RefusesGiveAbout start.config state b (lines_pulled on.gives + 1) some.content (Some (bytes_pulled on.later)) Truncated)
-              at (cut_cause lines start.config state (lines_pulled on.gives) on.later rest due plain some);
+          cause = subst (λ (b : ℕ). RefusesGiveAbout start.config state b (lines_pulled on.gives + 1) some.content (Some (bytes_pulled on.later ++ tail)) d)
+              at (cut_cause lines start.config state (lines_pulled on.gives) on.later rest tail d due cut some);
           meaning = held_there start on.gives there.then held on.later some.content there.whole there.alone some.takes;
           asked = asked;
         },
         gained_there start came on.gives on.later (entries_of some.content) held on.whole some.takes alone,
       )
     ]
+
+-- The stream ends before all came.
+pub cut_pulled : (answered : ℕ) (lines : AnswerLines) (start : Meaning) (came : List PulledPiece) (held : Meaning) (rest written : List ℕ)
+    → (lines.is_begun ≡ true → 0 < lines.due.receipts + lines.due.records) → HasNoFeed rest
+    → ContinuesPulling None answered lines start came rest written → AreAlone start came held
+    → PullsUpTo (known_run (bytes_pulled came) written) start held Truncated × HasGained start held (receipts_pulled came)
+cut_pulled answered lines start came held rest written due plain on alone =
+    let cut = broken_pulled answered lines start came held rest written written [] Truncated due
+    (inr (refl, subst HasNoFeed (sym (append-nil rest)) plain)) refl on alone in
+    (subst (λ (l : List ℕ). PullsUpTo (known_run l written) start held Truncated) (append-nil (bytes_pulled came)) cut.0, cut.1)
 
 -- The error of an answer, if the meaning is what was held before it with what was taken of it.
 cause_there : (m : Meaning) (config : Configuration) (state : State) (bucket first : ℕ) (content : State) (stream : Option (List ℕ)) (e : SyncError)
@@ -322,15 +363,13 @@ cause_there m config state bucket first content stream e is stops =
       })
     ]
 
--- the bytes of the pieces after an error, and those that may still come
-abbrev tail_of : List PulledPiece → List ℕ → List ℕ
-tail_of later more = bytes_pulled later ++ more
-
--- If a line is not taken, the session ends there as soon as a line feed comes.
-pub stopped_pulled : (start : Meaning) (came : List PulledPiece) (held : Meaning) (written : List ℕ) (e : SyncError) (more after : List ℕ)
-    → StopsInGive None start came written e → AreAlone start came held
-    → PullsUpTo (known_run (bytes_pulled came ++ (more ++ (10 ∷ after))) written) start held e × HasGained start held (receipts_pulled came)
-stopped_pulled start came held written e more after stops alone =
+-- If a line is not taken, the session ends there with an error of the bytes that come.
+pub stopped_there : (start : Meaning) (came : List PulledPiece) (held : Meaning) (written : List ℕ) (e d : SyncError) (tail : List ℕ)
+    → (stops : StopsInGive None start came written e) → AreAlone start came held
+    → StopsAnswer stops.last.old (length stops.gives) (lines_pulled stops.gives + 1) stops.content
+    (Some ((bytes_pulled stops.part ++ stops.last.bytes) ++ (bytes_pulled stops.later ++ tail))) d
+    → PullsUpTo (known_run (bytes_pulled came ++ tail) written) start held d × HasGained start held (receipts_pulled came)
+stopped_there start came held written e d tail stops alone cause =
     let there = alone_there start came stops.gives (stops.part ++ stops.last ∷ stops.later) held stops.whole alone in
     let parts = halves there.then stops.part (stops.last ∷ stops.later) held there.alone in
     let size = length-map stops.gives (λ (g : PulledGive). g.give) in
@@ -338,33 +377,41 @@ stopped_pulled start came held written e more after stops alone =
     let gives = gives_of stops.gives in
     let state = after_gives (state_of start) gives in
     let bytes = bytes_pulled stops.part ++ stops.last.bytes in
-    let rest = tail_of stops.later more ++ (10 ∷ after) in
+    let rest = bytes_pulled stops.later ++ tail in
     let then_is = held_there start stops.gives there.then parts.then stops.part stops.content there.whole parts.before_it stops.takes in
     let old_is : stops.last.old ≡ meaning_of_state start.config (joined state stops.content) = parts.after_it.0 ∙ then_is in
-    let split : bytes_pulled came ++ (more ++ (10 ∷ after)) ≡ flat_map give_text gives ++ (bytes ++ rest) =
-    ap (λ (l : List ℕ). l ++ (more ++ (10 ∷ after))) (there.text
+    let split : bytes_pulled came ++ tail ≡ flat_map give_text gives ++ (bytes ++ rest) =
+    ap (λ (l : List ℕ). l ++ tail) (there.text
     ∙ ap (λ (l : List ℕ). flat_map give_text gives ++ l)
     (flat_map-append (λ (c : PulledPiece). c.bytes) stops.part (stops.last ∷ stops.later)
     ∙ sym (append_assoc (bytes_pulled stops.part) stops.last.bytes (bytes_pulled stops.later))))
-    ∙ append_assoc (flat_map give_text gives) (bytes ++ bytes_pulled stops.later) (more ++ (10 ∷ after))
-    ∙ ap (λ (l : List ℕ). flat_map give_text gives ++ l)
-    (append_assoc bytes (bytes_pulled stops.later) (more ++ (10 ∷ after))
-    ∙ ap (λ (l : List ℕ). bytes ++ l) (sym (append_assoc (bytes_pulled stops.later) more (10 ∷ after)))) in (
+    ∙ append_assoc (flat_map give_text gives) (bytes ++ bytes_pulled stops.later) tail
+    ∙ ap (λ (l : List ℕ). flat_map give_text gives ++ l) (append_assoc bytes (bytes_pulled stops.later) tail) in (
       record {
         gives = gives;
         left = Some (bytes ++ rest);
         session = record { each = there.whole.each; text = split };
         few = omega (arith, size, few);
         content = stops.content;
-        cause = subst (λ (b : ℕ). RefusesGiveAbout start.config state b (lines_pulled stops.gives + 1) stops.content (Some (bytes ++ rest)) e) (sym size)
-            (cause_there stops.last.old start.config state (length stops.gives) (lines_pulled stops.gives + 1) stops.content (Some (bytes ++ rest)) e old_is
-            (stops.cause (tail_of stops.later more) after));
+        cause = subst (λ (b : ℕ). RefusesGiveAbout start.config state b (lines_pulled stops.gives + 1) stops.content (Some (bytes ++ rest)) d) (sym size)
+            (cause_there stops.last.old start.config state (length stops.gives) (lines_pulled stops.gives + 1) stops.content (Some (bytes ++ rest)) d old_is
+            cause);
         meaning = alone_takes parts.then (stops.last ∷ stops.later) held [] parts.after_it stops.quiet ∙ then_is;
-        asked = written_all e (Some []) (Some written) _ (stops.asked ∙ ap (flat_map have_text) (next_have start stops.gives there.then there.whole));
+        asked = written_all d (Some []) (Some written) _ (stops.asked ∙ ap (flat_map have_text) (next_have start stops.gives there.then there.whole));
       },
       gained_there start came stops.gives (stops.part ++ stops.last ∷ stops.later) (entries_of stops.content ++ []) held stops.whole
           (takes_both stops.part (stops.last ∷ stops.later) (entries_of stops.content) [] stops.takes stops.quiet) alone,
     )
+
+-- It is the one that was found, as soon as a line feed comes.
+pub stopped_pulled : (start : Meaning) (came : List PulledPiece) (held : Meaning) (written : List ℕ) (e : SyncError) (more after : List ℕ)
+    → StopsInGive None start came written e → AreAlone start came held
+    → PullsUpTo (known_run (bytes_pulled came ++ (more ++ (10 ∷ after))) written) start held e × HasGained start held (receipts_pulled came)
+stopped_pulled start came held written e more after stops alone =
+    stopped_there start came held written e e (more ++ (10 ∷ after)) stops alone
+    (subst (λ (l : List ℕ). StopsAnswer stops.last.old (length stops.gives) (lines_pulled stops.gives + 1) stops.content
+    (Some ((bytes_pulled stops.part ++ stops.last.bytes) ++ l)) e) (append_assoc (bytes_pulled stops.later) more (10 ∷ after))
+    (stops.cause (bytes_pulled stops.later ++ more) after))
 
 -- The texts of two lists of haves begin with those of the first.
 texts_begin : (first second : List HaveMessage) → take (length (flat_map have_text first)) (flat_map have_text (first ++ second)) ≡ flat_map have_text first
@@ -375,10 +422,10 @@ texts_begin first second =
     ∙ take_all (length text) text (omega arith)
 
 -- If memory ran out for a have, the session ends before it.
-pub unasked_pulled : (start : Meaning) (came : List PulledPiece) (held : Meaning) (written : List ℕ) (e : SyncError) (more after : List ℕ)
+pub unasked_pulled : (start : Meaning) (came : List PulledPiece) (held : Meaning) (written : List ℕ) (e : SyncError) (tail : List ℕ)
     → StopsAsking None start came written e → AreAlone start came held
-    → PullsUpTo (known_run (bytes_pulled came ++ (more ++ (10 ∷ after))) written) start held e × HasGained start held (receipts_pulled came)
-unasked_pulled start came held written e more after stops alone =
+    → PullsUpTo (known_run (bytes_pulled came ++ tail) written) start held e × HasGained start held (receipts_pulled came)
+unasked_pulled start came held written e tail stops alone =
     let there = alone_there start came stops.gives (stops.part ++ stops.last ∷ stops.later) held stops.whole alone in
     let size = length-map stops.gives (λ (g : PulledGive). g.give) in
     let few : length stops.gives + 1 < 256 = stops.few in
@@ -386,7 +433,6 @@ unasked_pulled start came held written e more after stops alone =
     let give = stops.give in
     let state = after_gives (state_of start) gives in
     let longer = length-append gives (give ∷ []) in
-    let tail = more ++ (10 ∷ after) in
     let rest = stops.behind ++ (bytes_pulled stops.later ++ tail) in
     let order = append_assoc stops.part (stops.last ∷ []) stops.later in
     let one = halves there.then (stops.part ++ stops.last ∷ []) stops.later held
@@ -483,5 +529,5 @@ stopped_pulls (Some d) answered lines m held came rest written due more after co
     let none : due ≡ [] = idle (λ is. absurd (cc)) in
     let there = subst (λ (l : List ℕ). StopsAsking None m came l d) (ap (λ (l : List ℕ). written ++ l) none ∙ append-nil written) stops in
     let same : d ≡ e = cc in
-    let did = unasked_pulled m came held written e more after (subst (StopsAsking None m came written) same there) alone in
+    let did = unasked_pulled m came held written e (more ++ (10 ∷ after)) (subst (StopsAsking None m came written) same there) alone in
     (did.0, subst (HasGained m held) (sym taken) did.1)

@@ -1,19 +1,20 @@
 -- Several lines, taken by one call.
-use Rattle.std.proofs.Common.{◌≡◌, ◌≢◌, ℕ, zero, suc, ◌+◌, ◌-◌, ◌<◌, ◌≤◌, ◌⊎◌, inl, inr, List, [], ◌∷◌, ◌++◌, length, take, drop}
-use Rattle.std.proofs.Common.{refl, sym, ap, ◌∙◌, subst, append_assoc, append-nil, length-append, length-drop, take-append-drop, arith}
-use Rattle.std.specs.Prelude.{flat_map, Option}
+use Rattle.std.proofs.Common.{◌≡◌, ◌≢◌, ℕ, zero, suc, ◌+◌, ◌-◌, ◌≤◌, inl, inr, List, [], ◌∷◌, ◌++◌, length, take, drop}
+use Rattle.std.proofs.Common.{refl, sym, ap, ◌∙◌, subst, append_assoc, append-nil, length-append, take-append-drop, arith}
+use Rattle.std.specs.Prelude.{flat_map, Option, None, Some}
 use Rattle.std.proofs.lemmas.Grind.{flat_map-append}
 use Rattle.std.proofs.lemmas.List.{take_rest}
 use Rattle.std.proofs.lemmas.List.Sums.{fold-append}
 use Rattle.receipt_core.specs.Acceptance.{Meaning}
 use Rattle.replica_core.specs.Absorbing.{with_entries, with_entry}
 use Rattle.replica_core.specs.declared.entry.Entry.{Entry}
+use Rattle.replica_core.specs.declared.error.SyncError.{SyncError}
 use Rattle.replica_core.specs.declared.entry.Entry.TheVariants.{Record, Receipt as AReceipt}
 use Rattle.replica_core.proofs.UnwelcomeFacts.{all-push}
 use Rattle.replica_texts.specs.SoleLines.{IsWellFormed}
 use Rattle.replica_journal.specs.Journal.{entry_text}
 use Rattle.replica_sync.specs.PulledPieces.{AreAlone, AreNewInTurn, Journals, JournalsAll, JournalsEntry, PulledPiece}
-use Rattle.replica_sync.specs.PullSessions.{EndsInFeed, HasPulledAbout, IsOverPulling, PullsLines, TakesBytes, TakesLines, TakesNoMore, due_have}
+use Rattle.replica_sync.specs.PullSessions.{EndsInFeed, HasPulledAbout, PullsLines, StopsNow, fault_of_pulling}
 use Rattle.replica_sync.specs.declared.piece_pulling.Pulling.{Pulling}
 use Rattle.replica_sync.proofs.PulledPieceFacts.{bytes_more}
 
@@ -76,29 +77,35 @@ abbrev pub PullsPiece : Pulling → PulledPiece → Pulling → Type 0
 PullsPiece before c after = (plan : Option (List ℕ)) (start : Meaning) (came : List PulledPiece) (written : List ℕ) → c.old.config ≡ start.config
     → HasPulledAbout plan before start came written → HasPulledAbout plan after start (came ++ c ∷ []) written
 
+-- what a call finds in the piece that returns an error
+abbrev pub FindsFault : Pulling → PulledPiece → Pulling → Type 0
+FindsFault before c after = (e : SyncError) → fault_of_pulling before ≡ None → fault_of_pulling after ≡ Some e
+    → (plan : Option (List ℕ)) (start : Meaning) (came : List PulledPiece) (written : List ℕ) → c.old.config ≡ start.config
+    → HasPulledAbout plan before start came written → StopsNow plan start came c written e
+
 -- the same, by its parts
 abbrev pub Lines : Pulling → Meaning → List ℕ → Pulling → Meaning → Type 0
 Lines before old bytes after new = PullsLines before (record { bytes = bytes; old = old; new = new }) after
 
--- No line is taken.
-pub pulls_none : (p : Pulling) (m : Meaning) → Lines p m [] p m
-pulls_none p m = record {
-  pieces = [];
-  whole = refl;
-  alone = refl;
-  pulls = λ plan start came written same h. subst (λ (l : List PulledPiece). HasPulledAbout plan p start l written) (sym (append-nil came)) h;
-}
-
 -- One more line is taken.
 pub pulls_more : (p then q : Pulling) (old mid : Meaning) (bytes : List ℕ) (c : PulledPiece) → Lines p old bytes then mid
-    → c.old ≡ mid → mid.config ≡ old.config → PullsPiece then c q → Lines p old (bytes ++ c.bytes) q c.new
-pulls_more p then q old mid bytes c all at same one = record {
+    → c.old ≡ mid → mid.config ≡ old.config → (fault_of_pulling p ≡ None → fault_of_pulling then ≡ None)
+    → PullsPiece then c q → FindsFault then c q → Lines p old (bytes ++ c.bytes) q c.new
+pulls_more p then q old mid bytes c all at same calm one finds = record {
   pieces = all.pieces ++ c ∷ [];
   whole = bytes_more all.pieces c ∙ ap (λ (l : List ℕ). l ++ c.bytes) all.whole;
   alone = alone_more old mid all.pieces c all.alone at;
   pulls = λ plan start came written own h.
       subst (λ (l : List PulledPiece). HasPulledAbout plan q start l written) (append_assoc came all.pieces (c ∷ []))
       (one plan start (came ++ all.pieces) written (ap (λ (m : Meaning). m.config) at ∙ same ∙ own) (all.pulls plan start came written own h));
+  stops = λ e sound stopped. record {
+    front = all.pieces;
+    last = c;
+    order = refl;
+    stops = λ plan start came written own h.
+        finds e (calm sound) stopped plan start (came ++ all.pieces) written (ap (λ (m : Meaning). m.config) at ∙ same ∙ own)
+        (all.pulls plan start came written own h);
+  };
 }
 
 -- ---- the bytes
@@ -115,26 +122,6 @@ take_both (suc n) k (x ∷ piece) few =
 pub no_feed : EndsInFeed [] → ⊥
 no_feed (before, same) = let longer = ap length same in let parts = length-append before (10 ∷ []) in omega (arith, longer, parts)
 
--- Why a call took nothing of some bytes.
-why_none : (p : Pulling) → TakesNoMore [] p → (0 < length (due_have p)) ⊎ IsOverPulling p
-why_none p (inl feed) = absurd (no_feed feed)
-why_none p (inr rest) = rest
-
--- If the last call took nothing, or reached the end, no more is taken.
-pub takes_all : (piece : List ℕ) (p : Pulling) (used more : ℕ) → used ≤ length piece → TakesBytes (drop used piece) p more
-    → (more ≡ 0) ⊎ (used + more ≡ length piece) → TakesLines piece p (used + more)
-takes_all piece p used more few took (inr all) = record {
-  within = omega (arith, all);
-  fewer = λ less. absurd (omega (arith, less, all));
-}
-takes_all piece p used more few took (inl none) =
-    let left = length-drop used piece in
-    record {
-      within = omega (arith, none, few);
-      fewer = λ less. why_none p
-          (subst (λ (n : ℕ). TakesNoMore (take n (drop used piece)) p) none (took.fewer (omega (arith, less, none, left))));
-    }
-
 -- After the lines so far the configuration is the same.
 pub config_then : (old mid : Meaning) (before then : List ℕ) → JournalsAll old mid before then → mid.config ≡ old.config
 config_then old mid before then all = ap (λ (m : Meaning). m.config) all.meaning ∙ config_same all.entries old
@@ -145,19 +132,23 @@ rest_of piece used = take (length piece - used) (drop used piece)
 
 -- What a call does that ends with an error.
 pub pulls_stop : (p then q : Pulling) (old mid new : Meaning) (piece : List ℕ) (used : ℕ) → Lines p old (take used piece) then mid
-    → mid.config ≡ old.config → PullsPiece then (record { bytes = rest_of piece used; old = mid; new = new }) q
+    → mid.config ≡ old.config → (fault_of_pulling p ≡ None → fault_of_pulling then ≡ None)
+    → PullsPiece then (record { bytes = rest_of piece used; old = mid; new = new }) q
+    → FindsFault then (record { bytes = rest_of piece used; old = mid; new = new }) q
     → Lines p old piece q new
-pulls_stop p then q old mid new piece used all same one =
+pulls_stop p then q old mid new piece used all same calm one finds =
     subst (λ (l : List ℕ). Lines p old l q new)
     (ap (λ (l : List ℕ). take used piece ++ l) (take_rest piece used) ∙ take-append-drop used piece)
-    (pulls_more p then q old mid (take used piece) (record { bytes = rest_of piece used; old = mid; new = new }) all refl same one)
+    (pulls_more p then q old mid (take used piece) (record { bytes = rest_of piece used; old = mid; new = new }) all refl same calm one finds)
 
 -- What a call does that takes some bytes more.
 pub pulls_on : (p then q : Pulling) (old mid new : Meaning) (piece : List ℕ) (used more : ℕ) → used ≤ length piece
     → Lines p old (take used piece) then mid → mid.config ≡ old.config
+    → (fault_of_pulling p ≡ None → fault_of_pulling then ≡ None) → fault_of_pulling q ≡ None
     → PullsPiece then (record { bytes = take more (rest_of piece used); old = mid; new = new }) q
     → Lines p old (take (used + more) piece) q new
-pulls_on p then q old mid new piece used more few all same one =
+pulls_on p then q old mid new piece used more few all same calm sound one =
     subst (λ (l : List ℕ). Lines p old l q new)
     (ap (λ (l : List ℕ). take used piece ++ take more l) (take_rest piece used) ∙ take_both used more piece few)
-    (pulls_more p then q old mid (take used piece) (record { bytes = take more (rest_of piece used); old = mid; new = new }) all refl same one)
+    (pulls_more p then q old mid (take used piece) (record { bytes = take more (rest_of piece used); old = mid; new = new }) all refl same calm one
+    (λ e before stopped. absurd (cc)))

@@ -1,20 +1,22 @@
 -- What one call does to a session that pulls.
-use Rattle.std.proofs.Common.{◌≡◌, ℕ, zero, suc, ◌+◌, ◌-◌, ◌<◌, ◌≤◌, ◌⊎◌, inl, inr, Bool, true, false, List, [], ◌∷◌, ◌++◌, length, take, drop}
+use Rattle.std.proofs.Common.{◌≡◌, ◌≢◌, ℕ, zero, suc, ◌+◌, ◌-◌, ◌<◌, ◌≤◌, ◌⊎◌, inl, inr, Bool, true, false, if◌then◌else◌, List, [], ◌∷◌, ◌++◌}
+use Rattle.std.proofs.Common.{length, take, drop}
 use Rattle.std.proofs.Common.{Option, None, Some, refl, sym, ap, ◌∙◌, subst, append_assoc, append-nil, length-append, take-append-drop, length-take, arith}
 use Rattle.std.specs.List.{flat_map}
 use Rattle.std.specs.Prelude.{◌↔◌, MatchOption}
 use Rattle.std.proofs.lemmas.Bool.{cases_eq}
 use Rattle.std.proofs.lemmas.List.{take_all}
+use Rattle.std.proofs.lemmas.List.Elements.{All-append, All-nil}
 use Rattle.fed_config.specs.Configuration.{Configuration}
 use Rattle.receipt_core.specs.Acceptance.{Meaning}
 use Rattle.byte_lines.specs.Limits.{line_limit}
-use Rattle.byte_lines.specs.Lines.{HasLine}
+use Rattle.byte_lines.specs.Lines.{HasLine, HasNoFeed}
 use Rattle.replica_core.specs.Session.{have_of}
 use Rattle.replica_core.specs.State.{State, no_state}
 use Rattle.replica_core.specs.declared.error.SyncError.{SyncError}
 use Rattle.replica_core.specs.declared.error.SyncError.TheVariants.{BadHeader, ConfigDiffers, VersionDiffers, NotCanonical, NotRising, BadCount, Truncated}
 use Rattle.replica_core.specs.declared.error.SyncError.TheVariants.{Refused, Io, NoMemory}
-use Rattle.replica_texts.specs.Entries.{RefusesEntryLine, placed_line}
+use Rattle.replica_texts.specs.Entries.{PlacedLine, RefusesEntryLine, placed_line}
 use Rattle.replica_texts.specs.FirstLines.{Expected, RefusesGiveLine}
 use Rattle.replica_sync.specs.Pulling.{IsGiveAbout}
 use Rattle.replica_texts.specs.Gives.{GiveBegins, Heads, RefusesHead, RefusesNextEntry, Wants, content_lines, next_entry_number}
@@ -27,14 +29,14 @@ use Rattle.replica_sync.specs.Pieces.{EndsLine, piece_run}
 use Rattle.replica_sync.specs.Plans.{answered_of, bucket_at, asked_count, plan_of}
 use Rattle.replica_sync.specs.PulledPieces.{IsPulledGive, PulledGive, PulledGives, PulledPiece, bytes_pulled, lines_pulled, receipts_pulled}
 use Rattle.replica_sync.specs.PullSessions.{ContinuesPulling, HasLinesOf, HasNoLineOf, HasPartOf, PullsPieces, StopsAnswer}
-use Rattle.replica_sync.specs.PullSessions.{EndsInFeed, StopsAsking, StopsInGive, refused_where}
+use Rattle.replica_sync.specs.PullSessions.{EndsInFeed, StopsAsking, StopsAt, StopsInGive, StopsNow, refused_where}
 use Rattle.replica_sync.specs.Inside.AnswerSteps.{HasNoLines, HasSameCountsBut}
 use Rattle.replica_sync.specs.Inside.AnswerSteps.{Asks, EndsAnswer, FailsPulled, ContinuesAfter, IsNextAt, LineLeft, PassesOn, PullState, RefusesAnswerLine}
 use Rattle.replica_sync.specs.Inside.AnswerSteps.{RefusesAsking, RefusesEnded, RefusesLong, RefusesPulled, StaysWithin, TakesAnswerLine, TakesPulled, WaitsOn}
 use Rattle.replica_sync.specs.Inside.NextLines.{IsNextOf, RefusesHere}
 use Rattle.replica_sync.specs.declared.answer_lines.AnswerLines.{AnswerLines}
 use Rattle.replica_sync.proofs.CutFacts.{ended_split}
-use Rattle.replica_sync.proofs.ServedPieceFacts.{overlong_line}
+use Rattle.replica_sync.proofs.FeedSearch.{feed_after, overlong_now}
 use Rattle.replica_sync.proofs.PulledPieceFacts.{LinesCame, answer_whole, asked_more, bytes_more, give_with, haves_whole, line_came, lines_then}
 use Rattle.replica_sync.proofs.PulledPieceFacts.{part_within, pulled_more, receipts_more, takes_quiet, whole_more}
 
@@ -431,16 +433,16 @@ next_line receipts zero some = record {
 }
 next_line receipts (suc records) some = record { wanted = Records; receipts_then = receipts; records_then = records; order = (omega arith, refl) }
 
--- the stream from the kept bytes on, as soon as a line feed comes
-abbrev pub stream_at : List ℕ → List ℕ → List ℕ → List ℕ → List ℕ
-stream_at kept piece more after = (kept ++ piece) ++ (more ++ (10 ∷ after))
+-- the stream from the kept bytes on
+abbrev pub stream_at : List ℕ → List ℕ → List ℕ → List ℕ
+stream_at kept piece tail = (kept ++ piece) ++ tail
 
 -- A beginning of an answer is one of a longer stream.
-begins_on : (m : Meaning) (config : Configuration) (lines : AnswerLines) (before : ℕ) (later : List PulledPiece) (kept piece more after : List ℕ)
+begins_on : (m : Meaning) (config : Configuration) (lines : AnswerLines) (before : ℕ) (later : List PulledPiece) (kept piece tail : List ℕ)
     → m.config ≡ config → (some : HasLinesOf config lines before later kept)
-    → GiveBegins (wish_of m lines.bucket) (Some (stream_at (bytes_pulled later) piece more after)) some.count some.distrusts some.content
-    (Some (stream_at kept piece more after))
-begins_on m config lines before later kept piece more after own some =
+    → GiveBegins (wish_of m lines.bucket) (Some (stream_at (bytes_pulled later) piece tail)) some.count some.distrusts some.content
+    (Some (stream_at kept piece tail))
+begins_on m config lines before later kept piece tail own some =
     let first = some.begins.first in
     let body = ended first ++ text_of_lines (content_lines some.content) in
     record {
@@ -448,21 +450,21 @@ begins_on m config lines before later kept piece more after own some =
       heads = subst (λ (k : Configuration). Heads (Some (record { config = k; bucket = lines.bucket })) first some.count some.distrusts) (sym own)
           some.begins.heads;
       begun = some.begins.begun;
-      text = ap (λ (l : List ℕ). (l ++ piece) ++ (more ++ (10 ∷ after))) some.begins.text
-          ∙ ap (λ (l : List ℕ). l ++ (more ++ (10 ∷ after))) (append_assoc body kept piece)
-          ∙ append_assoc body (kept ++ piece) (more ++ (10 ∷ after));
+      text = ap (λ (l : List ℕ). (l ++ piece) ++ tail) some.begins.text
+          ∙ ap (λ (l : List ℕ). l ++ tail) (append_assoc body kept piece)
+          ∙ append_assoc body (kept ++ piece) tail;
     }
 
 -- Out of memory stops an answer anywhere.
-memory_stops : (m : Meaning) (config : Configuration) (lines : AnswerLines) (before : ℕ) (later : List PulledPiece) (kept piece more after : List ℕ)
+memory_stops : (m : Meaning) (config : Configuration) (lines : AnswerLines) (before : ℕ) (later : List PulledPiece) (kept piece tail : List ℕ)
     → m.config ≡ config → (some : HasLinesOf config lines before later kept)
-    → StopsAnswer m lines.bucket (before + 1) some.content (Some (stream_at (bytes_pulled later) piece more after)) NoMemory
-memory_stops m config lines before later kept piece more after own some = inr (record {
+    → StopsAnswer m lines.bucket (before + 1) some.content (Some (stream_at (bytes_pulled later) piece tail)) NoMemory
+memory_stops m config lines before later kept piece tail own some = inr (record {
   count = some.count;
   distrusts = some.distrusts;
-  further = Some (stream_at kept piece more after);
+  further = Some (stream_at kept piece tail);
   after = None;
-  begins = begins_on m config lines before later kept piece more after own some;
+  begins = begins_on m config lines before later kept piece tail own some;
   cause = tt;
 })
 
@@ -471,38 +473,38 @@ abbrev pub RefusesLine : PullState → List ℕ → SyncError → Type 0
 RefusesLine old piece e = (e ≡ NoMemory) ⊎ (RefusesLong old piece e ⊎ RefusesEnded old piece e)
 
 -- The first line of an answer is not taken.
-none_stops : (old : PullState) (config : Configuration) (before : ℕ) (later : List PulledPiece) (piece more after : List ℕ) (e : SyncError)
-    → HasNoLineOf old.lines before later old.kept → RefusesLine old piece e
-    → StopsAnswer old.held old.lines.bucket (before + 1) no_state (Some (stream_at (bytes_pulled later) piece more after)) e
-none_stops old config before later piece more after e none (inl out) = inl (record {
+none_stops : (old : PullState) (config : Configuration) (before : ℕ) (later : List PulledPiece) (piece tail : List ℕ) (e : SyncError)
+    → HasNoLineOf old.lines before later old.kept → (HasNoFeed (piece ++ tail) → ⊥) → RefusesLine old piece e
+    → StopsAnswer old.held old.lines.bucket (before + 1) no_state (Some (stream_at (bytes_pulled later) piece tail)) e
+none_stops old config before later piece tail e none feed (inl out) = inl (record {
   after = None;
-  cause = subst (RefusesHead (wish_of old.held old.lines.bucket) (Some (stream_at (bytes_pulled later) piece more after)) None) (sym out) tt;
+  cause = subst (RefusesHead (wish_of old.held old.lines.bucket) (Some (stream_at (bytes_pulled later) piece tail)) None) (sym out) tt;
   none = refl;
 })
-none_stops old config before later piece more after e none (inr (inl long)) =
+none_stops old config before later piece tail e none feed (inr (inl long)) =
     elim long.cause [
       | inl header ↦
-          let line = overlong_line old.kept piece long.over more after in
-          let parts : stream_at (bytes_pulled later) piece more after ≡ (line.text ++ (10 ∷ [])) ++ line.rest =
-          ap (λ (l : List ℕ). stream_at l piece more after) none.bytes ∙ line.parts in
+          let line = overlong_now old.kept piece tail long.over feed in
+          let parts : stream_at (bytes_pulled later) piece tail ≡ (line.text ++ (10 ∷ [])) ++ line.rest =
+          ap (λ (l : List ℕ). stream_at l piece tail) none.bytes ∙ line.parts in
           inl (record {
             after = Some line.rest;
-            cause = subst (RefusesHead (wish_of old.held old.lines.bucket) (Some (stream_at (bytes_pulled later) piece more after)) (Some line.rest))
+            cause = subst (RefusesHead (wish_of old.held old.lines.bucket) (Some (stream_at (bytes_pulled later) piece tail)) (Some line.rest))
                 (sym header.1) (record { text = line.text; is = (line.plain, parts); cause = inl (refl, line.long) });
             none = refl;
           })
       | inr begun ↦ absurd (let a = none.none in let b = begun.0 in cc)
     ]
-none_stops old config before later piece more after e none (inr (inr ended)) =
+none_stops old config before later piece tail e none feed (inr (inr ended)) =
     elim ended.cause [
       | inl first ↦
-          let rest = drop ended.used piece ++ (more ++ (10 ∷ after)) in
-          let parts : stream_at (bytes_pulled later) piece more after ≡ (ended.text ++ (10 ∷ [])) ++ rest =
-          ap (λ (l : List ℕ). stream_at l piece more after) none.bytes
-          ∙ ended_split ended.used old.kept piece (more ++ (10 ∷ after)) ended.text ended.ends.parts in
+          let rest = drop ended.used piece ++ tail in
+          let parts : stream_at (bytes_pulled later) piece tail ≡ (ended.text ++ (10 ∷ [])) ++ rest =
+          ap (λ (l : List ℕ). stream_at l piece tail) none.bytes
+          ∙ ended_split ended.used old.kept piece tail ended.text ended.ends.parts in
           inl (record {
             after = Some rest;
-            cause = first_fault old.held old.lines.bucket (Some (stream_at (bytes_pulled later) piece more after)) (Some rest) ended.text e
+            cause = first_fault old.held old.lines.bucket (Some (stream_at (bytes_pulled later) piece tail)) (Some rest) ended.text e
                 (ended.ends.plain, parts) ended.ends.short first.cause;
             none = refl;
           })
@@ -510,19 +512,19 @@ none_stops old config before later piece more after e none (inr (inr ended)) =
     ]
 
 -- A later line of an answer is not taken.
-some_stops : (old : PullState) (config : Configuration) (before : ℕ) (later : List PulledPiece) (piece more after : List ℕ) (e : SyncError)
+some_stops : (old : PullState) (config : Configuration) (before : ℕ) (later : List PulledPiece) (piece tail : List ℕ) (e : SyncError)
     → old.held.config ≡ config → 0 < old.lines.due.receipts + old.lines.due.records
-    → (some : HasLinesOf config old.lines before later old.kept) → RefusesLine old piece e
-    → StopsAnswer old.held old.lines.bucket (before + 1) some.content (Some (stream_at (bytes_pulled later) piece more after)) e
-some_stops old config before later piece more after e own due some (inl out) =
-    subst (StopsAnswer old.held old.lines.bucket (before + 1) some.content (Some (stream_at (bytes_pulled later) piece more after))) (sym out)
-    (memory_stops old.held config old.lines before later old.kept piece more after own some)
-some_stops old config before later piece more after e own due some (inr (inl long)) =
+    → (some : HasLinesOf config old.lines before later old.kept) → (HasNoFeed (piece ++ tail) → ⊥) → RefusesLine old piece e
+    → StopsAnswer old.held old.lines.bucket (before + 1) some.content (Some (stream_at (bytes_pulled later) piece tail)) e
+some_stops old config before later piece tail e own due some feed (inl out) =
+    subst (StopsAnswer old.held old.lines.bucket (before + 1) some.content (Some (stream_at (bytes_pulled later) piece tail))) (sym out)
+    (memory_stops old.held config old.lines before later old.kept piece tail own some)
+some_stops old config before later piece tail e own due some feed (inr (inl long)) =
     elim long.cause [
       | inl header ↦ absurd (let a = some.begun in let b = header.0 in cc)
       | inr begun ↦ elim begun.1 [
         | inl number ↦
-            let line = overlong_line old.kept piece long.over more after in
+            let line = overlong_now old.kept piece tail long.over feed in
             let next = next_line old.lines.due.receipts old.lines.due.records due in
             let w = wants next.wanted some.count some.distrusts some.content old.lines.due.receipts old.lines.due.records next.receipts_then
             next.records_then next.order some.receipts some.records in
@@ -531,23 +533,23 @@ some_stops old config before later piece more after e own due some (inr (inl lon
             inr (record {
               count = some.count;
               distrusts = some.distrusts;
-              further = Some (stream_at old.kept piece more after);
+              further = Some (stream_at old.kept piece tail);
               after = Some line.rest;
-              begins = begins_on old.held config old.lines before later old.kept piece more after own some;
+              begins = begins_on old.held config old.lines before later old.kept piece tail own some;
               cause = subst (RefusesNextEntry (refused_where old.held (before + 1) some.content) some.count some.distrusts some.content
-                  (Some (stream_at old.kept piece more after)) (Some line.rest)) (sym number)
+                  (Some (stream_at old.kept piece tail)) (Some line.rest)) (sym number)
                   (record { wanted = next.wanted; wants = w; text = line.text; is = (line.plain, line.parts); cause = (at, inl line.long) });
             })
         | inr out ↦
-            subst (StopsAnswer old.held old.lines.bucket (before + 1) some.content (Some (stream_at (bytes_pulled later) piece more after))) (sym out)
-            (memory_stops old.held config old.lines before later old.kept piece more after own some)
+            subst (StopsAnswer old.held old.lines.bucket (before + 1) some.content (Some (stream_at (bytes_pulled later) piece tail))) (sym out)
+            (memory_stops old.held config old.lines before later old.kept piece tail own some)
       ]
     ]
-some_stops old config before later piece more after e own due some (inr (inr ended)) =
+some_stops old config before later piece tail e own due some feed (inr (inr ended)) =
     elim ended.cause [
       | inl first ↦ absurd (let a = some.begun in let b = first.none in cc)
       | inr entry ↦
-          let rest = drop ended.used piece ++ (more ++ (10 ∷ after)) in
+          let rest = drop ended.used piece ++ tail in
           let w = wants entry.wanted some.count some.distrusts some.content old.lines.due.receipts old.lines.due.records entry.receipts
           entry.records entry.order some.receipts some.records in
           let read = some.read in
@@ -555,54 +557,159 @@ some_stops old config before later piece more after e own due some (inr (inr end
           inr (record {
             count = some.count;
             distrusts = some.distrusts;
-            further = Some (stream_at old.kept piece more after);
+            further = Some (stream_at old.kept piece tail);
             after = Some rest;
-            begins = begins_on old.held config old.lines before later old.kept piece more after own some;
-            cause = here_fault old.held (before + 1) some.count some.distrusts some.content entry.wanted (Some (stream_at old.kept piece more after))
+            begins = begins_on old.held config old.lines before later old.kept piece tail own some;
+            cause = here_fault old.held (before + 1) some.count some.distrusts some.content entry.wanted (Some (stream_at old.kept piece tail))
                 (Some rest) old.lines.last.items ended.text (old.lines.read + 1) e w
-                (ended.ends.plain, ended_split ended.used old.kept piece (more ++ (10 ∷ after)) ended.text ended.ends.parts) some.last at entry.cause;
+                (ended.ends.plain, ended_split ended.used old.kept piece tail ended.text ended.ends.parts) some.last at entry.cause;
           })
     ]
 
+-- ---- or the stream is cut
+
+-- Without a line feed no line comes after what is kept.
+none_after : (kept piece tail : List ℕ) → HasNoFeed kept → HasNoFeed (piece ++ tail) → HasNoFeed (stream_at kept piece tail)
+none_after kept piece tail plain none =
+    subst HasNoFeed (sym (append_assoc kept piece tail)) (All-append (λ (b : ℕ). b ≢ 10) kept (piece ++ tail) plain none)
+
+-- The stream ends before the first line of an answer does.
+none_cuts : (old : PullState) (before : ℕ) (later : List PulledPiece) (piece tail : List ℕ)
+    → HasNoLineOf old.lines before later old.kept → HasNoFeed old.kept → HasNoFeed (piece ++ tail)
+    → StopsAnswer old.held old.lines.bucket (before + 1) no_state (Some (stream_at (bytes_pulled later) piece tail)) Truncated
+none_cuts old before later piece tail none plain ends = inl (record {
+  after = None;
+  cause = subst HasNoFeed (ap (λ (l : List ℕ). stream_at l piece tail) (sym none.bytes)) (none_after old.kept piece tail plain ends);
+  none = refl;
+})
+
+-- It ends before a later line does.
+some_cuts : (old : PullState) (config : Configuration) (before : ℕ) (later : List PulledPiece) (piece tail : List ℕ)
+    → old.held.config ≡ config → 0 < old.lines.due.receipts + old.lines.due.records
+    → (some : HasLinesOf config old.lines before later old.kept) → HasNoFeed old.kept → HasNoFeed (piece ++ tail)
+    → StopsAnswer old.held old.lines.bucket (before + 1) some.content (Some (stream_at (bytes_pulled later) piece tail)) Truncated
+some_cuts old config before later piece tail own due some plain ends =
+    let next = next_line old.lines.due.receipts old.lines.due.records due in
+    inr (record {
+      count = some.count;
+      distrusts = some.distrusts;
+      further = Some (stream_at old.kept piece tail);
+      after = None;
+      begins = begins_on old.held config old.lines before later old.kept piece tail own some;
+      cause = record {
+        wanted = next.wanted;
+        wants = wants next.wanted some.count some.distrusts some.content old.lines.due.receipts old.lines.due.records next.receipts_then
+            next.records_then next.order some.receipts some.records;
+        ends = none_after old.kept piece tail plain ends;
+      };
+    })
+
+-- what is kept of a line: it has no line feed, and is not too long
+pub record IsShortPart (kept : List ℕ) : Type 0 where
+  pub plain : HasNoFeed kept
+  pub short : length kept ≤ line_limit
+
+-- A piece that has an error has a byte, unless memory ran out.
+refused_some : (old : PullState) (piece : List ℕ) (e : SyncError) → IsShortPart old.kept → RefusesLine old piece e
+    → (e ≡ NoMemory) ⊎ (0 < length piece)
+refused_some old piece e part (inl out) = inl out
+refused_some old piece e part (inr (inl long)) =
+    let short = part.short in
+    let over = long.over.long in
+    let size = ap length long.over.parts in
+    let left = length-append old.kept piece in
+    let right = length-append long.over.text long.over.rest in
+    inr (omega (arith, short, over, size, left, right))
+refused_some old piece e part (inr (inr ended)) =
+    let within = ended.ends.within in
+    let some = ended.ends.some in
+    inr (omega (arith, within, some))
+
+-- If memory ran out or a line has an error, no device failed.
+line_own : (m : Meaning) (line : PlacedLine) (e : SyncError) → RefusesEntryLine m line e → e ≢ Io
+line_own m line e why same = absurd (subst (RefusesEntryLine m line) same why)
+
+head_own : (expected : Option Expected) (text : List ℕ) (e : SyncError) → RefusesGiveLine expected text e → e ≢ Io
+head_own expected text e why same = absurd (subst (RefusesGiveLine expected text) same why)
+
+refused_own : (old : PullState) (piece : List ℕ) (e : SyncError) → RefusesLine old piece e → e ≢ Io
+refused_own old piece e (inl out) same = absurd (cc)
+refused_own old piece e (inr (inl long)) same = elim long.cause [
+  | inl header ↦ absurd (let a = header.1 in cc)
+  | inr begun ↦ elim begun.1 [ inl number ↦ absurd (cc) | inr out ↦ absurd (cc) ]
+]
+refused_own old piece e (inr (inr ended)) same = elim ended.cause [
+  | inl first ↦ head_own _ ended.text e first.cause same
+  | inr entry ↦ elim entry.cause [ inl out ↦ absurd (cc) | inr why ↦ line_own old.held _ e why same ]
+]
+
+-- what a buffer of a line keeps
+pub short_part : (ended : Bool) (line : List ℕ) (most : ℕ) → most ≡ line_limit → length line ≤ most → HasNoFeed line
+    → IsShortPart (if ended then [] else line)
+short_part true line most is within plain = record { plain = All-nil (λ (b : ℕ). b ≢ 10); short = omega arith }
+short_part false line most is within plain = record { plain = plain; short = omega (arith, is, within) }
+
 -- A line is not taken.
-refused_piece : (plan : Option (List ℕ)) (start : Meaning) (came : List PulledPiece) (old new : PullState) (piece output : List ℕ) (e : SyncError)
+pub refused_at : (plan : Option (List ℕ)) (start : Meaning) (came : List PulledPiece) (old new : PullState) (piece output : List ℕ) (e : SyncError)
     → old.held.config ≡ start.config → (old.lines.is_begun ≡ true → 0 < old.lines.due.receipts + old.lines.due.records)
-    → RefusesPulled old piece new e → ContinuesPulling plan (answered_of old.asked) old.lines start came old.kept output
-    → StopsInGive plan start (came ++ piece_at piece old new ∷ []) output e
-refused_piece plan start came old new piece output e own due refused on =
-    let c = piece_at piece old new in
+    → IsShortPart old.kept → RefusesPulled old piece new e → ContinuesPulling plan (answered_of old.asked) old.lines start came old.kept output
+    → StopsAt plan start came (piece_at piece old new) output e
+refused_at plan start came old new piece output e own due kept refused on =
     elim on.part [
       | inl none ↦ record {
         gives = on.gives;
         part = on.later;
-        last = c;
-        later = [];
-        whole = pulled_more plan start came on.gives on.later c on.whole;
+        whole = on.whole;
         few = on.few;
         content = no_state;
         takes = none.takes;
-        quiet = (refused.same, tt);
-        cause = λ more after.
-            subst (λ (b : ℕ). StopsAnswer old.held b (lines_pulled on.gives + 1) no_state (Some (stream_at (bytes_pulled on.later) piece more after)) e)
-            on.bucket (none_stops old start.config (lines_pulled on.gives) on.later piece more after e none refused.cause);
+        quiet = refused.same;
+        some = refused_some old piece e kept refused.cause;
+        cause = λ tail feed.
+            subst (λ (b : ℕ). StopsAnswer old.held b (lines_pulled on.gives + 1) no_state (Some (stream_at (bytes_pulled on.later) piece tail)) e)
+            on.bucket (none_stops old start.config (lines_pulled on.gives) on.later piece tail e none feed refused.cause);
+        cut = λ tail ends.
+            subst (λ (b : ℕ). StopsAnswer old.held b (lines_pulled on.gives + 1) no_state (Some (stream_at (bytes_pulled on.later) piece tail)) Truncated)
+            on.bucket (none_cuts old (lines_pulled on.gives) on.later piece tail none kept.plain ends);
+        own = refused_own old piece e refused.cause;
         asked = on.asked;
       }
       | inr some ↦ record {
         gives = on.gives;
         part = on.later;
-        last = c;
-        later = [];
-        whole = pulled_more plan start came on.gives on.later c on.whole;
+        whole = on.whole;
         few = on.few;
         content = some.content;
         takes = some.takes;
-        quiet = (refused.same, tt);
-        cause = λ more after.
-            subst (λ (b : ℕ). StopsAnswer old.held b (lines_pulled on.gives + 1) some.content (Some (stream_at (bytes_pulled on.later) piece more after)) e)
-            on.bucket (some_stops old start.config (lines_pulled on.gives) on.later piece more after e own (due some.begun) some refused.cause);
+        quiet = refused.same;
+        some = refused_some old piece e kept refused.cause;
+        cause = λ tail feed.
+            subst (λ (b : ℕ). StopsAnswer old.held b (lines_pulled on.gives + 1) some.content (Some (stream_at (bytes_pulled on.later) piece tail)) e)
+            on.bucket (some_stops old start.config (lines_pulled on.gives) on.later piece tail e own (due some.begun) some feed refused.cause);
+        cut = λ tail ends.
+            subst (λ (b : ℕ). StopsAnswer old.held b (lines_pulled on.gives + 1) some.content (Some (stream_at (bytes_pulled on.later) piece tail)) Truncated)
+            on.bucket (some_cuts old start.config (lines_pulled on.gives) on.later piece tail own (due some.begun) some kept.plain ends);
+        own = refused_own old piece e refused.cause;
         asked = on.asked;
       }
     ]
+
+-- So the session ends at a line feed that comes.
+unfoldable pub at_feed : (plan : Option (List ℕ)) (start : Meaning) (came : List PulledPiece) (c : PulledPiece) (output : List ℕ) (e : SyncError)
+    → StopsAt plan start came c output e → StopsInGive plan start (came ++ c ∷ []) output e
+at_feed plan start came c output e stops = record {
+  gives = stops.gives;
+  part = stops.part;
+  last = c;
+  later = [];
+  whole = pulled_more plan start came stops.gives stops.part c stops.whole;
+  few = stops.few;
+  content = stops.content;
+  takes = stops.takes;
+  quiet = (stops.quiet, tt);
+  cause = λ more after. stops.cause (more ++ (10 ∷ after)) (λ none. feed_after c.bytes more after none);
+  asked = stops.asked;
+}
 
 -- An answer is taken whole, and the next have is not made.
 refused_asking : (plan : Option (List ℕ)) (start : Meaning) (came : List PulledPiece) (old new : PullState) (piece output : List ℕ) (e : SyncError)
@@ -638,22 +745,29 @@ refused_asking plan start came old new piece output e is_plan own refused on =
       asked = on.asked;
     }
 
--- An error ends the session.
-pub pulled_stops : (plan : Option (List ℕ)) (start : Meaning) (came : List PulledPiece) (old new : PullState) (piece rest output : List ℕ) (e : SyncError)
+-- What a call finds that fails.
+pub stops_now : (plan : Option (List ℕ)) (start : Meaning) (came : List PulledPiece) (old new : PullState) (piece output : List ℕ) (e : SyncError)
     → plan_of old.asked ≡ plan → old.held.config ≡ start.config → (old.lines.is_begun ≡ true → 0 < old.lines.due.receipts + old.lines.due.records)
-    → FailsPulled old piece new e → ContinuesPulling plan (answered_of old.asked) old.lines start came old.kept output
-    → PullsPieces plan (Some e) (answered_of new.asked) new.lines start (came ++ piece_at piece old new ∷ []) rest output
-pulled_stops plan start came old new piece rest output e is_plan own due (inl refused) on =
-    inl (refused_piece plan start came old new piece output e own due refused on)
-pulled_stops plan start came old new piece rest output e is_plan own due (inr refused) on =
+    → IsShortPart old.kept → FailsPulled old piece new e → ContinuesPulling plan (answered_of old.asked) old.lines start came old.kept output
+    → StopsNow plan start came (piece_at piece old new) output e
+stops_now plan start came old new piece output e is_plan own due kept (inl refused) on =
+    inl (refused_at plan start came old new piece output e own due kept refused on)
+stops_now plan start came old new piece output e is_plan own due kept (inr refused) on =
     inr (refused_asking plan start came old new piece output e is_plan own refused on)
+
+-- An error ends the session.
+pub pulled_stops : (plan : Option (List ℕ)) (start : Meaning) (came : List PulledPiece) (c : PulledPiece) (answered : ℕ) (lines : AnswerLines)
+    (rest output : List ℕ) (e : SyncError)
+    → StopsNow plan start came c output e → PullsPieces plan (Some e) answered lines start (came ++ c ∷ []) rest output
+pulled_stops plan start came c answered lines rest output e (inl stops) = inl (at_feed plan start came c output e stops)
+pulled_stops plan start came c answered lines rest output e (inr stops) = inr stops
 
 -- ---- how many receipts were new
 
 -- One piece more counts what it brought.
-pub taken_more : (count then : ℕ) (came : List PulledPiece) (c : PulledPiece) → count ≡ receipts_pulled came
-    → then ≡ count + (length c.new.held - length c.old.held) → then ≡ receipts_pulled (came ++ c ∷ [])
-taken_more count then came c is brought = brought ∙ ap (λ (n : ℕ). n + (length c.new.held - length c.old.held)) is ∙ sym (receipts_more came c)
+pub taken_more : (count later : ℕ) (came : List PulledPiece) (c : PulledPiece) → count ≡ receipts_pulled came
+    → later ≡ count + (length c.new.held - length c.old.held) → later ≡ receipts_pulled (came ++ c ∷ [])
+taken_more count later came c is brought = brought ∙ ap (λ (n : ℕ). n + (length c.new.held - length c.old.held)) is ∙ sym (receipts_more came c)
 
 -- A piece that changes nothing brings nothing.
 pub taken_same : (count : ℕ) (came : List PulledPiece) (c : PulledPiece) → count ≡ receipts_pulled came → c.new ≡ c.old
@@ -685,6 +799,12 @@ none_left due later count is none = is ∙ ap (drop count) none ∙ drop_none co
 
 -- ---- a call
 
+-- Nothing is asked after the last answer.
+pub over_asks : (whole : Bool) (m : Meaning) (lines : AnswerLines) (due : List ℕ) → Asks m lines whole due → lines.bucket ≡ 256 → due ≡ []
+over_asks false m lines due none over = none
+over_asks true m lines due (inl none) over = none.1
+over_asks true m lines due (inr next) over = absurd (let below = next.0 in omega (arith, below, over))
+
 -- A call that takes a piece keeps the promise.
 pub read_took : (plan : Option (List ℕ)) (f g : Option SyncError) (start : Meaning) (came : List PulledPiece) (old new : PullState) (piece : List ℕ) (used : ℕ)
     (due later written : List ℕ) → plan_of old.asked ≡ plan → f ≡ None → g ≡ f → due ≡ [] → old.lines.bucket < 256
@@ -699,20 +819,39 @@ read_took plan None None start came old new piece used due later written is_plan
 read_took plan None (Some e) start came old new piece used due later written is_plan sound same idle more own takes pulls = absurd (cc)
 read_took plan (Some e) g start came old new piece used due later written is_plan sound same idle more own takes pulls = absurd (cc)
 
--- A call that returns an error keeps it.
-pub read_stopped : (plan : Option (List ℕ)) (f : Option SyncError) (e : SyncError) (start : Meaning) (came : List PulledPiece) (old new : PullState)
-    (piece rest due later written : List ℕ) → plan_of old.asked ≡ plan → f ≡ None → due ≡ [] → later ≡ [] → old.lines.bucket < 256
-    → old.held.config ≡ start.config → (old.lines.is_begun ≡ true → 0 < old.lines.due.receipts + old.lines.due.records) → FailsPulled old piece new e
+-- After the last answer nothing is to be written.
+pub over_idle : (old new : PullState) (piece : List ℕ) (used : ℕ) (due : List ℕ) → TakesPulled old piece used new due
+    → new.lines.bucket ≡ 256 → due ≡ []
+over_idle old new piece used due (inl stays) over = stays.none
+over_idle old new piece used due (inr ends) over = over_asks ends.whole new.held new.lines due ends.asks over
+
+-- A piece with a byte loses one at least.
+pub takes_some : (old new : PullState) (piece due : List ℕ) (used : ℕ) → TakesPulled old piece used new due → 0 < length piece → 0 < used
+takes_some old new piece due used (inl stays) some = let all = stays.all in omega (arith, all, some)
+takes_some old new piece due used (inr ends) some = ends.ends.some
+
+-- What a call finds that returns an error.
+pub read_finds : (plan : Option (List ℕ)) (f : Option SyncError) (e : SyncError) (start : Meaning) (came : List PulledPiece) (old new : PullState)
+    (piece due written : List ℕ) → plan_of old.asked ≡ plan → f ≡ None → due ≡ [] → old.lines.bucket < 256
+    → old.held.config ≡ start.config → (old.lines.is_begun ≡ true → 0 < old.lines.due.receipts + old.lines.due.records)
+    → IsShortPart old.kept → FailsPulled old piece new e
     → PullsPieces plan f (answered_of old.asked) old.lines start came old.kept (written ++ due)
-    → PullsPieces plan (Some e) (answered_of new.asked) new.lines start (came ++ piece_at piece old new ∷ []) rest (written ++ later)
-read_stopped plan None e start came old new piece rest due later written is_plan sound idle quiet more own some fails (inl on) =
-    subst (PullsPieces plan (Some e) (answered_of new.asked) new.lines start (came ++ piece_at piece old new ∷ []) rest)
-    (sym (append-nil written) ∙ ap (λ (l : List ℕ). written ++ l) (sym quiet))
-    (pulled_stops plan start came old new piece rest written e is_plan own some fails
-    (subst (ContinuesPulling plan (answered_of old.asked) old.lines start came old.kept) (ap (λ (l : List ℕ). written ++ l) idle ∙ append-nil written) on))
-read_stopped plan None e start came old new piece rest due later written is_plan sound idle quiet more own some fails (inr all) =
+    → StopsNow plan start came (piece_at piece old new) written e
+read_finds plan None e start came old new piece due written is_plan sound idle more own some kept fails (inl on) =
+    stops_now plan start came old new piece written e is_plan own some kept fails
+    (subst (ContinuesPulling plan (answered_of old.asked) old.lines start came old.kept) (ap (λ (l : List ℕ). written ++ l) idle ∙ append-nil written) on)
+read_finds plan None e start came old new piece due written is_plan sound idle more own some kept fails (inr all) =
     absurd (let bucket = all.bucket in omega (arith, bucket, more))
-read_stopped plan (Some d) e start came old new piece rest due later written is_plan sound idle quiet more own some fails pulls = absurd (cc)
+read_finds plan (Some d) e start came old new piece due written is_plan sound idle more own some kept fails pulls = absurd (cc)
+
+-- A call that returns an error keeps it.
+pub read_stopped : (plan : Option (List ℕ)) (start : Meaning) (came : List PulledPiece) (c : PulledPiece) (answered : ℕ) (lines : AnswerLines)
+    (rest later written : List ℕ) (e : SyncError) → later ≡ []
+    → StopsNow plan start came c written e → PullsPieces plan (Some e) answered lines start (came ++ c ∷ []) rest (written ++ later)
+read_stopped plan start came c answered lines rest later written e quiet stops =
+    subst (PullsPieces plan (Some e) answered lines start (came ++ c ∷ []) rest)
+    (sym (append-nil written) ∙ ap (λ (l : List ℕ). written ++ l) (sym quiet))
+    (pulled_stops plan start came c answered lines rest written e stops)
 
 -- A session that is not over waits for an answer.
 pub below_last : (over : Bool) (bucket : ℕ) → ((over ≡ true) ↔ (bucket ≡ 256)) → over ≡ false → bucket ≤ 256 → bucket < 256

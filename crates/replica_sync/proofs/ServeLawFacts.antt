@@ -180,7 +180,7 @@ serves_whole None m came rest written due sound none idle serves still =
 serves_whole (Some e) m came rest written due sound none idle serves still = absurd (cc)
 
 -- What is not empty has a byte.
-has_byte : (rest : List ℕ) → (rest ≡ [] → ⊥) → 0 < length rest
+pub has_byte : (rest : List ℕ) → (rest ≡ [] → ⊥) → 0 < length rest
 has_byte [] more = absurd (more refl)
 has_byte (b ∷ rest) more = omega arith
 

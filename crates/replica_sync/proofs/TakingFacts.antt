@@ -1,14 +1,11 @@
 -- The lines of an answer, taken one by one.
 use Rattle.std.proofs.Common.{◌≡◌, ℕ, ◌+◌, List, [], ◌∷◌, ◌++◌, length, refl, sym, ap, ◌∙◌, subst, arith, length-append}
 use Rattle.std.specs.List.Sorted.{IsStrictlySortedBy}
-use Rattle.receipt_core.specs.Receipt.{IsReceipt, IsDistrust, receipt_cmp, distrust_cmp}
-use Rattle.receipt_core.specs.Rising.{with_items}
-use Rattle.receipt_core.specs.Acceptance.{Meaning}
-use Rattle.replica_core.specs.State.{State, no_state, meaning_of_state}
+use Rattle.receipt_core.specs.Receipt.{IsReceipt, IsDistrust}
+use Rattle.replica_core.specs.State.{State, no_state}
 use Rattle.replica_core.proofs.RisingListFacts.{rising_nil}
 use Rattle.replica_texts.specs.Snapshots.{last_of}
 use Rattle.replica_texts.specs.Entries.{IsNextEntry, IsWanted}
-use Rattle.replica_core.specs.Absorbing.{with_entry}
 use Rattle.replica_core.specs.declared.entry.Entry.{Entry}
 use Rattle.replica_core.specs.declared.entry.Entry.TheVariants.{Record, Receipt as AReceipt}
 use Rattle.replica_texts.specs.declared.entry_line.Wanted.{Wanted}
@@ -16,25 +13,8 @@ use Rattle.replica_texts.specs.declared.entry_line.Wanted.TheVariants.{Records, 
 use Rattle.replica_texts.proofs.HeldFacts.{text_cmp, last_pushed}
 use Rattle.replica_texts.specs.Gives.{content_lines, IsBegun, IsContent, Wants}
 use Rattle.replica_texts.specs.Inside.Gathering.{pushed}
-use Rattle.replica_sync.specs.Inside.Taking.{meaning_gained}
 use Rattle.replica_sync.specs.Inside.NextLines.{IsNextOf}
-use Rattle.replica_texts.proofs.ContentFacts.{HasPlace, all_pushed, joined_one, lines_pushed, rising_pushed}
-
--- ---- what is held
-
--- To hold one more entry is to hold all that was gained and this.
-pub gained_pushed : (old : Meaning) (content : State) (entry : Entry)
-    → with_entry entry (meaning_gained old content) ≡ meaning_gained old (pushed entry content)
-gained_pushed old content (Record x) =
-    ap (λ records. meaning_of_state old.config
-    (record { held = with_items receipt_cmp content.held old.held; records = records }))
-    (sym (joined_one distrust_cmp content.records old.records x))
-gained_pushed old content (AReceipt r) =
-    ap (λ held. meaning_of_state old.config (record {
-      held = held;
-      records =
-          with_items distrust_cmp content.records old.records;
-    })) (sym (joined_one receipt_cmp content.held old.held r))
+use Rattle.replica_texts.proofs.ContentFacts.{HasPlace, all_pushed, lines_pushed, rising_pushed}
 
 -- ---- this much of an answer
 

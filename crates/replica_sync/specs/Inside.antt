@@ -3,6 +3,7 @@ pub mod NextLines
 pub mod NewEntries
 pub mod AnswerSteps
 pub mod Waiting
-pub mod Taking
+pub mod LineErrors
+pub mod Driving
 pub mod Serving
 pub mod ServingSteps

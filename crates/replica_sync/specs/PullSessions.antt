@@ -2,13 +2,14 @@
 -- what is held may change between two of them.
 use Rattle.std.specs.Prelude.{◌≡◌, ◌≢◌, ℕ, ◌+◌, ◌<◌, ◌⊎◌, List, [], ◌∷◌, ◌++◌, length, flat_map}
 use Rattle.std.specs.Prelude.{◌≤◌, take, drop, Option, None, Some, true, false}
+use Rattle.byte_lines.specs.Lines.{HasNoFeed}
 use Rattle.fed_config.specs.Configuration.{Configuration}
 use Rattle.receipt_core.specs.Acceptance.{Meaning}
 use Rattle.replica_core.specs.Absorbing.{entries_of}
 use Rattle.replica_core.specs.Session.{GiveMessage}
 use Rattle.replica_core.specs.State.{State}
 use Rattle.replica_core.specs.declared.error.SyncError.{SyncError}
-use Rattle.replica_core.specs.declared.error.SyncError.TheVariants.{NoMemory}
+use Rattle.replica_core.specs.declared.error.SyncError.TheVariants.{Io, NoMemory, Truncated}
 use Rattle.replica_texts.specs.Entries.{RefusesEntryLine, placed_line}
 use Rattle.replica_texts.specs.Gives.{GiveBegins, RefusesNextEntry, content_lines}
 use Rattle.replica_texts.specs.Gives.{next_entry_number}
@@ -142,6 +143,36 @@ pub record StopsAsking (plan : Option (List ℕ)) (start : Meaning) (came : List
   pub cause : e ≡ NoMemory
   pub asked : output ≡ flat_map have_text (haves_asked plan start gives)
 
+-- ---- the piece that has the error
+
+-- These answers and a part of the next one came, and then the piece, of which nothing is taken.
+-- After the part is this error if a line feed comes in the piece or after it; and if none does, the
+-- stream is cut. It is not a device's.
+pub record StopsAt (plan : Option (List ℕ)) (start : Meaning) (came : List PulledPiece)
+    (last : PulledPiece) (output : List ℕ) (e : SyncError) : Type 0 where
+  pub gives : List PulledGive
+  pub part : List PulledPiece
+  pub whole : PulledGives plan start came gives part
+  pub few : length gives < asked_count plan
+  pub content : State
+  pub takes : TakesInTurn part (entries_of content)
+  pub quiet : last.new ≡ last.old
+  pub some : (e ≡ NoMemory) ⊎ (0 < length last.bytes)
+  pub cause : (tail : List ℕ) → (HasNoFeed (last.bytes ++ tail) → ⊥)
+      → StopsAnswer last.old (bucket_at plan (length gives)) (lines_pulled gives + 1) content
+      (Some ((bytes_pulled part ++ last.bytes) ++ tail)) e
+  pub cut : (tail : List ℕ) → HasNoFeed (last.bytes ++ tail)
+      → StopsAnswer last.old (bucket_at plan (length gives)) (lines_pulled gives + 1) content
+      (Some ((bytes_pulled part ++ last.bytes) ++ tail)) Truncated
+  pub own : e ≢ Io
+  pub asked : output ≡ flat_map have_text (haves_asked plan start gives)
+
+-- After these the piece has the error, or it ends an answer after which memory ran out.
+abbrev pub StopsNow : Option (List ℕ) → Meaning → List PulledPiece → PulledPiece → List ℕ
+    → SyncError → Type 0
+StopsNow plan start came last output e = StopsAt plan start came last output e
+    ⊎ StopsAsking plan start (came ++ last ∷ []) output e
+
 -- ---- the machine
 
 -- the beginning of a line that has not ended
@@ -200,10 +231,22 @@ pub record HasPulledAbout (plan : Option (List ℕ)) (pulling : Pulling) (start 
       start came (kept_answer pulling) (written ++ due_have pulling)
   pub taken : count_of_pulling pulling ≡ receipts_pulled came
   pub idle : fault_of_pulling pulling ≢ None → due_have pulling ≡ []
+  pub ended : IsOverPulling pulling → due_have pulling ≡ []
 
 -- the same for a session that asks about each bucket
 abbrev pub HasPulledPieces : Pulling → Meaning → List PulledPiece → List ℕ → Type 0
 HasPulledPieces pulling start came written = HasPulledAbout None pulling start came written
+
+-- The last of the pieces has the error.
+pub record StopsAmong (before : Pulling) (config : Configuration) (pieces : List PulledPiece)
+    (e : SyncError) : Type 0 where
+  pub front : List PulledPiece
+  pub last : PulledPiece
+  pub order : pieces ≡ front ++ last ∷ []
+  pub stops : (plan : Option (List ℕ)) (start : Meaning) (came : List PulledPiece)
+      (written : List ℕ) → config ≡ start.config
+      → HasPulledAbout plan before start came written
+      → StopsNow plan start (came ++ front) last written e
 
 -- The lines of the bytes are taken one after another, as by one call for each; between the calls
 -- nothing changes.
@@ -215,3 +258,5 @@ pub record PullsLines (before : Pulling) (piece : PulledPiece) (after : Pulling)
       (written : List ℕ) → piece.old.config ≡ start.config
       → HasPulledAbout plan before start came written
       → HasPulledAbout plan after start (came ++ pieces) written
+  pub stops : (e : SyncError) → fault_of_pulling before ≡ None → fault_of_pulling after ≡ Some e
+      → StopsAmong before piece.old.config pieces e

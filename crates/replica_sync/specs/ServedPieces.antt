@@ -8,7 +8,8 @@ use Rattle.replica_core.specs.Session.{HaveMessage, give_of}
 use Rattle.replica_core.specs.declared.error.SyncError.{SyncError}
 use Rattle.replica_texts.specs.Messages.{as_any_have, any_have_text, give_text}
 use Rattle.replica_texts.specs.Haves.{IsHaveOf, RefusesFurther}
-use Rattle.replica_sync.specs.Pieces.{kept_part}
+use Rattle.replica_sync.specs.Pieces.{PieceRun, kept_part}
+use Rattle.replica_sync.specs.Inside.ServingSteps.{TakesHave}
 use Rattle.replica_sync.specs.declared.answer_records.AnswerRecords.{AnswerRecords}
 use Rattle.replica_sync.specs.declared.piece_serving.Serving.{Serving}
 
@@ -109,6 +110,11 @@ ServesPieces (Some e) came rest output = AnswersUpTo came output e
 abbrev pub HasServedPieces : Serving → List Came → List ℕ → Type 0
 HasServedPieces serving came written = ServesPieces (fault_of_serving serving) came
     (kept_have serving) (written ++ due_give serving)
+
+-- What is taken of a piece if nothing is to be written: all of it, and no have ends in it; or the
+-- bytes up to the end of a have, whose answer is then to be written.
+abbrev pub TakesUpToHave : Meaning → PieceRun → ℕ → Serving → Type 0
+TakesUpToHave m run used new = TakesHave m run.old run.piece used (kept_have new) (due_give new)
 
 -- which records the next answer has
 abbrev pub records_answered : Serving → AnswerRecords

@@ -7,8 +7,8 @@
 //! answers that come so: `answer_lines` takes their lines, and `news` what they say: `new_entry`
 //! immediately, or records of distrust together.
 //!
-//! `serving` and `pulling` are whole sessions over a source and a sink. `pulling` gives the lines
-//! of its source to the same `answer_lines`.
+//! `serving` and `pulling` are whole sessions over a source and a sink. `serving` gives what it
+//! reads to `piece_serving`, and `pulling` to `piece_pulling`.
 #![tactic(auto)]
 
 mod answer_lines;
@@ -21,6 +21,7 @@ mod news;
 mod piece_pulling;
 mod piece_serving;
 mod pulling;
+mod refused_line;
 mod serving;
 mod text_sink;
 

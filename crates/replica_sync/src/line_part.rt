@@ -102,7 +102,7 @@ impl LinePart {
 }
 
 // The place of the first line feed.
-fn line_feed(bytes: &[u8]) -> Option<usize>
+pub(crate) fn line_feed(bytes: &[u8]) -> Option<usize>
     ensures { AtFeed bytes.now result }
 {
     memchr(b'\n', bytes)

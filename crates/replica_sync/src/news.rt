@@ -54,15 +54,6 @@ impl News {
         self.journal
     }
 
-    /// Empties the journal.
-    pub(crate) fn empty_journal(&mut self)
-        ensures journal { self.new.journal.items ≡ [] }
-        ensures later { self.new.later ≡ self.old.later }
-        ensures free { self.new.free ≡ self.old.free }
-    {
-        self.journal.clear();
-    }
-
     /// Takes what the line with this number says. If it was not held, its line is appended to the
     /// journal. Returns how many receipts are held now and were not.
     pub(crate) fn take<C: Closure>(

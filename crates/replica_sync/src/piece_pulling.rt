@@ -56,7 +56,7 @@ impl Pulling {
     ghost use Rattle.replica_sync.specs.Plans.{answered_of, asked_count, plan_of};
     ghost use Rattle.replica_sync.specs.PullSessions.{HasPulledAbout, HasPulledPieces};
     ghost use Rattle.replica_sync.specs.PullSessions.{IsOverPulling};
-    ghost use Rattle.replica_sync.specs.PullSessions.{PullsLines};
+    ghost use Rattle.replica_sync.specs.PullSessions.{PullsLines, StopsNow};
     ghost use Rattle.replica_sync.specs.PullSessions.{count_of_pulling, due_have, kept_answer};
     ghost use Rattle.replica_sync.specs.PullSessions.{fault_of_pulling, TakesBytes, TakesLines};
     ghost use Rattle.replica_sync.specs.Inside.AnswerSteps.{FailsPulled, TakesPulled};
@@ -69,6 +69,7 @@ impl Pulling {
     pub fn new<C: Closure>(alloc: Global, closure: &C) -> Result<Pulling, SyncError>
         ensures ok { IfOk result
             (λ p. HasPulledPieces p (C.state closure.now).meaning [] []) }
+        ensures sound { IfOk result (λ p. fault_of_pulling p ≡ None) }
         ensures refused { IfErr result (λ e. e ≡ NoMemory) }
     {
         Pulling::begin(alloc, closure, BucketPlan::all())
@@ -96,6 +97,7 @@ impl Pulling {
         requires { answered_of plan ≡ 0 }
         ensures ok { IfOk result
             (λ p. HasPulledAbout (plan_of plan) p (C.state closure.now).meaning [] []) }
+        ensures sound { IfOk result (λ p. fault_of_pulling p ≡ None) }
         ensures refused { IfErr result (λ e. e ≡ NoMemory) }
     {
         let mut lines = AnswerLines::new(alloc);
@@ -190,6 +192,8 @@ impl Pulling {
         ensures journals { JournalsAll (C.state closure.old).meaning (C.state closure.new).meaning
             journal.old.items journal.new.items }
         ensures taken { IfOk result (TakesLines piece.now self.new) }
+        ensures moves { IfOk result (λ used. due_have self.old ≡ []
+            → (IsOverPulling self.old → ⊥) → 0 < length piece.now → 0 < used) }
         ensures fault { MatchResult result (λ _. fault_of_pulling self.new ≡ None)
             (λ e. fault_of_pulling self.new ≡ Some e) }
     {
@@ -220,6 +224,8 @@ impl Pulling {
             news.old.journal.items news.new.journal.items }
         ensures waits { Waits (C.state closure.new).meaning news.new }
         ensures taken { IfOk result (TakesLines piece.now self.new) }
+        ensures moves { IfOk result (λ used. due_have self.old ≡ []
+            → (IsOverPulling self.old → ⊥) → 0 < length piece.now → 0 < used) }
         ensures fault { MatchResult result (λ _. fault_of_pulling self.new ≡ None)
             (λ e. fault_of_pulling self.new ≡ Some e) }
     {
@@ -252,11 +258,22 @@ impl Pulling {
             → HasPulledAbout plan self.new start
             (came ++ piece_pulled piece.now (held_with news.old (C.state closure.old).meaning)
             (held_with news.new (C.state closure.new).meaning) result ∷ []) written }
+        ensures stops { IfErr result (λ e. fault_of_pulling self.old ≡ None
+            → (plan : Option (List ℕ)) (start : Meaning) (came : List PulledPiece)
+            (written : List ℕ) → (C.state closure.old).meaning.config ≡ start.config
+            → HasPulledAbout plan self.old start came written
+            → StopsNow plan start came (record {
+              bytes = piece.now;
+              old = held_with news.old (C.state closure.old).meaning;
+              new = held_with news.new (C.state closure.new).meaning;
+            }) written e) }
         ensures journals { Journals (held_with news.old (C.state closure.old).meaning)
             (held_with news.new (C.state closure.new).meaning)
             news.old.journal.items news.new.journal.items }
         ensures waiting { Waits (C.state closure.new).meaning news.new }
         ensures taken { IfOk result (TakesBytes piece.now self.new) }
+        ensures moves { IfOk result (λ used. due_have self.old ≡ []
+            → (IsOverPulling self.old → ⊥) → 0 < length piece.now → 0 < used) }
         ensures waits { 0 < length (due_have self.old) → self.new ≡ self.old }
         ensures fault { MatchResult result (λ _. fault_of_pulling self.new ≡ None)
             (λ e. fault_of_pulling self.new ≡ Some e) }

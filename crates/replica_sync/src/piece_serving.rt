@@ -1,13 +1,14 @@
 //! Haves that come in pieces, and the answers to them.
-ghost use Rattle.std.specs.Prelude.{◌≡◌, ◌+◌, ◌≤◌, ◌<◌, ◌++◌, ◌⊎◌, [], ◌∷◌, List, ℕ, IfOk, IfErr};
-ghost use Rattle.std.specs.Prelude.{OnOk, None, Some, length, take, drop, vec_len, MatchResult};
+ghost use Rattle.std.specs.Prelude.{◌≡◌, ◌≢◌, ◌+◌, ◌≤◌, ◌<◌, ◌++◌, ◌⊎◌, [], ◌∷◌, List, ℕ};
+ghost use Rattle.std.specs.Prelude.{IfOk, IfErr, OnOk, None, Some, length, take, drop, vec_len};
+ghost use Rattle.std.specs.Prelude.{MatchResult};
 ghost use Rattle.replica_core.specs.Session.{give_of};
-ghost use Rattle.replica_core.specs.declared.error.SyncError.TheVariants.{Truncated};
+ghost use Rattle.replica_core.specs.declared.error.SyncError.TheVariants.{Io, Truncated};
 ghost use Rattle.replica_texts.specs.FirstLines.{RefusesHaveLine};
 ghost use Rattle.replica_texts.specs.Messages.{give_text};
 ghost use Rattle.byte_lines.specs.Limits.{line_limit};
 ghost use Rattle.byte_lines.specs.Lines.{HasNoFeed};
-ghost use Rattle.replica_sync.specs.Pieces.{longest};
+ghost use Rattle.replica_sync.specs.Pieces.{longest, piece_run};
 ghost use Rattle.replica_sync.specs.AnsweredFrom.{answered_from};
 ghost use Rattle.replica_sync.specs.Inside.ServingSteps.{AnswersLine};
 ghost use Rattle.replica_sync.specs.declared.answer_records.AnswerRecords.TheVariants.{All};
@@ -45,7 +46,7 @@ pub struct Serving {
 impl Serving {
     ghost use Rattle.replica_sync.specs.ServedPieces.{Came, HasServedPieces, came_taken};
     ghost use Rattle.replica_sync.specs.ServedPieces.{due_give, fault_of_serving, kept_have};
-    ghost use Rattle.replica_sync.specs.ServedPieces.{records_answered};
+    ghost use Rattle.replica_sync.specs.ServedPieces.{TakesUpToHave, records_answered};
     ghost use Rattle.replica_sync.specs.Inside.ServingSteps.{RefusesPiece, TakesHave};
 
     /// The beginning of a session.
@@ -105,7 +106,14 @@ impl Serving {
         ensures whole { due_give self.old ≡ [] → HasNoFeed piece.now
             → IfOk result (λ used. used ≡ length piece.now) }
         ensures quiet { due_give self.old ≡ [] → HasNoFeed piece.now → due_give self.new ≡ [] }
+        ensures step { due_give self.old ≡ [] → IfOk result (λ used. TakesUpToHave
+            (answered_from (records_answered self.old) (C.state closure.now).meaning)
+            (piece_run line_limit (kept_have self.old) piece.now) used self.new) }
         ensures waits { 0 < length (due_give self.old) → self.new ≡ self.old }
+        ensures refused { fault_of_serving self.old ≡ None → IfErr result (λ e. RefusesPiece
+            (answered_from (records_answered self.old) (C.state closure.now).meaning)
+            (kept_have self.old) piece.now e) }
+        ensures calm { fault_of_serving self.old ≡ None → IfErr result (λ e. e ≢ Io) }
         ensures fault { MatchResult result (λ _. fault_of_serving self.new ≡ None)
             (λ e. fault_of_serving self.new ≡ Some e) }
     {
@@ -138,6 +146,7 @@ impl Serving {
         ensures refused { IfErr result (λ e. RefusesPiece
             (answered_from (records_answered self.old) (C.state closure.now).meaning)
             (kept_have self.old) piece.now e) }
+        ensures calm { IfErr result (λ e. e ≢ Io) }
         ensures records { records_answered self.new ≡ records_answered self.old }
         ensures quiet { IfErr result (λ e. due_give self.new ≡ []) }
         ensures fault { self.new.fault ≡ self.old.fault }
@@ -168,6 +177,7 @@ impl Serving {
             → HasServedPieces self.old came written
             → HasServedPieces self.new came (written ++ take count (due_give self.old)) }
         ensures due { due_give self.new ≡ drop count (due_give self.old) }
+        ensures kept { kept_have self.new ≡ kept_have self.old }
         ensures fault { fault_of_serving self.new ≡ fault_of_serving self.old }
         ensures records { records_answered self.new ≡ records_answered self.old }
     {

@@ -1,34 +1,34 @@
-//! Sessions in which a replica asks.
-ghost use Rattle.std.specs.Prelude.{◌≡◌, ◌+◌, ◌<◌, ◌⊎◌, ◌||◌, IfOk, IfErr, IsErrOf, OnOk, OnErr};
-ghost use Rattle.std.specs.Prelude.{true, false};
-ghost use Rattle.std.specs.Io.KnownBytes.{Appends};
-ghost use Rattle.byte_lines.specs.Streams.{stream_of, left_of};
-ghost use Rattle.replica_core.specs.Session.{have_of};
-ghost use Rattle.replica_texts.specs.Messages.{have_text, WritesText};
+//! Sessions in which a replica asks: a [`Pulling`] over a source and a sink.
+ghost use Rattle.std.specs.Prelude.{◌≡◌, ◌+◌, ◌<◌, ◌⊎◌, ◌||◌, IfOk, IfErr, IsErr, IsErrOf};
+ghost use Rattle.std.specs.Prelude.{OnOk, OnErr, List, ℕ, Option, None, [], length, take, is_err};
+ghost use Rattle.std.specs.Prelude.{◌↔◌, true, false, IsTrue, MatchOption};
+ghost use Rattle.std.specs.Io.KnownBytes.{prepend_known};
+ghost use Rattle.byte_lines.specs.Ahead.{ahead_of, chunk_room};
+ghost use Rattle.byte_lines.specs.Lines.{HasNoFeed};
+ghost use Rattle.receipt_core.specs.Acceptance.{Meaning};
 ghost use Rattle.replica_texts.specs.Snapshots.{is_io};
-ghost use Rattle.replica_sync.specs.SessionRun.{session_run, IsWritten};
-ghost use Rattle.replica_sync.specs.Pulling.{Pulls, PullsAll, PullsUpTo, is_pull_io};
-ghost use Rattle.replica_sync.specs.Inside.Taking.{IsBeforeNext, RefusesNextLine, StopsGive};
-ghost use Rattle.replica_sync.specs.Inside.Taking.{TakesGive, TakesNextLine};
-ghost use Rattle.replica_sync.specs.Inside.Waiting.{Waits, held_with};
+ghost use Rattle.replica_sync.specs.SessionRun.{SessionRun, session_run};
+ghost use Rattle.replica_sync.specs.Pulling.{HasGained, Pulls, PullsAll, is_pull_io};
+ghost use Rattle.replica_sync.specs.PullSessions.{EndsInFeed, HasPulledPieces, IsOverPulling};
+ghost use Rattle.replica_sync.specs.PullSessions.{count_of_pulling, due_have, fault_of_pulling};
+ghost use Rattle.replica_sync.specs.Inside.Driving.{Driven, StopsDriven};
 ghost use Rattle.replica_core.specs.declared.error.SyncError.TheVariants.{Io, NoMemory};
 
-use crate::answer_lines::AnswerLines;
-use crate::news::News;
-use byte_lines::{Line, LineBuf, Sink, Source};
+use crate::piece_pulling::Pulling;
+use crate::refused_line::error_of_line;
+use byte_lines::{Fault, ReadAhead, Sink, Source, write_all};
 use closure_core::Closure;
-use replica_core::{PullFault, SyncError, have};
-use replica_texts::write_have;
+use memchr::memrchr;
+use replica_core::{PullFault, SyncError};
 use std::alloc::Global;
 
 /// Asks about each bucket in order, from 0 to 255, and takes each answer line by line. Returns how
 /// many receipts are held now that were not.
 ///
 /// Each have has the ids that are held when it is asked. It is written whole before its answer is
-/// read, and what follows the last answer is not taken. The records of distrust of an answer are
-/// taken together, by one merge, at the end of the answer. Apart from what is held, memory is taken
-/// for one have, for a few lines and for the records of one answer, and never for a number that the
-/// other side says.
+/// read, and what follows the last answer is not taken. The records of distrust that one read
+/// brings are taken together, by one merge. Apart from what is held, memory is taken for one have,
+/// for a few lines and for the bytes of one read, and never for a number that the other side says.
 ///
 /// # Errors
 /// What the lines before the error say remains held, and [`PullFault::taken`] says how many
@@ -61,204 +61,127 @@ pub fn pull<C: Closure, R: Source, W: Sink>(
         → (R.has_failed source.new ≡ R.has_failed source.old)
         × (W.has_failed sink.new ≡ W.has_failed sink.old) }
 {
-    let before = closure.receipt_count();
-    let pulled = pull_all(alloc, closure, source, sink);
-    let taken = (closure.receipt_count() - before) as u64;
-    match pulled {
+    let mut pulling = match Pulling::new(alloc, closure) {
+        Ok(pulling) => pulling,
+        Err(why) => return Err(PullFault { why, taken: 0 }),
+    };
+    let driven = drive(alloc, closure, &mut pulling, source, sink);
+    let taken = pulling.taken();
+    match driven {
         Ok(()) => Ok(taken),
         Err(why) => Err(PullFault { why, taken }),
     }
 }
 
-// Asks about each bucket and takes what is answered.
-fn pull_all<C: Closure, R: Source, W: Sink>(
+// Writes what the session says, and gives it what is read, until it is over.
+fn drive<C: Closure, R: Source, W: Sink>(
     alloc: Global,
     closure: &mut C,
+    pulling: &mut Pulling,
     source: &mut R,
     sink: &mut W,
 ) -> Result<(), SyncError>
+    requires sound { fault_of_pulling pulling.old ≡ None }
+    requires begun { HasPulledPieces pulling.old (C.state closure.old).meaning [] [] }
     ensures ok { OnOk result
         (PullsAll (session_run (R.remaining source.old) (W.contents sink.old) (W.contents sink.new))
-        (C.state closure.old).meaning (C.state closure.new).meaning) }
-    ensures refused { IfErr result
-        (PullsUpTo
+        (C.state closure.old).meaning (C.state closure.new).meaning
+        × HasGained (C.state closure.old).meaning (C.state closure.new).meaning
+        (count_of_pulling pulling.new)) }
+    ensures refused { IfErr result (StopsDriven
         (session_run (R.remaining source.old) (W.contents sink.old) (W.contents sink.new))
-        (C.state closure.old).meaning (C.state closure.new).meaning) }
+        (C.state closure.old).meaning (C.state closure.new).meaning pulling.new) }
     ensures io { IsErrOf result Io
         → (R.has_failed source.new ≡ true) ⊎ (W.has_failed sink.new ≡ true) }
     ensures fault { is_io result ≡ false
         → (R.has_failed source.new ≡ R.has_failed source.old)
         × (W.has_failed sink.new ≡ W.has_failed sink.old) }
 {
-    let mut lines = LineBuf::new(alloc);
-    let mut answers = AnswerLines::new(alloc);
-    'buckets: for bucket in 0..256u16 {
-        pull_bucket(
-            alloc,
-            closure,
-            bucket as u8,
-            &mut answers,
-            &mut lines,
-            source,
-            sink,
-        )?;
-    }
-    Ok(())
-}
-
-// Asks about the bucket and takes what is answered.
-fn pull_bucket<C: Closure, R: Source, W: Sink>(
-    alloc: Global,
-    closure: &mut C,
-    bucket: u8,
-    answers: &mut AnswerLines,
-    lines: &mut LineBuf,
-    source: &mut R,
-    sink: &mut W,
-) -> Result<(), SyncError>
-    requires about { answers.old.bucket ≡ bucket }
-    requires none { answers.old.is_begun ≡ false }
-    ensures ok { OnOk result
-        (TakesGive (C.state closure.old).meaning bucket
-        (stream_of R.remaining lines.old source.old) answers.old.read (C.state closure.new).meaning
-        (stream_of R.remaining lines.new source.new) answers.new.read) }
-    ensures refused { IfErr result
-        (StopsGive (C.state closure.old).meaning bucket (answers.old.read + 1)
-        (stream_of R.remaining lines.old source.old) (C.state closure.new).meaning) }
-    ensures next { OnOk result (IsBeforeNext answers.old answers.new) }
-    ensures asked { OnOk result
-        (Appends (W.contents sink.old) (W.contents sink.new)
-        (have_text (have_of (C.state closure.old).meaning bucket))) }
-    ensures asks { IfErr result
-        (λ e. IsWritten e (W.contents sink.old) (W.contents sink.new)
-        (have_text (have_of (C.state closure.old).meaning bucket))) }
-    ensures io { IsErrOf result Io
-        → (R.has_failed source.new ≡ true) ⊎ (W.has_failed sink.new ≡ true) }
-    ensures fault { is_io result ≡ false
-        → (R.has_failed source.new ≡ R.has_failed source.old)
-        × (W.has_failed sink.new ≡ W.has_failed sink.old) }
-{
-    ask(alloc, closure, bucket, sink)?;
-    take_answer(alloc, closure, answers, lines, source)
-}
-
-// Takes the answer that the stream is to have next, until it ends. The records of distrust that it
-// says are taken together.
-fn take_answer<C: Closure, R: Source>(
-    alloc: Global,
-    closure: &mut C,
-    answers: &mut AnswerLines,
-    lines: &mut LineBuf,
-    source: &mut R,
-) -> Result<(), SyncError>
-    requires few { answers.old.bucket < 256 }
-    requires none { answers.old.is_begun ≡ false }
-    ensures ok { OnOk result
-        (TakesGive (C.state closure.old).meaning answers.old.bucket
-        (stream_of R.remaining lines.old source.old) answers.old.read (C.state closure.new).meaning
-        (stream_of R.remaining lines.new source.new) answers.new.read) }
-    ensures refused { IfErr result
-        (StopsGive (C.state closure.old).meaning answers.old.bucket (answers.old.read + 1)
-        (stream_of R.remaining lines.old source.old) (C.state closure.new).meaning) }
-    ensures next { OnOk result (IsBeforeNext answers.old answers.new) }
-    ensures io { IsErrOf result Io → R.has_failed source.new ≡ true }
-    ensures fault { R.has_failed source.new ≡ (is_io result || R.has_failed source.old) }
-{
-    let _valid = closure.config();
-    let mut news = News::new(Vec::new(alloc));
-    let taken = take_lines(alloc, closure, answers, &mut news, lines, source);
-    news.settle(closure);
-    taken
-}
-
-// Takes the lines of the answer, until it ends.
-fn take_lines<C: Closure, R: Source>(
-    alloc: Global,
-    closure: &mut C,
-    answers: &mut AnswerLines,
-    news: &mut News,
-    lines: &mut LineBuf,
-    source: &mut R,
-) -> Result<(), SyncError>
-    requires few { answers.old.bucket < 256 }
-    requires none { answers.old.is_begun ≡ false }
-    requires waits { Waits (C.state closure.old).meaning news.old }
-    ensures ok { OnOk result
-        (TakesGive (held_with news.old (C.state closure.old).meaning) answers.old.bucket
-        (stream_of R.remaining lines.old source.old) answers.old.read
-        (held_with news.new (C.state closure.new).meaning)
-        (stream_of R.remaining lines.new source.new) answers.new.read) }
-    ensures refused { IfErr result
-        (StopsGive (held_with news.old (C.state closure.old).meaning) answers.old.bucket
-        (answers.old.read + 1) (stream_of R.remaining lines.old source.old)
-        (held_with news.new (C.state closure.new).meaning)) }
-    ensures next { OnOk result (IsBeforeNext answers.old answers.new) }
-    ensures waits { Waits (C.state closure.new).meaning news.new }
-    ensures io { IsErrOf result Io → R.has_failed source.new ≡ true }
-    ensures fault { R.has_failed source.new ≡ (is_io result || R.has_failed source.old) }
-{
-    'lines: while !take_next(alloc, closure, answers, news, lines, source)? {}
-    Ok(())
-}
-
-// Takes the next line, and returns whether its answer ends with it. Nobody reads the journal here,
-// so it is emptied.
-fn take_next<C: Closure, R: Source>(
-    alloc: Global,
-    closure: &mut C,
-    answers: &mut AnswerLines,
-    news: &mut News,
-    lines: &mut LineBuf,
-    source: &mut R,
-) -> Result<bool, SyncError>
-    requires few { answers.old.bucket < 256 }
-    requires waits { Waits (C.state closure.old).meaning news.old }
-    ensures ok { IfOk result (λ whole. TakesNextLine (record {
-      held = held_with news.old (C.state closure.old).meaning;
-      lines = answers.old;
-      left = stream_of R.remaining lines.old source.old;
-    }) (record {
-      held = held_with news.new (C.state closure.new).meaning;
-      lines = answers.new;
-      left = stream_of R.remaining lines.new source.new;
-    }) whole) }
-    ensures refused { IfErr result (λ e. RefusesNextLine (record {
-      held = held_with news.old (C.state closure.old).meaning;
-      lines = answers.old;
-      left = stream_of R.remaining lines.old source.old;
-    }) e) }
-    ensures same { OnErr result
-        (held_with news.new (C.state closure.new).meaning
-        ≡ held_with news.old (C.state closure.old).meaning) }
-    ensures waits { Waits (C.state closure.new).meaning news.new }
-    ensures falls { IfOk result
-        (λ whole. left_of R.budget lines.new source.new
-        < left_of R.budget lines.old source.old) }
-    ensures io { IsErrOf result Io → R.has_failed source.new ≡ true }
-    ensures fault { R.has_failed source.new ≡ (is_io result || R.has_failed source.old) }
-{
-    news.empty_journal();
-    match lines.next_line(source)? {
-        Line::Text(text) => answers.take(alloc, closure, text, news),
-        Line::TooLong => Err(answers.overlong(alloc)),
-        Line::Cut => Err(SyncError::Truncated),
-        Line::End => Err(SyncError::Truncated),
+    let mut ahead = ReadAhead::new(alloc);
+    'rounds: loop {
+        send(pulling, sink)?;
+        if pulling.is_over() {
+            return Ok(());
+        }
+        ahead.reserve()?;
+        if !ahead.fill(source)? {
+            return pulling.end();
+        }
+        read_ahead(alloc, closure, pulling, &mut ahead, source)?;
     }
 }
 
-// Asks about the bucket.
-fn ask<C: Closure, W: Sink>(
-    alloc: Global,
-    closure: &C,
-    bucket: u8,
-    sink: &mut W,
-) -> Result<(), SyncError>
-    ensures writes { WritesText (W.contents sink.old) (W.contents sink.new) result
-        (have_text (have_of (C.state closure.now).meaning bucket)) }
-    ensures refused { IfErr result (λ e. (e ≡ Io) ⊎ (e ≡ NoMemory)) }
-    ensures io { IsErrOf result Io → W.has_failed sink.new ≡ true }
-    ensures fault { W.has_failed sink.new ≡ (is_io result || W.has_failed sink.old) }
+// Writes what is to be written.
+fn send<W: Sink>(pulling: &mut Pulling, sink: &mut W) -> Result<(), Fault>
+    ensures ok { OnOk result ((start held : Meaning) (source before left : Option (List ℕ))
+        → Driven start (session_run source before (W.contents sink.old)) pulling.old held left
+        → Driven start (session_run source before (W.contents sink.new)) pulling.new held left) }
+    ensures none { OnOk result (due_have pulling.new ≡ []) }
+    ensures refused { OnErr result ((start held : Meaning) (source before left : Option (List ℕ))
+        → Driven start (session_run source before (W.contents sink.old)) pulling.old held left
+        → StopsDriven (session_run source before (W.contents sink.new)) start held pulling.new
+        Io) }
+    ensures io { IsErr result → W.has_failed sink.new ≡ true }
+    ensures fault { W.has_failed sink.new ≡ (is_err result || W.has_failed sink.old) }
 {
-    let own = have(alloc, closure, bucket)?;
-    write_have(alloc, &own, sink)
+    let count = pulling.output().len();
+    write_all(sink, pulling.output())?;
+    pulling.wrote(count);
+    Ok(())
+}
+
+// Gives the session the whole lines that were read, or the beginning of one.
+fn read_ahead<C: Closure, R: Source>(
+    alloc: Global,
+    closure: &mut C,
+    pulling: &mut Pulling,
+    ahead: &mut ReadAhead,
+    source: &mut R,
+) -> Result<(), SyncError>
+    requires idle { due_have pulling.old ≡ [] }
+    requires more { IsOverPulling pulling.old → ⊥ }
+    requires some { 0 < length (ahead_of ahead.old) }
+    requires room { 0 < chunk_room ahead.old }
+    ensures ok { OnOk result ((start : Meaning) (run : SessionRun)
+        → Driven start run pulling.old (C.state closure.old).meaning
+        (prepend_known (ahead_of ahead.old) (R.remaining source.old))
+        → Driven start run pulling.new (C.state closure.new).meaning
+        (prepend_known (ahead_of ahead.new) (R.remaining source.new))) }
+    ensures falls { OnOk result (length (ahead_of ahead.new) < length (ahead_of ahead.old)) }
+    ensures same { OnOk result (source.new ≡ source.old) }
+    ensures refused { IfErr result (λ e. (start : Meaning) (run : SessionRun)
+        → Driven start run pulling.old (C.state closure.old).meaning
+        (prepend_known (ahead_of ahead.old) (R.remaining source.old))
+        → StopsDriven run start (C.state closure.new).meaning pulling.new e
+        × (e ≡ Io → R.has_failed source.new ≡ true)) }
+    ensures fault { is_io result ≡ false → R.has_failed source.new ≡ R.has_failed source.old }
+{
+    let place = last_feed(ahead.as_slice());
+    let count = match place {
+        Some(at) => at + 1,
+        None => ahead.as_slice().len(),
+    };
+    let mut journal = Vec::new(alloc);
+    match pulling.read_lines(alloc, closure, &ahead.as_slice()[..count], &mut journal) {
+        Ok(used) => {
+            ahead.pass(used);
+            Ok(())
+        }
+        Err(why) if place.is_some() || is_memory_gone(why) => Err(why),
+        Err(why) => Err(error_of_line(why, ahead, source)?),
+    }
+}
+
+fn is_memory_gone(why: SyncError) -> bool
+    ensures { IsTrue result ↔ (why ≡ NoMemory) }
+{
+    matches!(why, SyncError::NoMemory)
+}
+
+// The place of the last line feed.
+fn last_feed(bytes: &[u8]) -> Option<usize>
+    ensures { MatchOption result (HasNoFeed bytes.now) (λ place. (place < length bytes.now)
+        × EndsInFeed (take (place + 1) bytes.now)) }
+{
+    memrchr(b'\n', bytes)
 }

@@ -1,23 +1,28 @@
 //! Sessions that are served.
-ghost use Rattle.std.specs.Prelude.{◌≡◌, ◌<◌, ◌⊎◌, IfOk, IsErrOf, true, false};
-ghost use Rattle.byte_lines.specs.Streams.{stream_of, left_of};
+ghost use Rattle.std.specs.Prelude.{◌≡◌, ◌||◌, ◌⊎◌, [], true, false, is_err, IfOk, OnOk};
+ghost use Rattle.std.specs.Prelude.{IsErrOf};
+ghost use Rattle.std.specs.Io.KnownBytes.{Appends};
+ghost use Rattle.byte_lines.specs.Device.{AppendsBeginning};
 ghost use Rattle.replica_texts.specs.Snapshots.{is_io};
 ghost use Rattle.replica_sync.specs.SessionRun.{session_run};
+ghost use Rattle.replica_sync.specs.ServedPieces.{due_give, fault_of_serving, kept_have};
+ghost use Rattle.replica_sync.specs.ServedPieces.{records_answered};
 ghost use Rattle.replica_sync.specs.Serving.{Serves};
-ghost use Rattle.replica_sync.specs.Inside.Serving.{ServesNext};
+ghost use Rattle.replica_sync.specs.Inside.Serving.{IsAnswerCount};
 ghost use Rattle.replica_core.specs.declared.error.SyncError.TheVariants.{Io};
 
-use byte_lines::{LineBuf, Sink, Source};
+use crate::piece_serving::Serving;
+use crate::refused_line::error_of_line;
+use byte_lines::{Fault, ReadAhead, Sink, Source, write_all};
 use closure_core::Closure;
-use replica_core::{SyncError, answer};
-use replica_texts::{next_own, write_answer};
+use replica_core::SyncError;
 use std::alloc::Global;
 
 /// Answers the haves of the source, one after another, until it ends before the first byte of a
 /// have. Returns how many there were.
 ///
 /// Only haves of the closure's configuration are answered, each with what the closure holds.
-/// Memory is taken for one have and for one line of an answer.
+/// Memory is taken for 65,536 bytes that are read ahead, for one have and for its answer.
 ///
 /// # Errors
 /// The haves before the error are answered, and nothing else is written; if the sink failed or
@@ -46,39 +51,40 @@ pub fn serve_one<C: Closure, R: Source, W: Sink>(
         → (R.has_failed source.new ≡ R.has_failed source.old)
         × (W.has_failed sink.new ≡ W.has_failed sink.old) }
 {
-    let mut lines = LineBuf::new(alloc);
+    let mut ahead = ReadAhead::new(alloc);
+    ahead.reserve()?;
+    let mut serving = Serving::new(alloc);
     let mut count = 0;
-    'haves: while serve_next(alloc, closure, &mut lines, source, sink)? {
-        count += 1;
+    'pieces: while ahead.fill(source)? {
+        match serving.read(alloc, closure, ahead.as_slice()) {
+            Ok(used) => ahead.pass(used),
+            Err(why) => return Err(error_of_line(why, &mut ahead, source)?),
+        }
+        count += write_due(&mut serving, sink)?;
     }
+    serving.end()?;
     Ok(count)
 }
 
-// Answers the next have, and returns whether there was one.
-fn serve_next<C: Closure, R: Source, W: Sink>(
-    alloc: Global,
-    closure: &C,
-    lines: &mut LineBuf,
-    source: &mut R,
-    sink: &mut W,
-) -> Result<bool, SyncError>
-    ensures serves { ServesNext (C.state closure.now).meaning
-        (stream_of R.remaining lines.old source.old) (stream_of R.remaining lines.new source.new)
-        (W.contents sink.old) (W.contents sink.new) result }
-    ensures io { IsErrOf result Io
-        → (R.has_failed source.new ≡ true) ⊎ (W.has_failed sink.new ≡ true) }
-    ensures fault { is_io result ≡ false
-        → (R.has_failed source.new ≡ R.has_failed source.old)
-        × (W.has_failed sink.new ≡ W.has_failed sink.old) }
-    ensures falls { IfOk result
-        (λ more. more ≡ true → left_of R.budget lines.new source.new
-        < left_of R.budget lines.old source.old) }
+// Writes what is due, and returns how many answers that is: one or none.
+fn write_due<W: Sink>(serving: &mut Serving, sink: &mut W) -> Result<u64, Fault>
+    ensures written { OnOk result
+        (Appends (W.contents sink.old) (W.contents sink.new) (due_give serving.old)) }
+    ensures beginning { AppendsBeginning (W.contents sink.old) (W.contents sink.new)
+        (due_give serving.old) }
+    ensures count { IfOk result (IsAnswerCount (due_give serving.old)) }
+    ensures idle { OnOk result (due_give serving.new ≡ []) }
+    ensures kept { kept_have serving.new ≡ kept_have serving.old }
+    ensures sound { fault_of_serving serving.new ≡ fault_of_serving serving.old }
+    ensures records { records_answered serving.new ≡ records_answered serving.old }
+    ensures fault { W.has_failed sink.new ≡ (is_err result || W.has_failed sink.old) }
 {
-    match next_own(alloc, closure.config(), lines, source)? {
-        Some(have) => {
-            write_answer(alloc, answer(closure, &have), sink)?;
-            Ok(true)
-        }
-        None => Ok(false),
+    let due = serving.output();
+    let count = due.len();
+    if count == 0 {
+        return Ok(0);
     }
+    write_all(sink, due)?;
+    serving.wrote(count);
+    Ok(1)
 }

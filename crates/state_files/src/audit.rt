@@ -2,31 +2,29 @@
 //! journal's lines of that change.
 use crate::access::owner_only;
 use crate::file_names::sync_folder;
-use crate::named_files::{foreign_file, is_named, is_plain_file};
+use crate::named_files::{foreign_file, is_plain_file, stale_file};
+use crate::own_file::OwnFile;
 use change_view::{
     AUDIT_BEGINNING, AuditLine, NewEntries, holds_line, push_start_line, read_audit_line,
 };
 use closure_core::Closure;
 use command_exits::FileFault;
-use memchr::memrchr;
 use replica_core::SyncError;
 use side_by_side::Sides;
-use state_steps::{AppendStep, Appending, CutStep, Cutting, LastLine};
+use state_steps::{
+    AppendStep, Appending, CutStep, Cutting, FileFate, LastLine, end_line, may_be_left_of,
+};
 use std::alloc::{AllocError, Global};
 use std::fs::{File, Files};
-use std::io::Write;
 use std::os::unix::fs::FileExt;
 
 /// How many bytes of the end of the file are read at a time. A line has fewer.
 const READ_BYTES: usize = 65_536;
 
-/// The system's number for a file that was replaced (`ESTALE`).
-const REPLACED_FILE: i32 = 116;
-
 /// The audit file, to which lines are appended.
 #[derive(Drop)]
 pub struct AuditFile {
-    file: File,
+    file: OwnFile,
     name: String,
 }
 
@@ -60,7 +58,7 @@ impl AuditFile {
         let file = open_audit(files, path)?;
         let cut = cut_unheld(alloc, sides, &file)?;
         let mut audit = AuditFile {
-            file,
+            file: OwnFile::of(file)?,
             name: String::from_str(alloc, path)?,
         };
         audit.append(files, start_text(alloc, &sides.next, moment)?.as_slice())?;
@@ -86,12 +84,13 @@ impl AuditFile {
     }
 
     /// Does a step in which the lines are appended: they are written, or put on the disk, or it is
-    /// looked whether the file still has its name. [`Keeping`](state_steps::Keeping) says which
-    /// step comes next. After an error what the disk holds is not known.
+    /// looked whether the name leads to the file, to which nobody else wrote; so it is before they
+    /// are written too. [`Keeping`](state_steps::Keeping) says which step comes next. After an
+    /// error what the disk holds is not known.
     ///
     /// # Errors
-    /// `NoMemory` if the system says that memory ran out, and else `Io`; `Io` also if the name
-    /// leads to another file.
+    /// `NoMemory` if the system says that memory ran out, and else `Io`; `Io` also if others
+    /// replaced or changed the file.
     pub fn do_step<R: Files>(
         &mut self,
         files: &R,
@@ -99,13 +98,20 @@ impl AuditFile {
         step: AppendStep,
     ) -> Result<(), FileFault> {
         match step {
-            AppendStep::WriteLines => Ok(self.file.write_all(lines)?),
-            AppendStep::SyncLines => Ok(self.file.sync_data()?),
-            AppendStep::SeeNames if is_named(files, &self.file, self.name.as_str())? => Ok(()),
-            AppendStep::SeeNames => Err(FileFault {
-                why: SyncError::Io,
-                code: Some(REPLACED_FILE),
-            }),
+            AppendStep::WriteLines => {
+                self.refuse_lost(files)?;
+                self.file.write(lines)
+            }
+            AppendStep::SyncLines => Ok(self.file.file().sync_data()?),
+            AppendStep::SeeNames => self.refuse_lost(files),
+        }
+    }
+
+    // Who may read it may have been changed.
+    fn refuse_lost<R: Files>(&mut self, files: &R) -> Result<(), FileFault> {
+        match self.file.leave(files, self.name.as_str())? {
+            FileFate::Same | FileFate::Touched => Ok(()),
+            FileFate::Changed | FileFate::Replaced => Err(stale_file()),
         }
     }
 }
@@ -181,7 +187,7 @@ fn read_line<C: Closure>(
     };
     let bytes = line.bytes.as_slice();
     if !line.is_whole {
-        return Ok(if is_torn(bytes) {
+        return Ok(if may_be_left_of(AUDIT_BEGINNING, bytes) {
             LastLine::Unheld
         } else {
             LastLine::Foreign
@@ -207,13 +213,6 @@ fn is_held<C: Closure>(
     }
 }
 
-// Whether a kill or a cut of power may have left this of a line.
-fn is_torn(bytes: &[u8]) -> bool {
-    bytes.starts_with(AUDIT_BEGINNING)
-        || AUDIT_BEGINNING.starts_with(bytes)
-        || bytes.iter().all(|byte| *byte == 0)
-}
-
 // The last line of the first `bytes` bytes of the file. One that is longer than any of an audit
 // file comes without its beginning.
 fn last_line(alloc: Global, file: &File, bytes: u64) -> Result<Option<FoundLine>, FileFault> {
@@ -226,24 +225,14 @@ fn last_line(alloc: Global, file: &File, bytes: u64) -> Result<Option<FoundLine>
         .unwrap_or(READ_BYTES)
         .min(READ_BYTES);
     read_whole(file, &mut buffer[..room], from)?;
-    let read = &buffer[..room];
-    let is_whole = read.ends_with(b"\n");
-    let text = read.strip_suffix(b"\n").unwrap_or(read);
-    let line = after_line_feed(text);
-    let begin = text.len().saturating_sub(line.len());
+    let Some(end) = end_line(&buffer[..room]) else {
+        return Ok(None);
+    };
     Ok(Some(FoundLine {
-        begin: from.saturating_add(begin as u64),
-        bytes: Vec::from_slice(alloc, line)?,
-        is_whole,
+        begin: from.saturating_add(end.begin as u64),
+        bytes: Vec::from_slice(alloc, end.line)?,
+        is_whole: end.is_whole,
     }))
-}
-
-// What comes after the last line feed, or all if there is no line feed.
-fn after_line_feed(text: &[u8]) -> &[u8] {
-    match memrchr(b'\n', text) {
-        Some(end) => &text[end + 1..],
-        None => text,
-    }
 }
 
 // Reads until the buffer is full.

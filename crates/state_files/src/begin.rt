@@ -1,15 +1,19 @@
 //! What a replica that keeps running does first with its files.
 use crate::begun_sides::{BegunSides, GivenConfigs, load_sides};
 use crate::carry_over::carry_over;
-use crate::journal::Journal;
+use crate::journal::{AppendFault, Journal};
+use crate::lock::StateLock;
 use crate::made_files::MadeFiles;
+use crate::previous_state::{fate_of_found, settle_previous};
 use crate::resume::resume_journal;
 use crate::state::{SeenState, see_state};
 use closure_core::Closure;
 use command_exits::{CommandError, FileFault};
 use progress_line::ProgressMode;
 use replica_core::SyncError;
-use state_steps::{BeginStep, Beginning, FileStep, FoldEnd, FoundFiles};
+use state_steps::{
+    BeginStep, Beginning, FileFate, FileStep, FoldEnd, FoundFiles, LostFile, NewFate,
+};
 use std::alloc::{AllocError, Global};
 use std::fs::{File, Files};
 use std::io::Eprint;
@@ -38,6 +42,10 @@ pub struct StateBeginning {
     has_journal: bool,
     // Whether it continues with the journal that was found, since the state could not be saved.
     is_resumed: bool,
+    // What becomes of a new file that a carry-over left.
+    fate: Option<NewFate>,
+    // The state file that was loaded.
+    loaded: Option<SeenState>,
     mode: ProgressMode,
 }
 
@@ -61,10 +69,29 @@ impl StateBeginning {
                 made: MadeFiles::new(alloc, path, mode)?,
                 has_journal: found.has_journal,
                 is_resumed: false,
+                fate: None,
+                loaded: None,
                 mode,
             })),
             None => Ok(None),
         }
+    }
+
+    /// Looks what is to become of a new file that a kill or an error left of a carry-over. The save
+    /// does it: a beginning that is refused before it has changed no file.
+    ///
+    /// # Errors
+    /// - [`SyncError::Io`]: the system refused a step,
+    /// - [`SyncError::NoMemory`]: memory ran out.
+    pub fn see_previous<C: Closure, R: Files + Clock + Eprint>(
+        &mut self,
+        files: &R,
+        alloc: Global,
+        configs: &GivenConfigs,
+        path: &str,
+    ) -> Result<(), FileFault> {
+        self.fate = fate_of_found::<C, R>(files, alloc, configs, path)?;
+        Ok(())
     }
 
     /// What the state file and its journal hold, under each configuration. Each side was offered
@@ -75,14 +102,18 @@ impl StateBeginning {
     /// - Those of [`load_state`](crate::load_state): if the state is of neither configuration, the
     ///   one of the next one,
     /// - [`CommandError::Sync`]: the file of the other configuration is refused.
-    pub fn load<C: Closure, R: Files + Clock + Eprint>(
+    pub fn load<C: Closure, R: Files<File = File> + Clock + Eprint>(
         &mut self,
         files: &R,
         alloc: Global,
         configs: &GivenConfigs,
         path: &str,
     ) -> Result<BegunSides<C>, CommandError> {
-        match load_sides(files, alloc, configs, path, self.mode) {
+        match see_state(files, path) {
+            Ok(found) => self.loaded = Some(found),
+            Err(fault) => return Err(CommandError::Sync(fault.why)),
+        }
+        match load_sides(files, alloc, configs, path, self.fate, self.mode) {
             Ok(begun) => {
                 self.beginning.done();
                 Ok(begun)
@@ -112,10 +143,14 @@ impl StateBeginning {
         begun: &BegunSides<C>,
         path: &str,
     ) -> Result<(), FileFault> {
+        if let Some(fate) = self.fate {
+            settle_previous(files, alloc, fate, path)?;
+        }
         if begun.carried.is_none() {
             return self.save_next(files, alloc, &begun.sides.next, path);
         }
         carry_over(files, alloc, &begun.sides, path, self.mode)?;
+        self.loaded = Some(see_state(files, path)?);
         if let Some(mut carried) = Beginning::of(CARRIED_FILES, false) {
             // What the state file has is held.
             carried.done();
@@ -180,7 +215,10 @@ impl StateBeginning {
     ) -> Result<SeenState, FileFault> {
         match self.made.take_snapshot() {
             Some(file) => Ok(SeenState::of_file(file)),
-            None => see_state(files, path),
+            None => match self.loaded.take() {
+                Some(found) => Ok(found),
+                None => see_state(files, path),
+            },
         }
     }
 
@@ -207,29 +245,34 @@ impl StateBeginning {
 }
 
 /// Begins again while a replica runs: writes what it holds as the snapshot in the state file, and
-/// begins an empty journal. Whatever the files were before, what is held is in them then.
+/// begins an empty journal. Whatever the files were before, what is held is in them then. Nothing
+/// is written if the lock's name leads to another file: another command may have the state.
 ///
 /// # Errors
-/// - [`SyncError::Io`]: the system refused a step,
-/// - [`SyncError::NoMemory`]: memory ran out.
+/// - [`AppendFault::File`]: the system refused a step, or memory ran out,
+/// - [`AppendFault::Lost`]: the lock's name leads to another file.
 pub fn begin_again<C: Closure, R: Files<File = File> + Clock + Eprint>(
     files: &R,
     alloc: Global,
+    lock: &StateLock,
     closure: &C,
     path: &str,
     mode: ProgressMode,
-) -> Result<Journal, FileFault> {
+) -> Result<Journal, AppendFault> {
+    if lock.fate(files)? == FileFate::Replaced {
+        return Err(AppendFault::Lost(LostFile::Lock));
+    }
     let found = FoundFiles {
         has_state: true,
         has_journal: true,
     };
-    match StateBeginning::of(alloc, path, found, true, mode)? {
-        Some(mut again) => {
-            // What the files have is held.
-            again.beginning.done();
-            again.save_next(files, alloc, closure, path)?;
-            again.begin_journal(files, alloc, closure, path)
-        }
-        None => Err(FileFault::from(SyncError::Io)),
-    }
+    let mut again = match StateBeginning::of(alloc, path, found, true, mode) {
+        Ok(Some(again)) => again,
+        Ok(None) => return Err(AppendFault::File(FileFault::from(SyncError::Io))),
+        Err(refused) => return Err(AppendFault::File(FileFault::from(refused))),
+    };
+    // What the files have is held.
+    again.beginning.done();
+    again.save_next(files, alloc, closure, path)?;
+    Ok(again.begin_journal(files, alloc, closure, path)?)
 }

@@ -1,12 +1,13 @@
 //! What a replica that keeps running holds at its beginning, under one configuration or two.
 use crate::load::load_state;
 use crate::previous_state::load_previous;
-use closure_core::Closure;
+use closure_core::{Closure, TakeError};
 use command_exits::CommandError;
 use fed_config::Config;
 use progress_line::ProgressMode;
 use replica_core::SyncError;
-use side_by_side::{Offered, Side, Sides};
+use side_by_side::{Offered, Side, Sides, offer_held};
+use state_steps::NewFate;
 use std::alloc::{AllocError, Global};
 use std::fs::Files;
 use std::io::Eprint;
@@ -33,16 +34,20 @@ pub struct BegunSides<C> {
 
 /// What the state's files hold, under each configuration. Each side was offered all that the other
 /// holds. The state is one of the next configuration or, if there is one, of the previous
-/// one; what the other one held is in the file that a carry-over left, if there is one.
+/// one; what the other one held is in the file that a carry-over left, if there is one, or in its
+/// new file, if that has this fate. If that file is of the configuration of a state that is to be
+/// carried over, both are held: an older state was put back.
 ///
 /// # Errors
 /// - Those of [`load_state`]: if the state is of neither configuration, the one of the next one,
-/// - [`CommandError::Sync`]: the file of the other configuration is refused.
+/// - [`CommandError::Sync`]: the file that a carry-over left is refused, or has lines for which
+///   there is no place.
 pub(crate) fn load_sides<C: Closure, R: Files + Clock + Eprint>(
     rt: &R,
     alloc: Global,
     configs: &GivenConfigs,
     path: &str,
+    fate: Option<NewFate>,
     mode: ProgressMode,
 ) -> Result<BegunSides<C>, CommandError> {
     let loaded = load_state(rt, alloc, &configs.next, path, mode);
@@ -51,7 +56,7 @@ pub(crate) fn load_sides<C: Closure, R: Files + Clock + Eprint>(
     };
     match loaded {
         Ok(next) => {
-            let previous: C = load_previous(rt, alloc, previous, path, mode)?;
+            let previous: C = load_previous(rt, alloc, previous, path, fate, mode)?;
             let sides = Sides {
                 next,
                 previous: Some(previous),
@@ -63,14 +68,28 @@ pub(crate) fn load_sides<C: Closure, R: Files + Clock + Eprint>(
                 Err(other) if differs(&other) => return Err(why),
                 loaded => loaded?,
             };
+            let kept: C = load_previous(rt, alloc, previous, path, None, mode)?;
             let sides = Sides {
-                next: load_previous(rt, alloc, &configs.next, path, mode)?,
-                previous: Some(held),
+                next: load_previous(rt, alloc, &configs.next, path, fate, mode)?,
+                previous: Some(with_kept(alloc, held, &kept)?),
             };
             Ok(carried_sides(alloc, sides)?)
         }
         Err(why) => Err(why),
     }
+}
+
+// What is held, with all that the file has that a carry-over left of the same configuration. Lines
+// without a place would be lost when that file is replaced.
+fn with_kept<C: Closure>(alloc: Global, mut held: C, kept: &C) -> Result<C, CommandError> {
+    let mut unkept = Vec::new(alloc);
+    let offered = offer_held(alloc, kept, &mut held, &mut unkept)?;
+    if offered.no_place > 0 {
+        let placed = offered.taken.saturating_add(offered.held);
+        let why = SyncError::Refused(placed.saturating_add(2), TakeError::Full);
+        return Err(CommandError::Sync(why));
+    }
+    Ok(held)
 }
 
 // Whether the state is one of another configuration.

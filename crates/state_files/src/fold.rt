@@ -1,13 +1,15 @@
 //! A fold: what is held takes the place of the state file, piece by piece, and then the journal
 //! keeps only what came since.
 use crate::journal::Journal;
+use crate::lock::StateLock;
 use crate::made_files::MadeFiles;
+use crate::own_file::OwnFile;
 use closure_core::Closure;
 use command_exits::FileFault;
 use fed_config::Config;
 use replica_core::SyncError;
 use snapshot_pieces::SnapshotPieces;
-use state_steps::{FileStep, FoldEnd, Folding, Shortening};
+use state_steps::{FileStep, FoldEnd, Folding, LostFile, ShortenStep, Shortening, Since};
 use std::alloc::{AllocError, Global};
 use std::fs::{File, Files};
 use std::io::Eprint;
@@ -34,6 +36,8 @@ pub enum FoldFault {
     /// It was being emptied or replaced: nothing may be appended to it. The snapshot has all that
     /// was held when the fold began, and the journal what came since.
     Emptying(FileFault),
+    /// Others replaced or changed a file of the state.
+    Lost(LostFile),
 }
 
 impl From<FileFault> for FoldFault {
@@ -92,7 +96,7 @@ impl StateFold {
         let (pieces, text) = SnapshotPieces::begin(alloc, closure)?;
         let mut made = MadeFiles::of_fold(alloc, path)?;
         made.begin_snapshot(files, path)?;
-        if let Err(fault) = made.write_piece(text.as_slice()) {
+        if let Err(fault) = made.write_piece(files, text.as_slice()) {
             made.remove_new(files);
             return Err(fault);
         }
@@ -109,10 +113,11 @@ impl StateFold {
     /// large snapshot, not even the last.
     ///
     /// # Errors
-    /// If the system refused a step, or memory ran out. The journal is as it was, and the fold has
-    /// to be given up.
-    pub fn write_piece<C: Closure>(
+    /// If the system refused a step, or memory ran out, or others changed the snapshot. The journal
+    /// is as it was, and the fold has to be given up.
+    pub fn write_piece<C: Closure, R: Files>(
         &mut self,
+        files: &R,
         alloc: Global,
         closure: &C,
         journal: &Journal,
@@ -121,7 +126,7 @@ impl StateFold {
         self.journal_bytes = journal.bytes();
         let size = PIECE_BYTES.max(came.saturating_mul(PIECE_GROWTH));
         let piece = self.pieces.next(alloc, closure, size as usize)?;
-        self.made.write_piece(piece.text.as_slice())?;
+        self.made.write_piece(files, piece.text.as_slice())?;
         if piece.is_last {
             Ok(FoldPiece::Last)
         } else {
@@ -130,7 +135,8 @@ impl StateFold {
     }
 
     /// Gives the snapshot, of which all is written, the state file's name. Then the journal gets
-    /// a new file, with what came since the fold began.
+    /// a new file, with what came since the fold began. Before each step it is looked whether the
+    /// files of the state are as they were left.
     ///
     /// # Errors
     /// [`FoldFault`] says what is to be done.
@@ -138,22 +144,21 @@ impl StateFold {
         mut self,
         files: &R,
         alloc: Global,
+        lock: &StateLock,
         closure: &C,
         path: &str,
         journal: &mut Journal,
     ) -> Result<FoldResult, FoldFault> {
-        self.folding.done();
-        // What came while it was written may not be in it.
-        if journal.has_since()
-            && let Some(FileStep::SyncSnapshot) = self.folding.next()
-        {
-            self.folding.append();
-        }
-        self.do_later_steps(files, alloc, closure, path, journal)?;
+        let Some(since) = journal.take_since() else {
+            self.made.remove_new(files);
+            return Err(FoldFault::Kept(FileFault::from(SyncError::Io)));
+        };
+        self.folding.written(&since);
+        self.do_later_steps(files, alloc, lock, closure, path, journal)?;
         let is_empty = self.folding.is_done();
         match self.made.take_journal() {
-            Some(file) if is_empty => begin_in_place(file, journal),
-            _ => self.shorten(files, alloc, closure.config(), path, journal),
+            Some(file) if is_empty => Ok(begin_in_place(file, journal)),
+            _ => self.shorten(files, alloc, lock, closure.config(), path, journal, since),
         }
     }
 
@@ -161,6 +166,7 @@ impl StateFold {
         &mut self,
         files: &R,
         alloc: Global,
+        lock: &StateLock,
         closure: &C,
         path: &str,
         journal: &mut Journal,
@@ -169,6 +175,10 @@ impl StateFold {
             let Some(step) = self.folding.next() else {
                 break;
             };
+            // Then the journal has a new file.
+            if step != FileStep::SyncJournal {
+                self.refuse_lost(files, lock, path, journal)?;
+            }
             if let Err(fault) = self.made.do_step(files, alloc, closure, path, step) {
                 return Err(fold_fault(self.folding.failed(), fault));
             }
@@ -180,16 +190,34 @@ impl StateFold {
         Ok(())
     }
 
+    fn refuse_lost<R: Files>(
+        &mut self,
+        files: &R,
+        lock: &StateLock,
+        path: &str,
+        journal: &mut Journal,
+    ) -> Result<(), FoldFault> {
+        match journal.lost_file(files, lock, path)? {
+            None => Ok(()),
+            Some(lost) => {
+                self.made.remove_new(files);
+                Err(FoldFault::Lost(lost))
+            }
+        }
+    }
+
     // No line is appended meanwhile.
     fn shorten<R: Files<File = File>>(
         mut self,
         files: &R,
         alloc: Global,
+        lock: &StateLock,
         config: &Config,
         path: &str,
         journal: &mut Journal,
+        since: Since,
     ) -> Result<FoldResult, FoldFault> {
-        let Some(lines) = journal.take_since() else {
+        let Some(lines) = since.into_text() else {
             return Ok(FoldResult::Long);
         };
         let mut shortening = Shortening::begin();
@@ -197,6 +225,9 @@ impl StateFold {
             let Some(step) = shortening.next() else {
                 break;
             };
+            if step != ShortenStep::SyncFolder {
+                self.refuse_lost(files, lock, path, journal)?;
+            }
             let done = self
                 .made
                 .shorten(files, alloc, config, lines.as_slice(), path, step);
@@ -206,7 +237,7 @@ impl StateFold {
             shortening.done();
         }
         match self.made.take_journal() {
-            Some(file) if shortening.is_done() => begin_in_place(file, journal),
+            Some(file) if shortening.is_done() => Ok(begin_in_place(file, journal)),
             _ => Err(FoldFault::Emptying(FileFault::from(SyncError::Io))),
         }
     }
@@ -224,9 +255,7 @@ fn fold_fault(end: FoldEnd, fault: FileFault) -> FoldFault {
     }
 }
 
-fn begin_in_place(file: File, journal: &mut Journal) -> Result<FoldResult, FoldFault> {
-    match journal.begin_with(file) {
-        Ok(()) => Ok(FoldResult::Short),
-        Err(fault) => Err(FoldFault::Emptying(fault)),
-    }
+fn begin_in_place(file: OwnFile, journal: &mut Journal) -> FoldResult {
+    journal.begin_with(file);
+    FoldResult::Short
 }

@@ -1,14 +1,13 @@
 //! The journal of a running replica: what came since the snapshot was written.
 use crate::file_names::journal_path;
 use crate::lock::StateLock;
-use crate::named_files::is_named;
+use crate::own_file::OwnFile;
 use crate::state::SeenState;
 use command_exits::FileFault;
 use replica_core::SyncError;
-use state_steps::{AppendStep, Appending};
+use state_steps::{AppendStep, Appending, LostFile, Since, lost_of};
 use std::alloc::Global;
-use std::fs::{File, Files};
-use std::io::Write;
+use std::fs::Files;
 
 /// A journal is folded into the snapshot when it has more bytes than this, and more than half of
 /// the snapshot's.
@@ -18,36 +17,12 @@ const LONG_JOURNAL: u64 = 8_388_608;
 /// many bytes, or a quarter of those of both files if that is more. Else it is folded again later.
 const LEAST_SINCE: u64 = 16_777_216;
 
-/// The system's number for a file that was replaced (`ESTALE`).
-const STALE_FILE: i32 = 116;
-
-/// A file of a state whose name leads to another file now, or to none.
-#[derive(Clone, Copy, Debug, PartialEq, Eq)]
-pub enum LostFile {
-    /// The lock's: another command may have the state.
-    Lock,
-    /// The journal's: what was appended is in a file that nobody reads.
-    Journal,
-    /// The state's: what it had may be gone.
-    State,
-}
-
-impl LostFile {
-    /// The error with which a replica ends that has lost the file.
-    pub fn fault(self) -> FileFault {
-        FileFault {
-            why: SyncError::Io,
-            code: Some(STALE_FILE),
-        }
-    }
-}
-
 /// Why lines may not be acknowledged.
 #[derive(Clone, Copy, Debug)]
 pub enum AppendFault {
     /// The system refused a step.
     File(FileFault),
-    /// The lines are on the disk, and a name leads to another file.
+    /// A file is not as it was left. The lines may be on the disk.
     Lost(LostFile),
 }
 
@@ -61,79 +36,57 @@ impl From<FileFault> for AppendFault {
 /// the two have. [`Appending`] says what comes next: after an error nothing is appended any more.
 #[derive(Drop)]
 pub struct Journal {
-    file: File,
+    file: OwnFile,
     name: String,
-    bytes: u64,
     appending: Appending,
     state: SeenState,
-    snapshot_bytes: u64,
     // How long it is when it is folded next, if folding it was refused before.
     fold_at: u64,
-    // How long it was when the fold under way began.
-    bytes_at_fold: u64,
-    // What was appended since then, if that is not too long.
-    since: Option<Vec<u8>>,
-    // How many bytes that may have.
-    most_since: u64,
+    // What was appended since the fold under way began; empty without a fold.
+    since: Option<Since>,
 }
 
 impl Journal {
     /// The journal whose file was begun next to a state file that has all that is held.
     pub(crate) fn of_file(
         alloc: Global,
-        file: File,
+        file: OwnFile,
         state: SeenState,
         path: &str,
     ) -> Result<Journal, FileFault> {
-        let snapshot_bytes = state.bytes()?;
+        let fold_at = LONG_JOURNAL.max(state.bytes() / 2);
         Ok(Journal {
-            bytes: file.metadata()?.len(),
             file,
             name: journal_path(alloc, path)?,
             appending: Appending::begin(),
             state,
-            snapshot_bytes,
-            fold_at: LONG_JOURNAL.max(snapshot_bytes / 2),
-            bytes_at_fold: 0,
+            fold_at,
             since: None,
-            most_since: 0,
         })
     }
 
     /// The state file was replaced by this one, which was written here.
-    pub(crate) fn see(&mut self, state: File) {
+    pub(crate) fn see(&mut self, state: OwnFile) {
         self.state = SeenState::of_file(state);
-        if let Ok(bytes) = self.state.bytes() {
-            self.snapshot_bytes = bytes;
-        }
     }
 
     /// A fold begins: what is appended from now on is kept in memory too.
     pub(crate) fn begin_fold(&mut self, alloc: Global) {
-        self.bytes_at_fold = self.bytes;
-        self.most_since = LEAST_SINCE.max(self.snapshot_bytes / 4 + self.bytes / 4);
-        self.since = Some(Vec::new(alloc));
+        let most = LEAST_SINCE.max((self.snapshot_bytes() / 4).saturating_add(self.bytes() / 4));
+        self.since = Some(Since::begin(alloc, usize::try_from(most).unwrap_or(usize::MAX)));
     }
 
-    /// Whether lines were appended since the fold began.
-    pub(crate) fn has_since(&self) -> bool {
-        self.bytes > self.bytes_at_fold
-    }
-
-    /// What was appended since the fold began, once; none if it was too long.
-    pub(crate) fn take_since(&mut self) -> Option<Vec<u8>> {
+    /// What was appended since the fold began, once.
+    pub(crate) fn take_since(&mut self) -> Option<Since> {
         self.since.take()
     }
 
     /// It has another file now, which has what came since the fold began: it continues in this one.
-    pub(crate) fn begin_with(&mut self, file: File) -> Result<(), FileFault> {
-        self.snapshot_bytes = self.state.bytes()?;
-        self.bytes = file.metadata()?.len();
+    pub(crate) fn begin_with(&mut self, file: OwnFile) {
         self.file = file;
         self.since = None;
         self.appending = Appending::begin();
-        self.fold_at = LONG_JOURNAL.max(self.snapshot_bytes / 2);
-        Ok(())
+        self.fold_at = LONG_JOURNAL.max(self.snapshot_bytes() / 2);
     }
 
     /// Appends the lines. After an error what the disk holds is not known.
@@ -153,41 +106,29 @@ impl Journal {
     }
 
     fn write(&mut self, lines: &[u8]) -> Result<(), FileFault> {
-        match self.file.write_all(lines) {
+        match self.file.write(lines) {
             Ok(()) => {
                 self.appending.done();
-                self.bytes = self.bytes.saturating_add(lines.len() as u64);
-                self.note_since(lines);
+                if let Some(since) = &mut self.since {
+                    since.note(lines);
+                }
                 Ok(())
             }
-            Err(error) => {
+            Err(fault) => {
                 self.appending.failed();
-                Err(FileFault::from(error))
+                Err(fault)
             }
         }
     }
 
-    fn note_since(&mut self, lines: &[u8]) {
-        let is_noted = match &mut self.since {
-            Some(since) => {
-                self.bytes.saturating_sub(self.bytes_at_fold) <= self.most_since
-                    && since.extend_from_slice(lines).is_ok()
-            }
-            None => false,
-        };
-        if !is_noted {
-            self.since = None;
-        }
-    }
-
-    /// Has the system write to the disk what was appended, and looks whether the names of the lock,
-    /// of the journal and of the state at the path lead to the same files as before. Only then the
-    /// lines may be acknowledged. After an error what the disk holds is not known.
+    /// Has the system write to the disk what was appended, and looks whether the files of the lock,
+    /// of the journal and of the state at the path are as they were left. Only then the lines may
+    /// be acknowledged. After an error what the disk holds is not known.
     ///
     /// # Errors
     /// - [`AppendFault::File`]: `NoMemory` if the system says that memory ran out, and else `Io`;
     ///   `Io` also if an earlier call failed,
-    /// - [`AppendFault::Lost`]: a name leads to another file.
+    /// - [`AppendFault::Lost`]: others replaced or changed a file.
     pub fn sync<R: Files>(
         &mut self,
         files: &R,
@@ -208,7 +149,7 @@ impl Journal {
     }
 
     fn sync_lines(&mut self) -> Result<(), FileFault> {
-        match self.file.sync_data() {
+        match self.file.file().sync_data() {
             Ok(()) => {
                 self.appending.done();
                 Ok(())
@@ -238,48 +179,41 @@ impl Journal {
         Err(fault)
     }
 
-    /// The first of the lock, the journal and the state whose name leads to another file now, or to
-    /// none.
+    /// The first of the lock, the journal and the state that is not as it was left, as [`lost_of`]
+    /// says.
     ///
     /// # Errors
     /// If the system does not say: `NoMemory` if memory ran out, and else `Io`.
     pub fn lost_file<R: Files>(
-        &self,
+        &mut self,
         files: &R,
         lock: &StateLock,
         path: &str,
     ) -> Result<Option<LostFile>, FileFault> {
-        if !lock.is_named(files)? {
-            return Ok(Some(LostFile::Lock));
-        }
-        if !is_named(files, &self.file, self.name.as_str())? {
-            return Ok(Some(LostFile::Journal));
-        }
-        if !self.state.is_last(files, path)? {
-            return Ok(Some(LostFile::State));
-        }
-        Ok(None)
+        let lock = lock.fate(files)?;
+        let journal = self.file.leave(files, self.name.as_str())?;
+        Ok(lost_of(lock, journal, self.state.fate(files, path)?))
     }
 
     /// Whether it is long enough to be folded.
     pub fn is_long(&self) -> bool {
-        self.bytes > self.fold_at
+        self.bytes() > self.fold_at
     }
 
     /// It could not be folded, or got too much meanwhile: it is tried again when the journal is
     /// longer by the bytes of a long one.
     pub fn put_off(&mut self) {
         self.since = None;
-        self.fold_at = self.bytes.saturating_add(LONG_JOURNAL);
+        self.fold_at = self.bytes().saturating_add(LONG_JOURNAL);
     }
 
     /// How many bytes the snapshot has.
     pub fn snapshot_bytes(&self) -> u64 {
-        self.snapshot_bytes
+        self.state.bytes()
     }
 
     /// How many bytes the journal has.
     pub fn bytes(&self) -> u64 {
-        self.bytes
+        self.file.bytes()
     }
 }

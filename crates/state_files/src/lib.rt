@@ -13,7 +13,8 @@
 //! Between two configurations it begins with `begun_sides`, `carry_over` makes the state one of the
 //! next configuration, and `previous_state` is the file that keeps what the previous one held.
 //! `made_files` does the steps of a save, a beginning and a fold; a file that it makes is a
-//! `new_file`, whose mode and owner `access` gives. `resume` continues with a journal if the state
+//! `new_file`, whose mode and owner `access` gives. Whether others changed a file that is open is
+//! seen by `own_file`. `resume` continues with a journal if the state
 //! cannot be written. `file_names` has the files' names, `audit` is the file with a line for each
 //! change, and `named_files` what the system has under a name: what this program did not make is
 //! never changed.
@@ -32,6 +33,7 @@ mod lock;
 mod made_files;
 mod named_files;
 mod new_file;
+mod own_file;
 mod previous_state;
 mod resume;
 mod save;
@@ -42,10 +44,11 @@ pub use begin::{StateBeginning, begin_again};
 pub use begun_sides::{BegunSides, GivenConfigs};
 pub use file_names::{has_journal, journal_path};
 pub use fold::{FoldFault, FoldPiece, FoldResult, StateFold};
-pub use journal::{AppendFault, Journal, LostFile};
+pub use journal::{AppendFault, Journal};
 pub use load::load_state;
 pub use lock::{StateLock, is_marked, try_lock_state};
-pub use previous_state::{remove_previous, settle_previous};
+pub use named_files::stale_file;
+pub use previous_state::remove_previous;
 pub use save::{save_snapshot, save_state};
 pub use state::{SeenState, see_state, state_bytes};
-pub use state_steps::{AppendStep, FoundFiles, KeepStep, Keeping};
+pub use state_steps::{AppendStep, FoundFiles, KeepStep, Keeping, LostFile, OnDisk};

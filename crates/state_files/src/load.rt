@@ -1,17 +1,18 @@
 //! What the state file and its journal hold.
 use crate::file_names::journal_path;
+use crate::named_files::open_named;
 use crate::state::load_snapshot;
 use byte_lines::FromRead;
 use closure_core::Closure;
-use command_exits::{CommandError, FileFault};
+use command_exits::CommandError;
 use fed_config::Config;
 use progress_line::{LongWork, ProgressMode, WatchedReader, WorkProgress};
 use replica_journal::read_journal;
 use std::alloc::Global;
 use std::fs::Files;
+use std::io;
 use std::io::Eprint;
 use std::time::Clock;
-use std::{fs, io};
 
 /// The closure of what is held: what the snapshot in the state file says, and what the whole lines
 /// of its journal say. If neither file is there, it holds nothing.
@@ -48,15 +49,13 @@ fn load_files<C: Closure, R: Files + Clock + Eprint>(
     progress: &mut WorkProgress<'_, R>,
 ) -> Result<C, CommandError> {
     let name = journal_path(alloc, path)?;
-    match fs::open(rt, name.as_str()) {
-        Ok(journal) => {
+    match open_named(rt, name.as_str()) {
+        Ok(Some(journal)) => {
             let closure = load_snapshot(rt, alloc, config, path, progress)?;
             with_journal(alloc, closure, WatchedReader::new(journal, progress))
         }
-        Err(error) if error.kind() == io::ErrorKind::NotFound => {
-            Ok(load_snapshot(rt, alloc, config, path, progress)?)
-        }
-        Err(error) => Err(CommandError::Journal(FileFault::from(error).why)),
+        Ok(None) => Ok(load_snapshot(rt, alloc, config, path, progress)?),
+        Err(fault) => Err(CommandError::Journal(fault.why)),
     }
 }
 

@@ -1,12 +1,14 @@
 //! The lock of a state file.
 use crate::access::owner_only;
 use crate::file_names::lock_path;
-use crate::named_files::{foreign_file, found, is_named, is_plain_file, may_be_left_of};
+use crate::named_files::{foreign_file, found, is_plain_file, may_be_left_of};
+use crate::own_file::OwnFile;
 use command_exits::FileFault;
 use replica_core::SyncError;
+use state_steps::FileFate;
 use std::alloc::Global;
 use std::fs::{File, Files, TryLockError};
-use std::io::{ErrorKind, Write};
+use std::io::ErrorKind;
 use std::os::unix::fs::FileExt;
 use std::{fs, io};
 
@@ -23,17 +25,17 @@ const MARK_BYTES: usize = 21;
 /// is still there afterwards.
 #[derive(Drop)]
 pub struct StateLock {
-    file: File,
+    file: OwnFile,
     name: String,
 }
 
 impl StateLock {
-    /// Whether the lock's name still leads to the file that is locked.
+    /// What became of the file that is locked.
     ///
     /// # Errors
     /// If the system does not say: `NoMemory` if memory ran out, and else `Io`.
-    pub(crate) fn is_named<R: Files>(&self, files: &R) -> Result<bool, FileFault> {
-        is_named(files, &self.file, self.name.as_str())
+    pub(crate) fn fate<R: Files>(&self, files: &R) -> Result<FileFate, FileFault> {
+        self.file.fate(files, self.name.as_str())
     }
 
     /// Leaves a mark in the lock's file that a replica has the lock, and will keep it.
@@ -42,14 +44,12 @@ impl StateLock {
     /// `NoMemory` if the system says that memory ran out, and else `Io`. The file is empty then,
     /// unless the system refuses that too.
     pub fn mark(&mut self) -> Result<(), FileFault> {
-        match self.file.write_all(MARK) {
-            Ok(()) => Ok(()),
-            Err(error) => {
-                // So that no part of it says that a replica runs.
-                let _ = self.file.set_len(0);
-                Err(FileFault::from(error))
-            }
+        let marked = self.file.write(MARK);
+        if marked.is_err() {
+            // So that no part of it says that a replica runs.
+            let _ = self.file.file().set_len(0);
         }
+        marked
     }
 }
 
@@ -83,8 +83,9 @@ pub fn try_lock_state<R: Files<File = File>>(
             if !has_locked(&file)? {
                 return Ok(None);
             }
-            if is_named(files, &file, name.as_str())? {
-                clear_mark(&file)?;
+            let file = OwnFile::of(file)?;
+            if file.fate(files, name.as_str())? != FileFate::Replaced {
+                clear_mark(file.file())?;
                 return Ok(Some(StateLock { file, name }));
             }
         }

@@ -1,18 +1,19 @@
 //! The steps that change the files of a state, as calls of the system.
 use crate::file_names::{journal_path, new_path, sync_folder};
-use crate::named_files::remove_own;
+use crate::named_files::{remove_own, stale_file};
 use crate::new_file::{create_new, write_closure};
+use crate::own_file::OwnFile;
 use closure_core::Closure;
 use command_exits::FileFault;
 use fed_config::Config;
 use progress_line::ProgressMode;
 use replica_core::SyncError;
 use replica_journal::begin_journal;
-use state_steps::{FileStep, ShortenStep};
+use state_steps::{FileFate, FileStep, ShortenStep};
 use std::alloc::{AllocError, Global};
 use std::fs;
 use std::fs::{File, Files};
-use std::io::{Eprint, Write};
+use std::io::Eprint;
 use std::time::Clock;
 
 /// The names of the files next to a state file, and the files that are made, each from its writing
@@ -21,9 +22,9 @@ use std::time::Clock;
 pub(crate) struct MadeFiles {
     new_name: String,
     journal_name: String,
-    new: Option<File>,
-    snapshot: Option<File>,
-    journal: Option<File>,
+    new: Option<OwnFile>,
+    snapshot: Option<OwnFile>,
+    journal: Option<OwnFile>,
     mode: ProgressMode,
 }
 
@@ -52,12 +53,12 @@ impl MadeFiles {
     }
 
     /// The snapshot that has its name now, once.
-    pub(crate) fn take_snapshot(&mut self) -> Option<File> {
+    pub(crate) fn take_snapshot(&mut self) -> Option<OwnFile> {
         self.snapshot.take()
     }
 
     /// The journal that was begun, once.
-    pub(crate) fn take_journal(&mut self) -> Option<File> {
+    pub(crate) fn take_journal(&mut self) -> Option<OwnFile> {
         self.journal.take()
     }
 
@@ -72,11 +73,16 @@ impl MadeFiles {
     }
 
     /// Appends a piece to it, and has the system put that on the disk.
-    pub(crate) fn write_piece(&mut self, piece: &[u8]) -> Result<(), FileFault> {
+    pub(crate) fn write_piece<R: Files>(
+        &mut self,
+        files: &R,
+        piece: &[u8],
+    ) -> Result<(), FileFault> {
         match &mut self.new {
             Some(file) => {
-                file.write_all(piece)?;
-                Ok(file.sync_data()?)
+                file.refuse_touched(files, self.new_name.as_str())?;
+                file.write(piece)?;
+                file.settle()
             }
             None => Err(FileFault::from(SyncError::Io)),
         }
@@ -109,19 +115,29 @@ impl MadeFiles {
     ) -> Result<(), FileFault> {
         match step {
             FileStep::WriteSnapshot => self.write_snapshot(files, alloc, closure, path),
-            FileStep::SyncSnapshot => sync_file(&self.new),
+            FileStep::SyncSnapshot => settle(&mut self.new),
             FileStep::ReplaceSnapshot => {
-                fs::rename(files, self.new_name.as_str(), path)?;
-                self.snapshot = self.new.take();
+                self.snapshot = rename_new(files, &mut self.new, self.new_name.as_str(), path)?;
                 Ok(())
             }
             FileStep::SyncFolder => sync_folder(files, path),
-            FileStep::RemoveJournal => remove_own(files, self.journal_name.as_str()),
+            FileStep::RemoveJournal => {
+                self.refuse_other_state(files, path)?;
+                remove_own(files, self.journal_name.as_str())
+            }
             FileStep::BeginJournal => self.begin_journal(files, alloc, closure.config(), path),
             FileStep::SyncJournal => {
-                sync_file(&self.journal)?;
+                settle(&mut self.journal)?;
                 sync_folder(files, path)
             }
+        }
+    }
+
+    // Without the snapshot that was written here the journal is all that there is.
+    fn refuse_other_state<R: Files>(&self, files: &R, path: &str) -> Result<(), FileFault> {
+        match &self.snapshot {
+            Some(snapshot) => snapshot.refuse_touched(files, path),
+            None => Err(stale_file()),
         }
     }
 
@@ -151,7 +167,7 @@ impl MadeFiles {
     ) -> Result<(), FileFault> {
         let done = match step {
             ShortenStep::WriteJournal => self.write_journal(files, alloc, config, lines, path),
-            ShortenStep::SyncNew => sync_file(&self.new),
+            ShortenStep::SyncNew => settle(&mut self.new),
             ShortenStep::ReplaceJournal => self.replace_journal(files),
             ShortenStep::SyncFolder => sync_folder(files, path),
         };
@@ -174,20 +190,23 @@ impl MadeFiles {
         let file = self
             .new
             .insert(create_new(files, self.new_name.as_str(), path)?);
-        file.write_all(first.as_slice())?;
-        Ok(file.write_all(lines)?)
+        file.write(first.as_slice())?;
+        file.write(lines)
     }
 
     fn replace_journal<R: Files>(&mut self, files: &R) -> Result<(), FileFault> {
-        fs::rename(files, self.new_name.as_str(), self.journal_name.as_str())?;
-        self.journal = self.new.take();
+        let name = self.journal_name.as_str();
+        self.journal = rename_new(files, &mut self.new, self.new_name.as_str(), name)?;
         Ok(())
     }
 
-    /// Removes the new file that was made here. If it is still there afterwards, no harm is done:
-    /// nobody reads it, and the next one takes its place.
+    /// Removes the new file that was made here, if its name leads to it. If it is still there
+    /// afterwards, no harm is done: nobody reads it, and the next one takes its place.
     pub(crate) fn remove_new<R: Files>(&mut self, files: &R) {
-        if self.new.take().is_some() {
+        if let Some(new) = self.new.take()
+            && let Ok(fate) = new.fate(files, self.new_name.as_str())
+            && fate != FileFate::Replaced
+        {
             let _ = fs::remove_file(files, self.new_name.as_str());
         }
     }
@@ -203,16 +222,34 @@ impl MadeFiles {
         let mut line = Vec::new(alloc);
         begin_journal(alloc, config, &mut line)?;
         let mut file = create_new(files, self.journal_name.as_str(), path)?;
-        file.write_all(line.as_slice())?;
+        file.write(line.as_slice())?;
         self.journal = Some(file);
         Ok(())
     }
 }
 
+// Gives the new file the name, if it is the one that was written here. Somebody else may have put
+// another one there.
+fn rename_new<R: Files>(
+    files: &R,
+    new: &mut Option<OwnFile>,
+    from: &str,
+    to: &str,
+) -> Result<Option<OwnFile>, FileFault> {
+    let Some(mut file) = new.take() else {
+        return Err(stale_file());
+    };
+    if let Err(fault) = file.rename(files, from, to) {
+        *new = Some(file);
+        return Err(fault);
+    }
+    Ok(Some(file))
+}
+
 // Has the system put the file on the disk.
-fn sync_file(file: &Option<File>) -> Result<(), FileFault> {
+fn settle(file: &mut Option<OwnFile>) -> Result<(), FileFault> {
     match file {
-        Some(file) => Ok(file.sync_all()?),
+        Some(file) => file.settle(),
         None => Ok(()),
     }
 }

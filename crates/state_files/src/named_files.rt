@@ -1,9 +1,10 @@
 //! What the system has under a name, and whether this program made it.
 use command_exits::FileFault;
 use replica_core::SyncError;
-use std::fs::{File, Files};
+use state_steps::{FileSeen, FileTime};
+use std::fs::{Files, Metadata};
 use std::io::Read;
-use std::os::unix::fs::MetadataExt;
+use std::os::unix::fs::{FileTypeExt, MetadataExt};
 use std::{fs, io};
 
 /// With what each snapshot and each journal begins.
@@ -16,6 +17,9 @@ const ZEROS: &[u8] = &[0; 32];
 
 /// The system's number for a file that is there already (`EEXIST`).
 const FILE_EXISTS: i32 = 17;
+
+/// The system's number for a file that is not the one that was left (`ESTALE`).
+const STALE_FILE: i32 = 116;
 
 /// What the system says of a name, or `None` if nothing has the name.
 pub(crate) fn found<T: Drop>(answer: io::Result<T>) -> Result<Option<T>, FileFault> {
@@ -31,6 +35,24 @@ pub(crate) fn foreign_file() -> FileFault {
     FileFault {
         why: SyncError::Io,
         code: Some(FILE_EXISTS),
+    }
+}
+
+/// The error if a file is not as it was left here.
+pub fn stale_file() -> FileFault {
+    FileFault {
+        why: SyncError::Io,
+        code: Some(STALE_FILE),
+    }
+}
+
+/// Opens the file to be read, or returns `None` if nothing has the name. A pipe that has it is
+/// refused: to open it would wait for who writes into it.
+pub(crate) fn open_named<R: Files>(files: &R, name: &str) -> Result<Option<R::File>, FileFault> {
+    match found(fs::symlink_metadata(files, name))? {
+        Some(there) if there.file_type().is_fifo() => Err(foreign_file()),
+        Some(_) => found(fs::open(files, name)),
+        None => Ok(None),
     }
 }
 
@@ -85,9 +107,24 @@ pub(crate) fn may_be_left_of(bytes: &[u8], text: &[u8]) -> bool {
     text.starts_with(bytes) || ZEROS.starts_with(bytes)
 }
 
-/// Whether the open file is the one that has the name now.
-pub(crate) fn is_named<R: Files>(files: &R, file: &File, name: &str) -> Result<bool, FileFault> {
-    let own = file.metadata()?;
-    let named = found(fs::metadata(files, name))?;
-    Ok(named.is_some_and(|it| (it.dev(), it.ino()) == (own.dev(), own.ino())))
+/// What the system says of the file that has the name; none if nothing has it.
+pub(crate) fn seen_under<R: Files>(files: &R, name: &str) -> Result<Option<FileSeen>, FileFault> {
+    Ok(found(fs::metadata(files, name))?.map(|it| seen_as(&it)))
+}
+
+/// What it says of a file.
+pub(crate) fn seen_as(said: &Metadata) -> FileSeen {
+    FileSeen {
+        device: said.dev(),
+        number: said.ino(),
+        bytes: said.len(),
+        changed: FileTime {
+            seconds: said.mtime(),
+            nanos: said.mtime_nsec(),
+        },
+        touched: FileTime {
+            seconds: said.ctime(),
+            nanos: said.ctime_nsec(),
+        },
+    }
 }

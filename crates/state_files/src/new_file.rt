@@ -1,6 +1,7 @@
 //! A file that is to have a name of the state: how it is made, and how a snapshot gets into it.
 use crate::access::{owner_only, take_access};
 use crate::named_files::{found, remove_own};
+use crate::own_file::OwnFile;
 use byte_lines::FromWrite;
 use closure_core::Closure;
 use command_exits::FileFault;
@@ -9,7 +10,7 @@ use replica_core::SyncError;
 use replica_sync::write_snapshot;
 use std::alloc::Global;
 use std::fs::{File, Files};
-use std::io::{BufWriter, Eprint, Write};
+use std::io::{BufWriter, Eprint};
 use std::time::Clock;
 use std::{fs, io};
 
@@ -24,13 +25,13 @@ pub(crate) fn create_new<R: Files<File = File>>(
     files: &R,
     name: &str,
     path: &str,
-) -> Result<File, FileFault> {
+) -> Result<OwnFile, FileFault> {
     remove_own(files, name)?;
     let mut options = owner_only();
-    options.create_new(true);
+    options.append(true).create_new(true);
     let file = options.open(files, name)?;
     match take_state_access(files, &file, path) {
-        Ok(()) => Ok(file),
+        Ok(()) => OwnFile::of(file),
         Err(fault) => {
             // If it is still there afterwards, no harm is done: the next one takes its place.
             let _ = fs::remove_file(files, name);
@@ -52,7 +53,7 @@ pub(crate) fn write_closure<C: Closure, R: Clock + Eprint>(
     rt: &R,
     alloc: Global,
     closure: &C,
-    file: &File,
+    file: &mut OwnFile,
     mode: ProgressMode,
 ) -> Result<(), FileFault> {
     let mut noting = NotingFile { file, code: None };
@@ -70,16 +71,17 @@ pub(crate) fn write_closure<C: Closure, R: Clock + Eprint>(
 // A file that keeps the system's number of the last error of a write.
 #[derive(Drop)]
 struct NotingFile<'a> {
-    file: &'a File,
+    file: &'a mut OwnFile,
     code: Option<i32>,
 }
 
 impl io::Write for NotingFile<'_> {
     fn write(&mut self, bytes: &[u8]) -> io::Result<usize> {
-        let mut file = self.file;
+        let mut file = self.file.file();
         let written = file.write(bytes);
-        if let Err(error) = &written {
-            self.code = error.raw_os_error();
+        match &written {
+            Ok(count) => self.file.note(*count as u64),
+            Err(error) => self.code = error.raw_os_error(),
         }
         written
     }

@@ -3,11 +3,11 @@ use crate::access::owner_only;
 use crate::file_names::{journal_path, sync_folder};
 use crate::journal::Journal;
 use crate::named_files::{foreign_file, is_plain_file};
+use crate::own_file::OwnFile;
 use crate::state::see_state;
 use command_exits::FileFault;
-use memchr::memrchr;
 use replica_core::SyncError;
-use state_steps::{ResumeStep, Resuming};
+use state_steps::{CountedLines, ResumeStep, Resuming};
 use std::alloc::Global;
 use std::fs::{File, Files};
 use std::os::unix::fs::FileExt;
@@ -45,6 +45,7 @@ pub(crate) fn resume_journal<R: Files<File = File>>(
         }
         resuming.done();
     }
+    let file = OwnFile::of(file)?;
     let mut journal = Journal::of_file(alloc, file, see_state(files, path)?, path)?;
     journal.put_off();
     Ok(journal)
@@ -83,17 +84,13 @@ fn do_step<R: Files>(
 // How many bytes the whole lines have.
 fn whole_bytes(alloc: Global, file: &File) -> Result<u64, FileFault> {
     let mut buffer = Vec::from_elem(alloc, 0, READ_BYTES)?;
-    let mut whole = 0u64;
-    let mut read = 0u64;
+    let mut counted = CountedLines::begin();
     for _ in 0..u64::MAX {
-        let count = file.read_at(&mut buffer, read)?.min(READ_BYTES);
+        let count = file.read_at(&mut buffer, counted.read())?;
         if count == 0 {
             break;
         }
-        if let Some(last) = memrchr(b'\n', &buffer[..count.min(buffer.len())]) {
-            whole = read.saturating_add(last as u64).saturating_add(1);
-        }
-        read = read.saturating_add(count as u64);
+        counted.add(&buffer[..count.min(buffer.len())]);
     }
-    Ok(whole)
+    Ok(counted.whole())
 }

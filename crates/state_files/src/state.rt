@@ -1,5 +1,6 @@
 //! The state file: the snapshot of what a replica holds, kept between two commands.
-use crate::named_files::{found, is_named};
+use crate::named_files::{found, open_named};
+use crate::own_file::OwnFile;
 use byte_lines::FromRead;
 use closure_core::Closure;
 use command_exits::FileFault;
@@ -7,11 +8,12 @@ use fed_config::Config;
 use progress_line::{WatchedReader, WorkProgress};
 use replica_core::SyncError;
 use replica_sync::read_snapshot;
+use state_steps::FileFate;
 use std::alloc::Global;
+use std::fs;
 use std::fs::{File, Files};
 use std::io::Eprint;
 use std::time::Clock;
-use std::{fs, io};
 
 /// How many bytes the state file has, or `None` if there is no state file.
 ///
@@ -21,11 +23,10 @@ pub fn state_bytes<R: Files>(files: &R, path: &str) -> Result<Option<u64>, FileF
     Ok(found(fs::metadata(files, path))?.map(|state| state.len()))
 }
 
-/// The state file as it was found, or that there was none. The file is kept open, so that the
-/// system gives its number to no other file.
+/// The state file as it was found, or that there was none.
 #[derive(Drop)]
 pub struct SeenState {
-    file: Option<File>,
+    file: Option<OwnFile>,
 }
 
 /// Remembers which state file there is.
@@ -34,32 +35,42 @@ pub struct SeenState {
 /// If the file is there and cannot be opened, `NoMemory` if the system says that memory ran out,
 /// and else `Io`.
 pub fn see_state<R: Files<File = File>>(files: &R, path: &str) -> Result<SeenState, FileFault> {
-    let file = found(fs::open(files, path))?;
+    let file = match open_named(files, path)? {
+        Some(file) => Some(OwnFile::of(file)?),
+        None => None,
+    };
     Ok(SeenState { file })
 }
 
 impl SeenState {
     /// The state file is this one, which was written here.
-    pub(crate) fn of_file(file: File) -> SeenState {
+    pub(crate) fn of_file(file: OwnFile) -> SeenState {
         SeenState { file: Some(file) }
     }
 
     /// How many bytes it has; none if there was no file.
-    pub(crate) fn bytes(&self) -> Result<u64, FileFault> {
+    pub(crate) fn bytes(&self) -> u64 {
         match &self.file {
-            Some(file) => Ok(file.metadata()?.len()),
-            None => Ok(0),
+            Some(file) => file.bytes(),
+            None => 0,
         }
     }
 
-    /// Whether no command has written the state file since: each gives it to a new file.
+    /// Whether nobody has written the state file since.
     ///
     /// # Errors
     /// If the system does not say: `NoMemory` if memory ran out, and else `Io`.
     pub fn is_last<R: Files>(&self, files: &R, path: &str) -> Result<bool, FileFault> {
+        let fate = self.fate(files, path)?;
+        Ok(matches!(fate, FileFate::Same | FileFate::Touched))
+    }
+
+    /// What became of the state file since.
+    pub(crate) fn fate<R: Files>(&self, files: &R, path: &str) -> Result<FileFate, FileFault> {
         match &self.file {
-            Some(file) => is_named(files, file, path),
-            None => Ok(found(fs::metadata(files, path))?.is_none()),
+            Some(file) => file.fate(files, path),
+            None if found(fs::metadata(files, path))?.is_none() => Ok(FileFate::Same),
+            None => Ok(FileFate::Replaced),
         }
     }
 }
@@ -76,12 +87,12 @@ pub(crate) fn load_snapshot<C: Closure, R: Files + Clock + Eprint>(
     path: &str,
     progress: &mut WorkProgress<'_, R>,
 ) -> Result<C, SyncError> {
-    match fs::open(rt, path) {
-        Ok(file) => {
+    match open_named(rt, path) {
+        Ok(Some(file)) => {
             let file = WatchedReader::new(file, progress);
             read_snapshot(alloc, config, &mut FromRead::new(file))
         }
-        Err(error) if error.kind() == io::ErrorKind::NotFound => Ok(C::new(alloc, config)?),
-        Err(error) => Err(FileFault::from(error).why),
+        Ok(None) => Ok(C::new(alloc, config)?),
+        Err(fault) => Err(fault.why),
     }
 }

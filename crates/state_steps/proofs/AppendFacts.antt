@@ -1,13 +1,12 @@
 -- Lemmas on a journal to which lines are appended.
-use Rattle.std.proofs.Common.{◌≡◌, ℕ, ◌⊎◌, inl, inr, List, [], ◌∷◌, ◌++◌, take, length, sym, ap, subst, refl, ◌∙◌, append-nil, append_assoc}
-use Rattle.std.proofs.Common.{le_refl, take_all}
-use Rattle.state_steps.specs.Appends.{FailsAppend, IsAppendedOn, IsWrittenTo, after_append, following_append, with_lines, written_after}
+use Rattle.std.proofs.Common.{◌≡◌, ℕ, ◌⊎◌, inl, inr, List, [], ◌∷◌, ◌++◌, take, sym, ap, subst, refl, ◌∙◌, append-nil, append_assoc}
+use Rattle.state_steps.specs.Appends.{FailsAppend, IsAppendedOn, IsWrittenTo, after_append, following_append, written_after}
 use Rattle.state_steps.specs.Files.{AreKeeping, FileText, HasOneFile, HasWholeLine, IsFirstFile, IsFoundAt, KeepsLine, StateDisk}
 use Rattle.state_steps.specs.Files.{kept_file, longer_file, synced_file, text_now, with_first}
 use Rattle.state_steps.specs.declared.appending.AppendStage.{AppendStage}
 use Rattle.state_steps.specs.declared.appending.AppendStage.TheVariants.{OnDisk, Due, Failed}
 use Rattle.state_steps.specs.declared.appending.AppendStep.TheVariants.{WriteLines, SyncLines, SeeNames}
-use Rattle.state_steps.proofs.LineFacts.{keeping_appending, keeping_longer, kept_has}
+use Rattle.state_steps.proofs.LineFacts.{all_left, keeping_appending, keeping_longer}
 
 -- ---- the journal's one file
 
@@ -40,14 +39,6 @@ keeping_synced snapshots (file ∷ (other ∷ files)) line one keeping = absurd 
 
 -- ---- lines come, and steps are done
 
-pub add_due : (written : List ℕ) (stage : AppendStage) (disk : StateDisk) → IsAppendedOn written stage disk
-    → IsAppendedOn written (with_lines stage) disk
-add_due written OnDisk disk due = kept_written written disk.journal due
-add_due written (Due WriteLines) disk due = due
-add_due written (Due SyncLines) disk due = due
-add_due written (Due SeeNames) disk due = kept_written written disk.journal due
-add_due written Failed disk due = due
-
 pub append_due : (written bytes : List ℕ) (stage : AppendStage) (disk : StateDisk) → IsAppendedOn written stage disk
     → IsAppendedOn (written_after bytes stage written) (following_append stage) (after_append bytes stage disk)
 append_due written bytes OnDisk disk due = due
@@ -78,23 +69,12 @@ append_failed written bytes (Due SyncLines) disk left line due kept (inr is) = s
 append_failed written bytes (Due SeeNames) disk left line due kept fails = subst (λ d. KeepsLine d line) (sym fails) kept
 append_failed written bytes Failed disk left line due kept fails = subst (λ d. KeepsLine d line) (sym fails) kept
 
--- ---- what may be acknowledged
-
--- Each whole line of a journal all of which is on the disk is kept.
-pub on_disk_keeps : (written : List ℕ) (disk : StateDisk) (line : List ℕ) → disk.journal ≡ kept_file written ∷ []
-    → HasWholeLine written line → KeepsLine disk line
-on_disk_keeps written disk line is has snapshot journal at_snapshot at_journal =
-    inr (kept_has disk.journal written journal line is at_journal has)
-
 -- ---- what is read now
 
 -- What is read now is one of the texts that a stop may leave.
 found_now : (name : List FileText) (file : FileText) → IsFirstFile file name → IsFoundAt name (text_now file)
 found_now [] file first = absurd first
-found_now (own ∷ files) file first = inl (
-  length own.since,
-  ap text_now (sym first) ∙ ap (λ t. own.kept ++ t) (sym (take_all (length own.since) own.since (le_refl (length own.since)))),
-)
+found_now (own ∷ files) file first = inl (own.since, all_left own.since, ap text_now (sym first))
 
 pub read_now : (disk : StateDisk) (snapshot journal : FileText) (line : List ℕ) → IsFirstFile snapshot disk.snapshot
     → IsFirstFile journal disk.journal → KeepsLine disk line

@@ -1,27 +1,30 @@
 -- Lemmas on how far a state has been carried over to another configuration.
-use Rattle.std.proofs.Common.{◌≡◌, ℕ, ◌⊎◌, inl, inr, Bool, true, false, List, [], ◌∷◌, ◌++◌, sym, ap, subst, refl, ◌∙◌, append-nil, true≢false}
-use Rattle.std.proofs.Math.Seq.{take-nil}
+use Rattle.std.proofs.Common.{◌≡◌, ◌≢◌, ℕ, ◌⊎◌, inl, inr, Bool, List, [], ◌∷◌, ◌++◌, sym, ap, subst, refl, ◌∙◌, append-nil, arith, length}
+use Rattle.std.proofs.Common.{Option, None, Some}
 use Rattle.state_steps.specs.Carries.{AreApart, CarryDisk, CarryFound, CarryTexts, IsCarryDueOn, IsCarryKeptOn}
-use Rattle.state_steps.specs.Carries.{IsCarrySafe, StopLeaves, IsOldState, IsRolledBack, IsWithoutJournal, StopsInDue, StopsInReplace, StopsInSave}
-use Rattle.state_steps.specs.Carries.{IsInSave, after_carry_due, after_start, following_carry, previous_of, saved_state, started_previous}
-use Rattle.state_steps.specs.Files.{FileText, HasWholeLine, IsFoundAt, IsLeftOf, KeepsLine, StateDisk, kept_file, settled_name}
+use Rattle.state_steps.specs.Carries.{IsCarrySafe, StopLeaves, IsOldState, IsPreviousLine, IsWithoutJournal, StopsInDue, StopsInReplace, StopsInSave}
+use Rattle.state_steps.specs.Carries.{IsInSave, after_carry_due, after_start, fate_beside, fate_of_new, following_carry, previous_of}
+use Rattle.state_steps.specs.Carries.{saved_state, started_previous}
+use Rattle.state_steps.specs.Files.{FileText, HasWholeLine, IsFoundAt, IsLeftOf, IsRemnantOf, KeepsLine, StateDisk, kept_file, settled_name}
 use Rattle.state_steps.specs.Saves.{IsSaveDueOn, save_step}
 use Rattle.state_steps.specs.Steps.{FailsDue, StateTexts, after_due}
 use Rattle.state_steps.specs.declared.carrying_over.CarryStage.{CarryStage}
 use Rattle.state_steps.specs.declared.carrying_over.CarryStage.TheVariants.{Due, Done, Failed}
 use Rattle.state_steps.specs.declared.carrying_over.CarryStep.TheVariants.{FoldState, WritePrevious, SaveState, ReplacePrevious}
+use Rattle.state_steps.specs.declared.new_fate.NewFate.{NewFate}
+use Rattle.state_steps.specs.declared.new_fate.NewFate.TheVariants.{GetsName, IsRemoved}
 use Rattle.state_steps.specs.declared.saving.SaveStage.{SaveStage}
 use Rattle.state_steps.specs.declared.saving.SaveStage as save
 use Rattle.state_steps.specs.declared.file_step.FileStep.TheVariants.{WriteSnapshot, SyncSnapshot, ReplaceSnapshot}
 use Rattle.state_steps.specs.declared.file_step.FileStep.TheVariants.{SyncFolder, RemoveJournal, BeginJournal, SyncJournal}
-use Rattle.state_steps.proofs.LineFacts.{found_settled}
+use Rattle.state_steps.proofs.LineFacts.{all_left, found_settled, nothing_left, part_of_none}
 use Rattle.state_steps.proofs.StepFacts.{none_whole, settled_first}
 
 -- ---- what is found
 
 -- A file all of which is on the disk is found whole.
 left_kept : (text found : List ℕ) → IsLeftOf (kept_file text) found → found ≡ text
-left_kept text found left = left.1 ∙ ap (λ t. text ++ t) (take-nil left.0) ∙ append-nil text
+left_kept text found left = left.2 ∙ ap (λ t. text ++ t) (part_of_none left.0 left.1) ∙ append-nil text
 
 left_of_kept : (file : FileText) (text found : List ℕ) → file ≡ kept_file text → IsLeftOf file found → found ≡ text
 left_of_kept file text found is left = left_kept text found (subst (λ f. IsLeftOf f found) is left)
@@ -35,11 +38,12 @@ found_kept name text found is at = found_one text found (subst (λ n. IsFoundAt 
 
 -- ---- the rule of a start
 
-started_old : (texts : CarryTexts) (found : CarryFound) → texts.is_new found.snapshot ≡ false
+started_old : (texts : CarryTexts) (found : CarryFound) → fate_beside texts found.snapshot found.previous_new ≡ IsRemoved
     → started_previous texts found ≡ found.previous
-started_old texts found is = ap (λ b. previous_of b found.previous_new found.previous) is
+started_old texts found is = ap (λ f. previous_of f found.previous_new found.previous) is
 
-new_or_empty : (new previous : List ℕ) → (previous_of true new previous ≡ new) ⊎ ((previous_of true new previous ≡ previous) × (new ≡ []))
+new_or_empty : (new previous : List ℕ)
+    → (previous_of GetsName new previous ≡ new) ⊎ ((previous_of GetsName new previous ≡ previous) × (new ≡ []))
 new_or_empty [] previous = inr (refl, refl)
 new_or_empty (byte ∷ more) previous = inl refl
 
@@ -47,25 +51,28 @@ new_or_empty (byte ∷ more) previous = inl refl
 abbrev IsOldFound : CarryTexts → CarryFound → Type 0
 IsOldFound texts found = (found.previous_new ≡ texts.old) ⊎ ((found.previous ≡ texts.old) × (found.previous_new ≡ []))
 
-started_new : (texts : CarryTexts) (found : CarryFound) → texts.is_new found.snapshot ≡ true → IsOldFound texts found
+-- After the rule of a start, the rule changes nothing more.
+again : (fate : NewFate) (previous : List ℕ) → previous_of fate [] previous ≡ previous
+again GetsName previous = refl
+again IsRemoved previous = refl
+
+started_new : (texts : CarryTexts) (found : CarryFound) → AreApart texts → found.snapshot ≡ texts.new → IsOldFound texts found
     → (started_previous texts found ≡ texts.old) ⊎ ((started_previous texts found ≡ found.previous) × (texts.old ≡ []))
-started_new texts found is (inl old) =
-    let starts = ap (λ b. previous_of b found.previous_new found.previous) is in
+started_new texts found apart is (inl old) =
+    let fate : fate_beside texts found.snapshot found.previous_new ≡ GetsName =
+    ap (λ s. fate_beside texts s found.previous_new) is ∙ ap (fate_beside texts texts.new) old ∙ apart.named in
+    let starts = ap (λ f. previous_of f found.previous_new found.previous) fate in
     elim (new_or_empty found.previous_new found.previous) [
       | inl new ↦ inl (starts ∙ new ∙ old)
       | inr empty ↦ inr (starts ∙ empty.0, sym old ∙ empty.1)
     ]
-started_new texts found is (inr old) = inl
-    (ap (λ b. previous_of b found.previous_new found.previous) is ∙ ap (λ n. previous_of true n found.previous) old.1 ∙ old.0)
-
--- After the rule of a start, the rule changes nothing more.
-again : (b : Bool) (previous : List ℕ) → previous_of b [] previous ≡ previous
-again true previous = refl
-again false previous = refl
+started_new texts found apart is (inr old) =
+    let fate = fate_beside texts found.snapshot found.previous_new in
+    inl (ap (λ n. previous_of fate n found.previous) old.1 ∙ again fate found.previous ∙ old.0)
 
 pub started_again : (texts : CarryTexts) (found : CarryFound)
     → started_previous texts (after_start texts found) ≡ started_previous texts found
-started_again texts found = again (texts.is_new found.snapshot) (started_previous texts found)
+started_again texts found = again (fate_beside texts found.snapshot []) (started_previous texts found)
 
 pub start_same : (texts : CarryTexts) (found : CarryFound) → after_start texts (after_start texts found) ≡ after_start texts found
 start_same texts found = ap (λ p. record found { previous = p; previous_new = [] }) (started_again texts found)
@@ -81,18 +88,16 @@ safe_again texts found line safe = record {
 
 -- ---- what is safe
 
-not_both : (b : Bool) → b ≡ false → b ≡ true → ⊥
-not_both b off on = true≢false (sym on ∙ off)
-
 -- A start with a state of the old configuration has the line if it finds it in the state's files or in `previous`.
-safe_old : (texts : CarryTexts) (found : CarryFound) (line : List ℕ) → texts.is_new found.snapshot ≡ false
+safe_old : (texts : CarryTexts) (found : CarryFound) (line : List ℕ) → texts.head found.snapshot ≢ texts.head texts.new
+    → fate_beside texts found.snapshot found.previous_new ≡ IsRemoved
     → HasWholeLine found.snapshot line ⊎ HasWholeLine found.journal line ⊎ HasWholeLine found.previous line
     → IsCarrySafe texts found line
-safe_old texts found line is has = record {
+safe_old texts found line other is has = record {
   kept = subst (λ p. HasWholeLine found.snapshot line ⊎ HasWholeLine found.journal line ⊎ HasWholeLine p line)
       (sym (started_old texts found is)) has;
   previous = inl (started_old texts found is);
-  journal = λ new. absurd (not_both (texts.is_new found.snapshot) is new);
+  journal = λ new. absurd (other new);
 }
 
 old_line : (texts : CarryTexts) (found : CarryFound) (line : List ℕ)
@@ -118,7 +123,7 @@ new_line texts found line is starts (inr has) = inl (subst (λ s. HasWholeLine s
 safe_new : (texts : CarryTexts) (found : CarryFound) (line : List ℕ) → AreApart texts → found.snapshot ≡ texts.new → found.journal ≡ []
     → IsOldFound texts found → HasWholeLine texts.old line ⊎ HasWholeLine texts.new line → IsCarrySafe texts found line
 safe_new texts found line apart is empty old has =
-    let starts = started_new texts found (ap texts.is_new is ∙ apart.new) old in
+    let starts = started_new texts found apart is old in
     record {
       kept = new_line texts found line is starts has;
       previous = new_previous texts found starts;
@@ -127,22 +132,50 @@ safe_new texts found line apart is empty old has =
 
 -- ---- a stop in the middle of a step
 
+-- Next to the old snapshot a part of it is removed.
+removed_part : (texts : CarryTexts) (found : CarryFound) → AreApart texts → found.snapshot ≡ texts.old → IsRemnantOf texts.old found.previous_new
+    → fate_beside texts found.snapshot found.previous_new ≡ IsRemoved
+removed_part texts found apart is part =
+    ap (λ s. fate_beside texts s found.previous_new) is ∙ apart.left found.previous_new part
+
+-- So is a file without bytes, next to any.
+removed_none : (state : Option (List ℕ)) (whole : Bool) → fate_of_new state None whole ≡ IsRemoved
+removed_none None whole = refl
+removed_none (Some state) whole = refl
+
+removed_empty : (texts : CarryTexts) (found : CarryFound) → AreApart texts → found.previous_new ≡ []
+    → fate_beside texts found.snapshot found.previous_new ≡ IsRemoved
+removed_empty texts found apart is =
+    ap (λ n. fate_of_new (texts.head found.snapshot) (texts.head n) (texts.is_whole n)) is
+    ∙ ap (λ h. fate_of_new (texts.head found.snapshot) h (texts.is_whole [])) apart.none
+    ∙ removed_none (texts.head found.snapshot) (texts.is_whole [])
+
 -- A start with the old snapshot has each line of it, and those that are taken back.
 safe_saved : (texts : CarryTexts) (disk : CarryDisk) (found : CarryFound) (line : List ℕ) → AreApart texts → found.snapshot ≡ texts.old
-    → IsFoundAt disk.previous found.previous → HasWholeLine texts.old line ⊎ IsRolledBack texts disk line → IsCarrySafe texts found line
-safe_saved texts disk found line apart is at (inl has) =
-    safe_old texts found line (ap texts.is_new is ∙ apart.old) (inl (subst (λ s. HasWholeLine s line) (sym is) has))
-safe_saved texts disk found line apart is at (inr back) =
-    safe_old texts found line (ap texts.is_new is ∙ apart.old) (inr (inr (back.0 found.previous at)))
+    → IsRemnantOf texts.old found.previous_new → IsFoundAt disk.previous found.previous
+    → HasWholeLine texts.old line ⊎ IsPreviousLine texts disk line → IsCarrySafe texts found line
+safe_saved texts disk found line apart is part at (inl has) =
+    safe_old texts found line (λ new. apart.heads (sym (ap texts.head is) ∙ new)) (removed_part texts found apart is part)
+    (inl (subst (λ s. HasWholeLine s line) (sym is) has))
+safe_saved texts disk found line apart is part at (inr back) =
+    safe_old texts found line (λ new. apart.heads (sym (ap texts.head is) ∙ new)) (removed_part texts found apart is part)
+    (inr (inr (back.0 found.previous at)))
 
-back_or_new : (texts : CarryTexts) (disk : CarryDisk) (line : List ℕ) → HasWholeLine texts.old line ⊎ IsRolledBack texts disk line
+-- All of a text is a part of it, and nothing is.
+part_whole : (text found : List ℕ) → found ≡ text → IsRemnantOf text found
+part_whole text found is = subst (IsRemnantOf text) (sym is) (all_left text)
+
+part_none : (text found : List ℕ) → found ≡ [] → IsRemnantOf text found
+part_none text found is = subst (IsRemnantOf text) (sym is) (nothing_left text)
+
+back_or_new : (texts : CarryTexts) (disk : CarryDisk) (line : List ℕ) → HasWholeLine texts.old line ⊎ IsPreviousLine texts disk line
     → HasWholeLine texts.old line ⊎ HasWholeLine texts.new line
 back_or_new texts disk line (inl has) = inl has
-back_or_new texts disk line (inr back) = inr back.1
+back_or_new texts disk line (inr back) = back.1
 
 fold_or_back : (texts : CarryTexts) (disk : CarryDisk) (line : List ℕ)
-    → (KeepsLine disk.state line × HasWholeLine texts.old line) ⊎ IsRolledBack texts disk line
-    → HasWholeLine texts.old line ⊎ IsRolledBack texts disk line
+    → (KeepsLine disk.state line × HasWholeLine texts.old line) ⊎ IsPreviousLine texts disk line
+    → HasWholeLine texts.old line ⊎ IsPreviousLine texts disk line
 fold_or_back texts disk line (inl kept) = inl kept.1
 fold_or_back texts disk line (inr back) = inr back
 
@@ -151,15 +184,18 @@ in_state : (found : CarryFound) (line : List ℕ) → HasWholeLine found.snapsho
 in_state found line (inl has) = inl has
 in_state found line (inr has) = inr (inl has)
 
-in_fold : (texts : CarryTexts) (disk : CarryDisk) (found : CarryFound) (line : List ℕ) → AreApart texts → IsOldState texts disk.state
-    → (KeepsLine disk.state line × HasWholeLine texts.old line) ⊎ IsRolledBack texts disk line
-    → StopsInSave texts.old disk.state found.snapshot found.journal → IsFoundAt disk.previous found.previous → IsCarrySafe texts found line
-in_fold texts disk found line apart due (inl kept) (inl at) previous =
-    safe_old texts found line (due found.snapshot at.0) (in_state found line (kept.0 found.snapshot found.journal at.0 at.1))
-in_fold texts disk found line apart due (inr back) (inl at) previous =
-    safe_old texts found line (due found.snapshot at.0) (inr (inr (back.0 found.previous previous)))
-in_fold texts disk found line apart due kept (inr at) previous =
-    safe_saved texts disk found line apart at.0 previous (fold_or_back texts disk line kept)
+in_fold : (texts : CarryTexts) (disk : CarryDisk) (found : CarryFound) (line : List ℕ) → AreApart texts → IsOldState texts disk
+    → (KeepsLine disk.state line × HasWholeLine texts.old line) ⊎ IsPreviousLine texts disk line
+    → StopsInSave texts.old disk.state found.snapshot found.journal → IsFoundAt disk.previous found.previous
+    → found.previous_new ≡ [] → IsCarrySafe texts found line
+in_fold texts disk found line apart due (inl kept) (inl at) previous none =
+    safe_old texts found line (due.snapshot found.snapshot at.0) (removed_empty texts found apart none)
+    (in_state found line (kept.0 found.snapshot found.journal at.0 at.1))
+in_fold texts disk found line apart due (inr back) (inl at) previous none =
+    safe_old texts found line (due.snapshot found.snapshot at.0) (removed_empty texts found apart none)
+    (inr (inr (back.0 found.previous previous)))
+in_fold texts disk found line apart due kept (inr at) previous none =
+    safe_saved texts disk found line apart at.0 (part_none texts.old found.previous_new none) previous (fold_or_back texts disk line kept)
 
 without_journal : (disk : StateDisk) (journal : List ℕ) → IsWithoutJournal disk → IsFoundAt disk.journal journal ⊎ (journal ≡ [])
     → journal ≡ []
@@ -167,11 +203,12 @@ without_journal disk journal without (inl at) = without journal at
 without_journal disk journal without (inr is) = is
 
 in_save : (texts : CarryTexts) (disk : CarryDisk) (found : CarryFound) (line : List ℕ) → AreApart texts
-    → IsCarryDueOn texts (Due SaveState) disk → HasWholeLine texts.old line ⊎ IsRolledBack texts disk line
+    → IsCarryDueOn texts (Due SaveState) disk → HasWholeLine texts.old line ⊎ IsPreviousLine texts disk line
     → StopsInSave texts.new disk.state found.snapshot found.journal → IsFoundAt disk.previous found.previous
     → IsLeftOf disk.previous_new found.previous_new → IsCarrySafe texts found line
 in_save texts disk found line apart due kept (inl at) previous left =
-    safe_saved texts disk found line apart (found_kept disk.state.snapshot texts.old found.snapshot due.0 at.0) previous kept
+    safe_saved texts disk found line apart (found_kept disk.state.snapshot texts.old found.snapshot due.0 at.0)
+    (part_whole texts.old found.previous_new (left_of_kept disk.previous_new texts.old found.previous_new due.2 left)) previous kept
 in_save texts disk found line apart due kept (inr at) previous left =
     safe_new texts found line apart at.0 (without_journal disk.state found.journal due.1 at.1)
     (inl (left_of_kept disk.previous_new texts.old found.previous_new due.2 left)) (back_or_new texts disk line kept)
@@ -181,14 +218,22 @@ old_found : (texts : CarryTexts) (disk : CarryDisk) (found : CarryFound) → dis
 old_found texts disk found is (inl at) = inl (left_of_kept disk.previous_new texts.old found.previous_new is at.1)
 old_found texts disk found is (inr at) = inr (left_of_kept disk.previous_new texts.old found.previous is at.0, at.1)
 
+in_writing : (texts : CarryTexts) (disk : CarryDisk) (found : CarryFound) → disk.previous_new ≡ kept_file []
+    → IsLeftOf disk.previous_new found.previous_new ⊎ IsRemnantOf texts.old found.previous_new → IsRemnantOf texts.old found.previous_new
+in_writing texts disk found is (inl left) =
+    part_none texts.old found.previous_new (left_of_kept disk.previous_new [] found.previous_new is left)
+in_writing texts disk found is (inr part) = part
+
 -- Whatever a stop in the middle of the step leaves is safe.
 pub safe_within : (texts : CarryTexts) (stage : CarryStage) (disk : CarryDisk) (found : CarryFound) (line : List ℕ) → AreApart texts
     → IsCarryDueOn texts stage disk → IsCarryKeptOn texts stage disk line → StopsInDue texts stage disk found
     → IsCarrySafe texts found line
 safe_within texts (Due FoldState) disk found line apart due kept stops =
     in_fold texts disk found line apart due kept stops.0 stops.1
+    (left_of_kept disk.previous_new [] found.previous_new due.previous_new stops.2)
 safe_within texts (Due WritePrevious) disk found line apart due kept stops =
-    safe_saved texts disk found line apart (found_kept disk.state.snapshot texts.old found.snapshot due.0 stops.0) stops.2 kept
+    safe_saved texts disk found line apart (found_kept disk.state.snapshot texts.old found.snapshot due.0 stops.0)
+    (in_writing texts disk found due.2 stops.3) stops.2 kept
 safe_within texts (Due SaveState) disk found line apart due kept stops =
     in_save texts disk found line apart due kept stops.0 stops.1 stops.2
 safe_within texts (Due ReplacePrevious) disk found line apart due kept stops =
@@ -207,7 +252,7 @@ safe_within texts Failed disk found line apart due kept stops = kept found stops
 stops_before : (texts : CarryTexts) (stage : CarryStage) (disk : CarryDisk) (found : CarryFound) → StopLeaves disk found
     → StopsInDue texts stage disk found
 stops_before texts (Due FoldState) disk found left = (inl (left.snapshot, left.journal), left.previous, left.previous_new)
-stops_before texts (Due WritePrevious) disk found left = (left.snapshot, left.journal, left.previous)
+stops_before texts (Due WritePrevious) disk found left = (left.snapshot, left.journal, left.previous, inl left.previous_new)
 stops_before texts (Due SaveState) disk found left = (inl (left.snapshot, left.journal), left.previous, left.previous_new)
 stops_before texts (Due ReplacePrevious) disk found left = (left.snapshot, left.journal, inl (left.previous, left.previous_new))
 stops_before texts Done disk found left = left
@@ -230,7 +275,7 @@ without_saved saved disk without text (inr at) = without text at
 
 pub carry_due : (texts : CarryTexts) (stage : CarryStage) (disk : CarryDisk) → IsCarryDueOn texts stage disk
     → IsCarryDueOn texts (following_carry stage) (after_carry_due texts stage disk)
-carry_due texts (Due FoldState) disk due = (refl, refl)
+carry_due texts (Due FoldState) disk due = (refl, refl, due.previous_new)
 carry_due texts (Due WritePrevious) disk due = (
   due.0,
   without_settled disk.state (settled_first disk.state.journal (kept_file []) due.1),
@@ -248,7 +293,7 @@ carry_kept texts (Due FoldState) disk line (inr back) = inr back
 carry_kept texts (Due WritePrevious) disk line (inl has) = inl has
 carry_kept texts (Due WritePrevious) disk line (inr back) = inr back
 carry_kept texts (Due SaveState) disk line (inl has) = inl has
-carry_kept texts (Due SaveState) disk line (inr back) = inr back.1
+carry_kept texts (Due SaveState) disk line (inr back) = back.1
 carry_kept texts (Due ReplacePrevious) disk line kept = kept
 carry_kept texts Done disk line kept = kept
 carry_kept texts Failed disk line kept = kept

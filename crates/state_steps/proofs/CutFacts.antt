@@ -1,21 +1,20 @@
 -- Lemmas on the lines of an audit file, of which the last ones are cut off.
 use Rattle.std.proofs.Common.{◌≡◌, ℕ, inl, inr, List, [], ◌∷◌, ◌++◌, take, length, sym, ap, subst, arith, drop, refl, ◌∙◌, append-nil, append_assoc}
-use Rattle.std.proofs.Common.{take-append-drop}
-use Rattle.std.proofs.Math.Seq.{take-nil}
+use Rattle.std.proofs.Common.{replicate, take-append-drop}
 use Rattle.std.proofs.lemmas.Bool.{true≢false}
 use Rattle.std.proofs.lemmas.List.Elements.{All-cons, All-contains, All-head, All-nil, All-push, All-tail, Contains-append_cases, Contains-append_left}
 use Rattle.std.specs.Prelude.{Bool, Contains, true, false, ◌==◌}
-use Rattle.byte_lines.specs.Lines.{Lines, lines_of, with_byte}
+use Rattle.byte_lines.specs.Lines.{Lines, lines_of}
 use Rattle.state_steps.specs.Audits.{AuditTexts, IsAuditOn, IsPartlyAudited}
 use Rattle.state_steps.specs.Cuts.{AreHeld, AreUnheld, EndsHeld, IsCutBehind, HeldComeFirst, IsLastAs}
 use Rattle.state_steps.specs.Cuts.{IsSame, lines_found, with_part}
-use Rattle.state_steps.specs.Files.{FileText, HasWholeLine, IsLeftOf}
+use Rattle.state_steps.specs.Files.{FileText, HasWholeLine, IsLeftOf, IsRemnantOf}
 use Rattle.state_steps.specs.declared.appending.AppendStep.TheVariants.{WriteLines, SyncLines, SeeNames}
 use Rattle.state_steps.specs.declared.keeping.KeepStage.{KeepStage}
 use Rattle.state_steps.specs.declared.keeping.KeepStage.TheVariants.{Kept, Due, Failed}
 use Rattle.state_steps.specs.declared.keeping.KeepStep.TheVariants.{Audit, State}
 use Rattle.state_steps.proofs.KeepFacts.{all_written, nothing_written}
-use Rattle.state_steps.proofs.LineFacts.{lines_more}
+use Rattle.state_steps.proofs.LineFacts.{lines_more, part_of_none, text_joined, zeros_behind}
 
 -- ---- what is kept is what is held
 
@@ -100,50 +99,31 @@ found_in_order : (held : List ℕ → Bool) (lines : List (List ℕ)) (rest : Li
 found_in_order held lines [] is order = order
 found_in_order held lines (byte ∷ rest) is order = part_behind held lines (byte ∷ rest) is order
 
--- ---- the lines of one text behind another
-
--- the lines of one text, and then those of another
-abbrev joined : Lines → Lines → Lines
-joined own next = record { whole = own.whole ++ next.whole; rest = next.rest }
-
-byte_joined : (b : ℕ) (feed : Bool) (lines : List (List ℕ)) (rest : List ℕ) (next all : Lines)
-    → (with_byte feed b (record { whole = lines; rest = rest })).rest ≡ []
-    → (rest ≡ [] → all ≡ joined (record { whole = lines; rest = rest }) next)
-    → with_byte feed b all ≡ joined (with_byte feed b (record { whole = lines; rest = rest })) next
-byte_joined b true lines rest next all is own = ap (with_byte true b) (own is)
-byte_joined b false [] rest next all is own = absurd (omega (arith, ap length is))
-byte_joined b false (line ∷ lines) rest next all is own = ap (with_byte false b) (own is)
-
--- Behind a text that ends with a line feed, or has nothing, the lines of the next text follow.
-text_joined : (text more : List ℕ) → (lines_of text).rest ≡ [] → lines_of (text ++ more) ≡ joined (lines_of text) (lines_of more)
-text_joined [] more is = refl
-text_joined (b ∷ text) more is =
-    let rest = lines_of text in
-    byte_joined b (b == 10) rest.whole rest.rest (lines_of more) (lines_of (text ++ more)) is (text_joined text more)
-
 -- ---- what a stop leaves of an audit file
 
--- A beginning of the lines of a turn is behind those of the turns before.
+-- A beginning of the lines of a turn is behind those of the turns before, and zeros behind it.
 abbrev IsBegun : AuditTexts → List ℕ → Type 0
-IsBegun texts text = (part more : List ℕ) × (texts.turn ≡ part ++ more) × (text ≡ texts.earlier ++ part)
+IsBegun texts text = (part more : List ℕ) × (zeros : ℕ) × (texts.turn ≡ part ++ more) × (text ≡ (texts.earlier ++ part) ++ replicate zeros 0)
 
 begun_partly : (texts : AuditTexts) (audit : FileText) (text : List ℕ) → IsPartlyAudited texts audit → IsLeftOf audit text
     → IsBegun texts text
 begun_partly texts audit text (inl is) left =
-    let at : text ≡ (texts.earlier ++ texts.turn) ++ take left.0 [] = subst (λ (f : FileText). text ≡ f.kept ++ take left.0 f.since) is left.1 in
-    let none : (texts.earlier ++ texts.turn) ++ take left.0 [] ≡ (texts.earlier ++ texts.turn) ++ [] =
-    ap (λ t. (texts.earlier ++ texts.turn) ++ t) (take-nil left.0) in
-    (texts.turn, [], sym (append-nil texts.turn), at ∙ none ∙ append-nil (texts.earlier ++ texts.turn))
+    let none : left.0 ≡ [] = part_of_none left.0 (subst (λ (f : FileText). IsRemnantOf f.since left.0) is left.1) in
+    let at : text ≡ (texts.earlier ++ texts.turn) ++ left.0 = subst (λ (f : FileText). text ≡ f.kept ++ left.0) is left.2 in
+    (texts.turn, [], 0, sym (append-nil texts.turn), at ∙ ap (λ t. (texts.earlier ++ texts.turn) ++ t) none)
 begun_partly texts audit text (inr is) left =
     let turn = texts.turn in
-    let part = take is.0 turn in
-    let at : text ≡ texts.earlier ++ take left.0 part = subst (λ (f : FileText). text ≡ f.kept ++ take left.0 f.since) is.1 left.1 in
-    let whole : (take left.0 part ++ drop left.0 part) ++ drop is.0 turn ≡ turn =
-    ap (λ t. t ++ drop is.0 turn) (take-append-drop left.0 part) ∙ take-append-drop is.0 turn in (
-      take left.0 part,
-      drop left.0 part ++ drop is.0 turn,
-      sym whole ∙ append_assoc (take left.0 part) (drop left.0 part) (drop is.0 turn),
-      at,
+    let written = take is.0 turn in
+    let found : IsRemnantOf written left.0 = subst (λ (f : FileText). IsRemnantOf f.since left.0) is.1 left.1 in
+    let part = take found.0 written in
+    let at : text ≡ texts.earlier ++ left.0 = subst (λ (f : FileText). text ≡ f.kept ++ left.0) is.1 left.2 in
+    let whole : (part ++ drop found.0 written) ++ drop is.0 turn ≡ turn =
+    ap (λ t. t ++ drop is.0 turn) (take-append-drop found.0 written) ∙ take-append-drop is.0 turn in (
+      part,
+      drop found.0 written ++ drop is.0 turn,
+      found.1,
+      sym whole ∙ append_assoc part (drop found.0 written) (drop is.0 turn),
+      at ∙ ap (λ t. texts.earlier ++ t) found.3 ∙ sym (append_assoc texts.earlier part (replicate found.1 0)),
     )
 
 partly_on : (texts : AuditTexts) (stage : KeepStage) (audit : FileText) → IsAuditOn texts stage audit → IsPartlyAudited texts audit
@@ -154,22 +134,24 @@ partly_on texts (Due (Audit SeeNames)) audit due = inl due
 partly_on texts (Due State) audit due = inl due
 partly_on texts Failed audit due = due
 
-begun_in_order : (held : List ℕ → Bool) (earlier part more : List ℕ) → (lines_of earlier).rest ≡ [] → AreHeld held (lines_of earlier).whole
-    → HeldComeFirst held (lines_of (part ++ more)).whole → held (lines_of (earlier ++ part)).rest ≡ false
-    → HeldComeFirst held (lines_found (earlier ++ part))
-begun_in_order held earlier part more ends all order torn =
+begun_in_order : (held : List ℕ → Bool) (earlier part more : List ℕ) (zeros : ℕ) → (lines_of earlier).rest ≡ []
+    → AreHeld held (lines_of earlier).whole → HeldComeFirst held (lines_of (part ++ more)).whole
+    → held (lines_of ((earlier ++ part) ++ replicate zeros 0)).rest ≡ false
+    → HeldComeFirst held (lines_found ((earlier ++ part) ++ replicate zeros 0))
+begun_in_order held earlier part more zeros ends all order torn =
     let begins = lines_more part more in
-    let same = text_joined earlier part ends in
+    let text = (earlier ++ part) ++ replicate zeros 0 in
+    let same : (lines_of text).whole ≡ (lines_of earlier).whole ++ (lines_of part).whole =
+    zeros_behind (earlier ++ part) zeros ∙ ap (λ (l : Lines). l.whole) (text_joined earlier part ends) in
     let lines : HeldComeFirst held ((lines_of earlier).whole ++ (lines_of part).whole) = held_before held (lines_of earlier).whole (lines_of part).whole all
     (begins_in_order held (lines_of part).whole begins.0 (subst (HeldComeFirst held) begins.1 order)) in
-    found_in_order held (lines_of (earlier ++ part)).whole (lines_of (earlier ++ part)).rest torn
-    (subst (λ (l : Lines). HeldComeFirst held l.whole) (sym same) lines)
+    found_in_order held (lines_of text).whole (lines_of text).rest torn (subst (HeldComeFirst held) (sym same) lines)
 
 pub left_in_order : (texts : AuditTexts) (stage : KeepStage) (audit : FileText) (text : List ℕ) (held : List ℕ → Bool)
     → IsAuditOn texts stage audit → IsLeftOf audit text → (lines_of texts.earlier).rest ≡ [] → AreHeld held (lines_of texts.earlier).whole
     → HeldComeFirst held (lines_of texts.turn).whole → held (lines_of text).rest ≡ false → HeldComeFirst held (lines_found text)
 left_in_order texts stage audit text held due left ends all order torn =
     let begun = begun_partly texts audit text (partly_on texts stage audit due) left in
-    subst (λ t. HeldComeFirst held (lines_found t)) (sym begun.3) (begun_in_order held texts.earlier begun.0 begun.1 ends all
-    (subst (λ t. HeldComeFirst held (lines_of t).whole) begun.2 order)
-    (subst (λ t. held (lines_of t).rest ≡ false) begun.3 torn))
+    subst (λ t. HeldComeFirst held (lines_found t)) (sym begun.4) (begun_in_order held texts.earlier begun.0 begun.1 begun.2 ends all
+    (subst (λ t. HeldComeFirst held (lines_of t).whole) begun.3 order)
+    (subst (λ t. held (lines_of t).rest ≡ false) begun.4 torn))

@@ -7,7 +7,7 @@ use Rattle.state_steps.specs.Steps.{FailsDue, IsDoneOrNot, StateTexts, WritesLin
 use Rattle.state_steps.specs.declared.file_step.FileStep.{FileStep}
 use Rattle.state_steps.specs.declared.file_step.FileStep.TheVariants.{WriteSnapshot, SyncSnapshot, ReplaceSnapshot}
 use Rattle.state_steps.specs.declared.file_step.FileStep.TheVariants.{SyncFolder, RemoveJournal, BeginJournal, SyncJournal}
-use Rattle.state_steps.proofs.LineFacts.{journalled_appended, keeping_appended, keeping_appending}
+use Rattle.state_steps.proofs.LineFacts.{journal_has, journalled_appended, keeping_appended, keeping_appending}
 use Rattle.state_steps.proofs.StepFacts.{keeping_both, keeping_settled, one_settled, replaced_keeps, settled_first, snapshot_keeps, snapshots_keep}
 
 -- ---- at each step no line is lost
@@ -162,6 +162,51 @@ appended_kept texts (Some SyncJournal) whole disk bytes line not_last due kept =
 appended_kept texts (Some RemoveJournal) whole disk bytes line not_last due kept = absurd due
 appended_kept texts None whole disk bytes line not_last due kept =
     keeping_appended disk.snapshot disk.journal bytes line due kept
+
+-- a fold that is over is as it was
+pub appended_over : (texts : StateTexts) (next : Option FileStep) (whole : Bool) (disk : StateDisk) (bytes line : List ℕ)
+    → next ≡ None → IsDueOn texts next disk → IsKeptOn texts next whole disk line → IsKeptOn texts next whole (appended bytes disk) line
+appended_over texts next whole disk bytes line is due kept =
+    subst (λ step. IsKeptOn texts step whole (appended bytes disk) line) (sym is)
+    (keeping_appended disk.snapshot disk.journal bytes line (subst (λ step. IsDueOn texts step disk) is due)
+    (subst (λ step. IsKeptOn texts step whole disk line) is kept))
+
+-- ---- the snapshot is written, and lines came meanwhile
+
+pub written_due : (texts : StateTexts) (next : Option FileStep) (whole : Bool) (disk : StateDisk) (came : List ℕ) → next ≡ Some WriteSnapshot
+    → IsDueOn texts next disk → IsDueOn texts (following_step whole next) (appended came (after_due texts next disk))
+written_due texts next whole disk came is due =
+    subst (λ step. IsDueOn texts (following_step whole step) (appended came (after_due texts step disk))) (sym is)
+    (one_appended disk.journal came (subst (λ step. IsDueOn texts step disk) is due), refl)
+
+taken_now : (now : Bool) (texts : StateTexts) (disk : StateDisk) (line : List ℕ) → HasWholeLine texts.snapshot line
+    → IsTakenOver now texts disk line
+taken_now true texts disk line has = has
+taken_now false texts disk line has = inl has
+
+pub written_kept : (texts : StateTexts) (next : Option FileStep) (whole now : Bool) (disk : StateDisk) (came line : List ℕ)
+    → next ≡ Some WriteSnapshot → IsDueOn texts next disk → IsKeptOn texts next whole disk line → WritesLine texts next line
+    → IsKeptOn texts (following_step whole next) now (appended came (after_due texts next disk)) line
+written_kept texts next whole now disk came line is due kept writes =
+    let one = subst (λ step. IsDueOn texts step disk) is due in
+    let held = subst (λ step. IsKeptOn texts step whole disk line) is kept in
+    let has = subst (λ step. WritesLine texts step line) is writes in
+    subst (λ step. IsKeptOn texts (following_step whole step) now (appended came (after_due texts step disk)) line) (sym is) (
+      keeping_appended disk.snapshot disk.journal came line one held,
+      taken_now now texts (appended came (after_due texts (Some WriteSnapshot) disk)) line has,
+    )
+
+pub written_new : (texts : StateTexts) (next : Option FileStep) (whole : Bool) (disk : StateDisk) (came line : List ℕ)
+    → next ≡ Some WriteSnapshot → IsDueOn texts next disk → IsJournalled (appended came (after_due texts next disk)).journal line
+    → IsKeptOn texts (following_step whole next) false (appended came (after_due texts next disk)) line
+written_new texts next whole disk came line is due journalled =
+    let one = one_appended disk.journal came (subst (λ step. IsDueOn texts step disk) is due) in
+    let has = subst (λ step. IsJournalled (appended came (after_due texts step disk)).journal line) is journalled in
+    let journals = (appended came disk).journal in
+    subst (λ step. IsKeptOn texts (following_step whole step) false (appended came (after_due texts step disk)) line) (sym is) (
+      λ snapshot. λ journal. λ at_snapshot. λ at_journal. inr (journal_has journals journal line one at_journal has),
+      inr has,
+    )
 
 -- a fold whose snapshot is not begun is as it was
 pub appended_fresh : (texts : StateTexts) (next : Option FileStep) (whole : Bool) (disk : StateDisk) (bytes line : List ℕ)

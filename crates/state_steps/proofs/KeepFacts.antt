@@ -16,7 +16,7 @@ use Rattle.state_steps.proofs.LineFacts.{left_has, line_stays}
 pub kept_audited : (audit : FileText) (disk : StateDisk) (change : Change) → HasWholeLine audit.kept change.report
     → IsAudited audit disk change
 kept_audited audit disk change has text snapshot journal left at_snapshot at_journal held =
-    left_has audit text change.report left.0 left.1 has
+    left_has audit text change.report left.0 left.2 has
 
 pub absent_audited : (audit : FileText) (disk : StateDisk) (change : Change) → HasNoTrace disk change.last → IsAudited audit disk change
 absent_audited audit disk change absent text snapshot journal left at_snapshot at_journal held =

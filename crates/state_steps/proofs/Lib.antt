@@ -8,4 +8,5 @@ mod AppendFacts
 mod ResumeFacts
 mod KeepFacts
 mod CutFacts
+mod LineCutFacts
 mod CarryFacts

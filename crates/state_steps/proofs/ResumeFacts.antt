@@ -1,6 +1,5 @@
 -- Lemmas on a replica that continues with the journal that it found.
 use Rattle.std.proofs.Common.{◌≡◌, ℕ, ◌⊎◌, inl, inr, List, [], ◌∷◌, ◌++◌, take, length, sym, ap, subst, refl, ◌∙◌, append-nil}
-use Rattle.std.proofs.Common.{le_refl, take_all}
 use Rattle.std.specs.Prelude.{Contains}
 use Rattle.state_steps.specs.Files.{AreKeeping, FileText, HasWholeLine, IsFirstFile, IsFoundAt, KeepsLine, StateDisk}
 use Rattle.state_steps.specs.Files.{kept_file, settled_name, synced_file, text_now, with_first}
@@ -8,20 +7,16 @@ use Rattle.state_steps.specs.Resumes.{FailsResume, IsCutAtLine, IsReadNow, IsRes
 use Rattle.state_steps.specs.declared.resuming.ResumeStage.{ResumeStage}
 use Rattle.state_steps.specs.declared.resuming.ResumeStage.TheVariants.{Due, Done, Failed}
 use Rattle.state_steps.specs.declared.resuming.ResumeStep.TheVariants.{SyncFound, CutLine, SyncCut}
-use Rattle.state_steps.proofs.LineFacts.{found_has}
+use Rattle.state_steps.proofs.LineFacts.{all_left, found_has, nothing_left}
 
 -- ---- the journal is put on the disk
-
--- What a file has now, a stop may leave of it.
-left_now : (file : FileText) → text_now file ≡ file.kept ++ take (length file.since) file.since
-left_now file = ap (λ t. file.kept ++ t) (sym (take_all (length file.since) file.since (le_refl (length file.since))))
 
 -- Once a name's first file is on the disk, each line is kept by it or by the snapshot.
 first_has : (snapshots : List FileText) (file : FileText) (files : List FileText) (line snapshot journal : List ℕ)
     → AreKeeping snapshots (file ∷ files) line → IsFoundAt snapshots snapshot → IsFoundAt (synced_file file ∷ []) journal
     → HasWholeLine snapshot line ⊎ HasWholeLine journal line
 first_has snapshots file files line snapshot journal keeping at_snapshot at_journal =
-    elim (keeping snapshot (text_now file) at_snapshot (inl (length file.since, left_now file))) [
+    elim (keeping snapshot (text_now file) at_snapshot (inl (file.since, all_left file.since, refl))) [
       | inl has ↦ inl has
       | inr has ↦ inr (found_has (synced_file file) journal line at_journal has)
     ]
@@ -51,7 +46,8 @@ keeping_cut : (snapshots journals : List FileText) (texts : ResumeTexts) (line :
     → journals ≡ kept_file texts.found ∷ [] → AreKeeping snapshots journals line
     → AreKeeping snapshots (kept_file texts.cut ∷ journals) line
 keeping_cut snapshots journals texts line is name keeping snapshot journal at_snapshot (inl left) =
-    elim (keeping snapshot texts.found at_snapshot (subst (λ n. IsFoundAt n texts.found) (sym name) (inl (0, sym (append-nil texts.found))))) [
+    let at : IsFoundAt (kept_file texts.found ∷ []) texts.found = inl ([], nothing_left [], sym (append-nil texts.found)) in
+    elim (keeping snapshot texts.found at_snapshot (subst (λ n. IsFoundAt n texts.found) (sym name) at)) [
       | inl has ↦ inl has
       | inr has ↦ inr (found_has (kept_file texts.cut) journal line (inl left) (cut_has texts line is has))
     ]

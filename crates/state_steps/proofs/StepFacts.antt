@@ -3,7 +3,7 @@ use Rattle.std.proofs.Common.{◌≡◌, ℕ, ◌⊎◌, inl, inr, List, [], ◌
 use Rattle.state_steps.specs.Files.{AreKeeping, FileText, HasOneFile, HasWholeLine, IsFirstFile, IsJournalled}
 use Rattle.state_steps.specs.Files.{SnapshotsKeep, StateDisk, kept_file, settled_name, synced_file, unkept_file, with_first}
 use Rattle.state_steps.specs.Steps.{StateTexts}
-use Rattle.state_steps.proofs.LineFacts.{found_settled, journal_has, kept_has}
+use Rattle.state_steps.proofs.LineFacts.{found_settled, journal_has, kept_has, nothing_left}
 
 -- ---- what keeps a line
 
@@ -32,7 +32,7 @@ pub without_journal : (snapshots journals : List FileText) (line : List ℕ) →
     → AreKeeping snapshots journals line → SnapshotsKeep snapshots line
 without_journal snapshots [] line first keeping snapshot at_snapshot = absurd first
 without_journal snapshots (own ∷ files) line first keeping snapshot at_snapshot =
-    elim (keeping snapshot [] at_snapshot (inl (0, sym (ap (λ (f : FileText). f.kept ++ []) first)))) [
+    elim (keeping snapshot [] at_snapshot (inl ([], nothing_left own.since, sym (ap (λ (f : FileText). f.kept ++ []) first)))) [
       | inl has ↦ has
       | inr none ↦ absurd (none_whole line none)
     ]

@@ -1,11 +1,17 @@
 -- A state is carried over to another configuration. What was held under the old one is kept in a
 -- file `previous`, which is written under a new name first; then the state becomes one of the new
 -- configuration, and only after that the new file gets its name.
-use Rattle.std.specs.Prelude.{◌≡◌, ℕ, ◌⊎◌, Bool, true, false, List, [], ◌∷◌, Option, None, Some}
+use Rattle.std.specs.Prelude.{◌≡◌, ◌≢◌, ◌&&◌, ℕ, ◌⊎◌, Bool, List, [], ◌∷◌, Option, None, Some}
+use Rattle.std.specs.Prelude.{if◌then◌else◌, nat_eq, not}
+use Rattle.std.specs.Cmp.Lexicographic.{pointwise}
+use Rattle.std.specs.List.{list_any, starts_with}
 use Rattle.state_steps.specs.Files.{FileText, HasWholeLine, IsFirstFile, IsFoundAt, IsLeftOf}
+use Rattle.state_steps.specs.Files.{IsRemnantOf}
 use Rattle.state_steps.specs.Files.{KeepsLine, SnapshotsKeep, StateDisk, kept_file, settled_name}
 use Rattle.state_steps.specs.Steps.{StateTexts, after_step}
 use Rattle.state_steps.specs.declared.carrying_over.CarryingOver.{CarryingOver}
+use Rattle.state_steps.specs.declared.carrying_over.CarrySide.{CarrySide}
+use Rattle.state_steps.specs.declared.carrying_over.CarrySide.TheVariants.{Old, New}
 use Rattle.state_steps.specs.declared.carrying_over.CarryStep.{CarryStep}
 use Rattle.state_steps.specs.declared.carrying_over.CarryStep.TheVariants.{FoldState}
 use Rattle.state_steps.specs.declared.carrying_over.CarryStep.TheVariants.{WritePrevious}
@@ -13,6 +19,8 @@ use Rattle.state_steps.specs.declared.carrying_over.CarryStep.TheVariants.{SaveS
 use Rattle.state_steps.specs.declared.carrying_over.CarryStep.TheVariants.{ReplacePrevious}
 use Rattle.state_steps.specs.declared.carrying_over.CarryStage.{CarryStage}
 use Rattle.state_steps.specs.declared.carrying_over.CarryStage.TheVariants.{Due, Done, Failed}
+use Rattle.state_steps.specs.declared.new_fate.NewFate.{NewFate}
+use Rattle.state_steps.specs.declared.new_fate.NewFate.TheVariants.{GetsName, IsRemoved}
 use Rattle.state_steps.specs.declared.file_step.FileStep.TheVariants.{WriteSnapshot, SyncSnapshot}
 use Rattle.state_steps.specs.declared.file_step.FileStep.TheVariants.{ReplaceSnapshot, SyncFolder}
 use Rattle.state_steps.specs.declared.file_step.FileStep.TheVariants.{RemoveJournal}
@@ -46,16 +54,39 @@ carry_steps_left Failed = 0
 -- ---- the files
 
 -- The snapshot of what was held under the old configuration, and the one of what is held under the
--- new one; and of which snapshots the first line says that they are of the new one.
+-- new one; which configuration the head of a file says, if it says one; and whether the file is a
+-- whole snapshot of a configuration that the start is given.
 pub record CarryTexts : Type 0 where
   pub old : List ℕ
   pub new : List ℕ
-  pub is_new : List ℕ → Bool
+  pub head : List ℕ → Option (List ℕ)
+  pub is_whole : List ℕ → Bool
 
--- The first lines of the two snapshots say which is which.
+-- whether bytes begin as a snapshot does, and have no zero, as those that a file lacks
+abbrev pub is_whole_head : List ℕ → List ℕ → Bool
+is_whole_head beginning bytes =
+    starts_with nat_eq bytes beginning && not (list_any (λ byte. nat_eq byte 0) bytes)
+
+-- what a start makes of a new file that is there: if the heads of it and of the state say two
+-- configurations, and it is whole, it gets the name of the previous state
+abbrev pub fate_of_new : Option (List ℕ) → Option (List ℕ) → Bool → NewFate
+fate_of_new (Some state) (Some new) whole =
+    if not (pointwise nat_eq state new) && whole then GetsName else IsRemoved
+fate_of_new (Some state) None whole = IsRemoved
+fate_of_new None new whole = IsRemoved
+
+-- what it makes of this file, next to this state
+abbrev pub fate_beside : CarryTexts → List ℕ → List ℕ → NewFate
+fate_beside texts state new = fate_of_new (texts.head state) (texts.head new) (texts.is_whole new)
+
+-- The heads of the two snapshots say which is which. So next to the new one the old one gets the
+-- name; next to the old one no part of the old one does; and a file without bytes says nothing.
 pub record AreApart (texts : CarryTexts) : Type 0 where
-  pub old : texts.is_new texts.old ≡ false
-  pub new : texts.is_new texts.new ≡ true
+  pub heads : texts.head texts.old ≢ texts.head texts.new
+  pub named : fate_beside texts texts.new texts.old ≡ GetsName
+  pub left : (part : List ℕ) → IsRemnantOf texts.old part
+      → fate_beside texts texts.old part ≡ IsRemoved
+  pub none : texts.head [] ≡ None
 
 -- the files of the state; `previous`; and the new file that is to get that name
 pub record CarryDisk : Type 0 where
@@ -79,6 +110,18 @@ pub record StopLeaves (disk : CarryDisk) (found : CarryFound) : Type 0 where
 
 -- ---- what the steps do
 
+-- under which configuration the snapshot is that the step writes, or gives its name
+abbrev pub carry_side : CarryStep → CarrySide
+carry_side FoldState = Old
+carry_side WritePrevious = Old
+carry_side SaveState = New
+carry_side ReplacePrevious = Old
+
+-- that snapshot
+abbrev pub carried_text : CarryTexts → CarrySide → List ℕ
+carried_text texts Old = texts.old
+carried_text texts New = texts.new
+
 -- what a save makes of the state's files
 abbrev pub saved_state : List ℕ → StateDisk → StateDisk
 saved_state text disk = record {
@@ -89,12 +132,16 @@ saved_state text disk = record {
 
 -- With the folder on the disk, no stop brings a journal back that was removed.
 abbrev pub after_carry : CarryTexts → CarryStep → CarryDisk → CarryDisk
-after_carry texts FoldState disk = record disk { state = saved_state texts.old disk.state }
+after_carry texts FoldState disk = record disk {
+  state = saved_state (carried_text texts (carry_side FoldState)) disk.state;
+}
 after_carry texts WritePrevious disk = record disk {
   state = record disk.state { journal = settled_name disk.state.journal };
-  previous_new = kept_file texts.old;
+  previous_new = kept_file (carried_text texts (carry_side WritePrevious));
 }
-after_carry texts SaveState disk = record disk { state = saved_state texts.new disk.state }
+after_carry texts SaveState disk = record disk {
+  state = saved_state (carried_text texts (carry_side SaveState)) disk.state;
+}
 after_carry texts ReplacePrevious disk = record disk {
   previous = disk.previous_new ∷ [];
   previous_new = kept_file [];
@@ -120,7 +167,7 @@ StopsInReplace disk previous previous_new =
     (IsFoundAt disk.previous previous × IsLeftOf disk.previous_new previous_new)
     ⊎ (IsLeftOf disk.previous_new previous × (previous_new ≡ []))
 
--- A stop in the middle of the step, or after it failed, may leave this: anything of a new file that
+-- A stop in the middle of the step, or after it failed, may leave this: a part of a new file that
 -- is being written.
 abbrev pub StopsIn : CarryTexts → CarryStep → CarryDisk → CarryFound → Type 0
 StopsIn texts FoldState disk found =
@@ -128,6 +175,7 @@ StopsIn texts FoldState disk found =
     × IsFoundAt disk.previous found.previous × IsLeftOf disk.previous_new found.previous_new
 StopsIn texts WritePrevious disk found = IsFoundAt disk.state.snapshot found.snapshot
     × IsFoundAt disk.state.journal found.journal × IsFoundAt disk.previous found.previous
+    × (IsLeftOf disk.previous_new found.previous_new ⊎ IsRemnantOf texts.old found.previous_new)
 StopsIn texts SaveState disk found =
     StopsInSave texts.new disk.state found.snapshot found.journal
     × IsFoundAt disk.previous found.previous × IsLeftOf disk.previous_new found.previous_new
@@ -147,16 +195,15 @@ FailsCarry texts stage disk left = (found : CarryFound) → StopLeaves left foun
 
 -- ---- what a start makes of it
 
--- what `previous` has after the rule of a start: if the state is one of the new configuration, a
--- new file gets the name; if not, the new file is removed
-abbrev pub previous_of : Bool → List ℕ → List ℕ → List ℕ
-previous_of true [] previous = previous
-previous_of true (byte ∷ more) previous = byte ∷ more
-previous_of false previous_new previous = previous
+-- what `previous` has after this was made of a new file, if there is one
+abbrev pub previous_of : NewFate → List ℕ → List ℕ → List ℕ
+previous_of GetsName [] previous = previous
+previous_of GetsName (byte ∷ more) previous = byte ∷ more
+previous_of IsRemoved previous_new previous = previous
 
 abbrev pub started_previous : CarryTexts → CarryFound → List ℕ
-started_previous texts found =
-    previous_of (texts.is_new found.snapshot) found.previous_new found.previous
+started_previous texts found = previous_of (fate_beside texts found.snapshot found.previous_new)
+    found.previous_new found.previous
 
 -- what a start makes of what it found
 abbrev pub after_start : CarryTexts → CarryFound → CarryFound
@@ -172,14 +219,16 @@ pub record IsCarrySafe (texts : CarryTexts) (found : CarryFound) (line : List �
       ⊎ HasWholeLine (started_previous texts found) line
   pub previous : (started_previous texts found ≡ found.previous)
       ⊎ (started_previous texts found ≡ texts.old)
-  pub journal : texts.is_new found.snapshot ≡ true → found.journal ≡ []
+  pub journal : texts.head found.snapshot ≡ texts.head texts.new → found.journal ≡ []
 
 -- ---- how far it has come
 
--- Each snapshot that a stop may leave is of the old configuration.
-abbrev pub IsOldState : CarryTexts → StateDisk → Type 0
-IsOldState texts disk = (text : List ℕ) → IsFoundAt disk.snapshot text
-    → texts.is_new text ≡ false
+-- No snapshot that a stop may leave is of the new configuration, and there is no new file: the
+-- start has taken it away.
+pub record IsOldState (texts : CarryTexts) (disk : CarryDisk) : Type 0 where
+  pub snapshot : (text : List ℕ) → IsFoundAt disk.state.snapshot text
+      → texts.head text ≢ texts.head texts.new
+  pub previous_new : disk.previous_new ≡ kept_file []
 
 -- No stop leaves anything of a journal.
 abbrev pub IsWithoutJournal : StateDisk → Type 0
@@ -187,9 +236,9 @@ IsWithoutJournal disk = (text : List ℕ) → IsFoundAt disk.journal text → te
 
 -- the files at this stage
 abbrev pub IsCarryDueOn : CarryTexts → CarryStage → CarryDisk → Type 0
-IsCarryDueOn texts (Due FoldState) disk = IsOldState texts disk.state
+IsCarryDueOn texts (Due FoldState) disk = IsOldState texts disk
 IsCarryDueOn texts (Due WritePrevious) disk = (disk.state.snapshot ≡ kept_file texts.old ∷ [])
-    × IsFirstFile (kept_file []) disk.state.journal
+    × IsFirstFile (kept_file []) disk.state.journal × (disk.previous_new ≡ kept_file [])
 IsCarryDueOn texts (Due SaveState) disk = (disk.state.snapshot ≡ kept_file texts.old ∷ [])
     × IsWithoutJournal disk.state × (disk.previous_new ≡ kept_file texts.old)
 IsCarryDueOn texts (Due ReplacePrevious) disk = (disk.state.snapshot ≡ kept_file texts.new ∷ [])
@@ -199,18 +248,20 @@ IsCarryDueOn texts Done disk = (disk.state.snapshot ≡ kept_file texts.new ∷ 
     × (disk.previous_new ≡ kept_file [])
 IsCarryDueOn texts Failed disk = Unit {0}
 
--- The line is one of `previous`, and the new snapshot is to have it.
-abbrev pub IsRolledBack : CarryTexts → CarryDisk → List ℕ → Type 0
-IsRolledBack texts disk line = SnapshotsKeep disk.previous line × HasWholeLine texts.new line
+-- The line is one of `previous`, and one of the two snapshots is to have it: the new one if the
+-- state had that configuration before, and the old one if an older state was put back.
+abbrev pub IsPreviousLine : CarryTexts → CarryDisk → List ℕ → Type 0
+IsPreviousLine texts disk line = SnapshotsKeep disk.previous line
+    × (HasWholeLine texts.old line ⊎ HasWholeLine texts.new line)
 
 -- what has the line at this stage: the old snapshot; or `previous`, and later the new snapshot
 abbrev pub IsCarryKeptOn : CarryTexts → CarryStage → CarryDisk → List ℕ → Type 0
 IsCarryKeptOn texts (Due FoldState) disk line =
-    (KeepsLine disk.state line × HasWholeLine texts.old line) ⊎ IsRolledBack texts disk line
+    (KeepsLine disk.state line × HasWholeLine texts.old line) ⊎ IsPreviousLine texts disk line
 IsCarryKeptOn texts (Due WritePrevious) disk line = HasWholeLine texts.old line
-    ⊎ IsRolledBack texts disk line
+    ⊎ IsPreviousLine texts disk line
 IsCarryKeptOn texts (Due SaveState) disk line = HasWholeLine texts.old line
-    ⊎ IsRolledBack texts disk line
+    ⊎ IsPreviousLine texts disk line
 IsCarryKeptOn texts (Due ReplacePrevious) disk line = HasWholeLine texts.old line
     ⊎ HasWholeLine texts.new line
 IsCarryKeptOn texts Done disk line = HasWholeLine texts.old line ⊎ HasWholeLine texts.new line

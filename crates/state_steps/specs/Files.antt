@@ -1,6 +1,7 @@
 -- The files of a state on a disk, and what is found in them after a stop: the process is killed, or
 -- the machine loses its power.
-use Rattle.std.specs.Prelude.{◌≡◌, ℕ, ◌⊎◌, ◌++◌, List, [], ◌∷◌, Contains, take}
+use Rattle.std.specs.Prelude.{◌≡◌, ◌+◌, ◌≤◌, ℕ, ◌⊎◌, ◌++◌, List, [], ◌∷◌, Contains, length}
+use Rattle.std.specs.Prelude.{replicate, take}
 use Rattle.byte_lines.specs.Lines.{lines_of}
 
 -- ---- files and names
@@ -22,9 +23,15 @@ unkept_file text = record { kept = []; since = text }
 abbrev pub synced_file : FileText → FileText
 synced_file file = kept_file (file.kept ++ file.since)
 
--- After a crash any beginning of what was written since may be left.
+-- A stop may leave this of bytes that are not on the disk: the first ones and, after a cut of
+-- power, zeros in the place of others.
+abbrev pub IsRemnantOf : List ℕ → List ℕ → Type 0
+IsRemnantOf bytes part = (size zeros : ℕ) × (size + zeros ≤ length bytes)
+    × (part ≡ take size bytes ++ replicate zeros 0)
+
+-- So of a file all that is on the disk is left, and a part of what was written since.
 abbrev pub IsLeftOf : FileText → List ℕ → Type 0
-IsLeftOf file text = (size : ℕ) × (text ≡ file.kept ++ take size file.since)
+IsLeftOf file text = (part : List ℕ) × IsRemnantOf file.since part × (text ≡ file.kept ++ part)
 
 -- A name has files: the first one for who opens it now, and after a stop any of them.
 abbrev pub IsFoundAt : List FileText → List ℕ → Type 0

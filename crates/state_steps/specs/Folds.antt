@@ -38,6 +38,18 @@ steps_left (Some SyncJournal) = 1
 steps_left (Some RemoveJournal) = 0
 steps_left None = 0
 
+-- the next step when lines were appended: the journal is not emptied of them
+abbrev pub next_with_lines : Option FileStep → Option FileStep
+next_with_lines (Some BeginJournal) = None
+next_with_lines step = step
+
+-- whether the new snapshot has all lines then: if it is not begun, they will be in it, and a fold
+-- that is over is as it was
+abbrev pub whole_with_lines : Bool → Option FileStep → Bool
+whole_with_lines whole (Some WriteSnapshot) = whole
+whole_with_lines whole None = whole
+whole_with_lines whole _ = false
+
 -- ---- how far a fold has come
 
 -- the files, when this step is due (no fold removes the journal)

@@ -1,5 +1,6 @@
 pub mod Files
 pub mod Steps
+pub mod Since
 pub mod Folds
 pub mod Shortenings
 pub mod Saves
@@ -8,4 +9,6 @@ pub mod Appends
 pub mod Resumes
 pub mod Audits
 pub mod Cuts
+pub mod LineCuts
 pub mod Carries
+pub mod SeenFiles

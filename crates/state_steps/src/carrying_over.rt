@@ -2,8 +2,9 @@
 ghost use Rattle.std.specs.Prelude.{◌≡◌, ◌-◌, ◌⊎◌, ◌↔◌, IsTrue, List, ℕ};
 ghost use Rattle.state_steps.specs.Carries.{AreApart, CarryDisk, CarryKeeps, CarryTexts};
 ghost use Rattle.state_steps.specs.Carries.{FailsCarry, IsCarriedOver, IsCarryDueOn};
-ghost use Rattle.state_steps.specs.Carries.{IsOldState, IsRolledBack, after_carry_due};
-ghost use Rattle.state_steps.specs.Carries.{carry_step, carry_steps_left, following_carry};
+ghost use Rattle.state_steps.specs.Carries.{IsOldState, IsPreviousLine, after_carry_due};
+ghost use Rattle.state_steps.specs.Carries.{carry_side, carry_step, carry_steps_left};
+ghost use Rattle.state_steps.specs.Carries.{following_carry};
 ghost use Rattle.state_steps.specs.Files.{HasWholeLine, KeepsLine};
 ghost use Rattle.state_steps.specs.declared.carrying_over.CarryStage.TheVariants.{Done, Failed};
 
@@ -25,6 +26,28 @@ pub enum CarryStep {
     ReplacePrevious,
 }
 
+/// One of the two configurations of a state that is carried over.
+#[derive(Clone, Copy, Debug, PartialEq, Eq)]
+pub enum CarrySide {
+    /// The one that the state had.
+    Old,
+    /// The one that it gets.
+    New,
+}
+
+impl CarryStep {
+    /// Under which configuration the snapshot is that the step writes, or gives its name.
+    pub fn side(self) -> CarrySide
+        ensures { result ≡ carry_side self }
+    {
+        match self {
+            CarryStep::FoldState | CarryStep::WritePrevious => CarrySide::Old,
+            CarryStep::SaveState => CarrySide::New,
+            CarryStep::ReplacePrevious => CarrySide::Old,
+        }
+    }
+}
+
 /// How far it has come.
 #[derive(Clone, Copy, Debug, PartialEq, Eq)]
 enum CarryStage {
@@ -40,28 +63,28 @@ enum CarryStage {
 /// what was held under the old one is kept in the file of the previous state. It says which step is
 /// due. Its caller says when the step is done, or that it failed.
 ///
-/// A start after a stop ends what was begun. If there is a new file and the state is one of the new
-/// configuration, the file gets the name of the previous state; if the state is one of the old
-/// configuration, the file is removed. After that each line that was held under the old
-/// configuration is in the state's files or in the previous state, at all times and also if a step
-/// failed. So is each line that was in the previous state and is held under the new configuration.
+/// A start after a stop ends what was begun: [`fate_of_new`](crate::fate_of_new) says whether a new
+/// file gets the name of the previous state, or is removed. After that each line that was held
+/// under the old configuration is in the state's files or in the previous state, at all times and
+/// also if a step failed. So is each line that was in the previous state and is held under
+/// either configuration.
 #[derive(Clone, Copy, Debug)]
 pub struct CarryingOver {
     stage: CarryStage,
 }
 
 impl CarryingOver {
-    /// The beginning, with a state of the old configuration.
+    /// The beginning, with a state of the old configuration, and without a new file.
     ///
     /// - `old`: each line of the state's files that the old snapshot is to have is kept.
-    /// - `back`: so is each line of the previous state that the new snapshot is to have.
+    /// - `back`: so is each line of the previous state that either snapshot is to have.
     /// - `steps`: it has four steps.
     pub fn begin() -> CarryingOver
         ensures old { (texts : CarryTexts) (disk : CarryDisk) (line : List ℕ)
-            → IsOldState texts disk.state → KeepsLine disk.state line
+            → IsOldState texts disk → KeepsLine disk.state line
             → HasWholeLine texts.old line → CarryKeeps texts result disk line }
         ensures back { (texts : CarryTexts) (disk : CarryDisk) (line : List ℕ)
-            → IsOldState texts disk.state → IsRolledBack texts disk line
+            → IsOldState texts disk → IsPreviousLine texts disk line
             → CarryKeeps texts result disk line }
         ensures steps { carry_steps_left result.stage ≡ 4 }
     {

@@ -4,11 +4,15 @@ ghost use Rattle.std.specs.Prelude.{None, Some, [], ◌∷◌};
 ghost use Rattle.state_steps.specs.Files.{HasOneFile, HasWholeLine, IsJournalled, KeepsLine};
 ghost use Rattle.state_steps.specs.Files.{StateDisk, appended, appending, kept_file};
 ghost use Rattle.state_steps.specs.Folds.{FoldKeeps, IsDueOn, IsFolded, fold_end};
-ghost use Rattle.state_steps.specs.Folds.{following_step, steps_left};
+ghost use Rattle.state_steps.specs.Folds.{following_step, next_with_lines, steps_left};
+ghost use Rattle.state_steps.specs.Folds.{whole_with_lines};
+ghost use Rattle.state_steps.specs.Since.{CameSince};
 ghost use Rattle.state_steps.specs.Steps.{FailsDue, StateTexts, WritesLine, after_due};
+ghost use Rattle.state_steps.specs.declared.file_step.FileStep.TheVariants.{WriteSnapshot};
 ghost use Rattle.state_steps.specs.declared.folding.FoldEnd.TheVariants.{JournalContinues};
 
 use crate::file_step::FileStep;
+use crate::since::Since;
 
 /// What is to be done if a step of a fold, of a shortening, or of a beginning failed.
 #[derive(Clone, Copy, Debug, PartialEq, Eq)]
@@ -102,6 +106,33 @@ impl Folding {
         self.next = step_after(self.next, self.is_whole);
     }
 
+    /// Says that the snapshot is written, and what was appended to the journal since it was begun.
+    ///
+    /// - `next`: the system puts it on the disk next.
+    /// - `whole`: it has all lines if none was appended.
+    /// - `keeps`: no line is lost, if the snapshot is written with each line that was kept before.
+    /// - `new_lines`: nor is one that was appended.
+    pub fn written(&mut self, since: &Since)
+        ensures next { self.new.next ≡ following_step self.old.is_whole self.old.next }
+        ensures whole { (came : List ℕ) → CameSince since.now came
+            → (IsTrue self.new.is_whole ↔ IsTrue self.old.is_whole × (came ≡ [])) }
+        ensures keeps { (texts : StateTexts) (disk : StateDisk) (came line : List ℕ)
+            → self.old.next ≡ Some WriteSnapshot → CameSince since.now came
+            → FoldKeeps texts self.old disk line → WritesLine texts self.old.next line
+            → FoldKeeps texts self.new (appended came (after_due texts self.old.next disk)) line }
+        ensures new_lines { (texts : StateTexts) (disk : StateDisk) (came line : List ℕ)
+            → self.old.next ≡ Some WriteSnapshot → CameSince since.now came → came ≢ []
+            → IsDueOn texts self.old.next disk
+            → IsJournalled (appended came (after_due texts self.old.next disk)).journal line
+            → FoldKeeps texts self.new (appended came (after_due texts self.old.next disk)) line }
+    {
+        let next = step_after(self.next, self.is_whole);
+        self.next = next;
+        if !since.is_empty() {
+            self.is_whole = false;
+        }
+    }
+
     /// Whether the fold is over and the journal was emptied.
     pub fn is_done(&self) -> bool
         ensures { IsTrue result ↔ (self.now.next ≡ None) × IsTrue self.now.is_whole }
@@ -142,8 +173,9 @@ impl Folding {
     /// - `meanwhile`: before the lines are on the disk no other line is lost.
     /// - `keeps`: nor after that.
     /// - `new_lines`: what is a line of the journal now is not lost from now on.
-    /// - `continues`: a fold whose snapshot is not begun has the lines in it; if the journal would
-    ///   be emptied next, the fold is over; and else it continues.
+    /// - `next`: if the journal would be emptied next, the fold is over; and else it continues.
+    /// - `whole`: a fold whose snapshot is not begun has the lines in it, and one that is over is
+    ///   as it was; and else the snapshot lacks them.
     pub fn append(&mut self)
         requires { steps_left self.old.next ≢ 1 }
         ensures due { (texts : StateTexts) (disk : StateDisk) (bytes : List ℕ)
@@ -158,10 +190,11 @@ impl Folding {
             → IsDueOn texts self.old.next disk
             → IsJournalled (appended bytes disk).journal line
             → FoldKeeps texts self.new (appended bytes disk) line }
-        ensures continues { steps_left self.old.next ≢ 2 → self.new.next ≡ self.old.next }
-        ensures fresh { steps_left self.old.next ≡ 6 → self.new ≡ self.old }
+        ensures next { self.new.next ≡ next_with_lines self.old.next }
+        ensures whole { self.new.is_whole ≡ whole_with_lines self.old.is_whole self.old.next }
     {
         match self.next {
+            None => {}
             Some(FileStep::WriteSnapshot) => {}
             Some(FileStep::BeginJournal) => {
                 self.next = None;

@@ -1,6 +1,6 @@
 //! The steps in which the changes of a turn are put on the disk if there is an audit file, in
 //! their order.
-ghost use Rattle.std.specs.Prelude.{◌≡◌, ◌++◌, [], ◌↔◌, Bool, IsTrue, false, List, ℕ};
+ghost use Rattle.std.specs.Prelude.{◌≡◌, ◌++◌, [], ◌↔◌, Bool, IsSome, false, List, ℕ};
 ghost use Rattle.state_steps.specs.Audits.{AuditedFiles, AuditKeeps, AuditTexts, Change};
 ghost use Rattle.state_steps.specs.Audits.{ChangesState, FailsKeep};
 ghost use Rattle.state_steps.specs.Audits.{HasNoTrace, IsAuditOn, after_keep, following_keep};
@@ -43,6 +43,14 @@ pub struct Keeping {
     stage: KeepStage,
 }
 
+/// All changes of a turn are on the disk. What shows them to anyone asks for this token, and
+/// [`Keeping::on_disk`] alone makes one.
+#[derive(Debug, Drop)]
+pub struct OnDisk {
+    stage: KeepStage,
+    ghost kept: { stage ≡ Kept },
+}
+
 impl Keeping {
     /// The beginning, with an audit file all of which is on the disk.
     ///
@@ -68,18 +76,21 @@ impl Keeping {
         }
     }
 
-    /// Whether all changes are on the disk, so that they may be acknowledged.
+    /// If all changes are on the disk, the token with which they may be acknowledged.
     ///
-    /// - `audited`: the audit file has the line of each.
-    pub fn is_done(&self) -> bool
-        ensures stage { IsTrue result ↔ (self.now.stage ≡ Kept) }
-        ensures audited { IsTrue result → (texts : AuditTexts) (files : AuditedFiles)
+    /// - `stage`: it is given exactly if all steps are done.
+    /// - `audited`: the audit file has the line of each change then.
+    pub fn on_disk(&self) -> Option<OnDisk>
+        ensures stage { IsSome result ↔ (self.now.stage ≡ Kept) }
+        ensures audited { IsSome result → (texts : AuditTexts) (files : AuditedFiles)
             (change : Change) → AuditKeeps texts self.now files change
             → HasWholeLine files.audit.kept change.report }
     {
         match self.stage {
-            KeepStage::Kept => true,
-            _ => false,
+            KeepStage::Kept => Some(OnDisk {
+                stage: KeepStage::Kept,
+            }),
+            _ => None,
         }
     }
 

@@ -9,6 +9,8 @@
 //! `carrying_over` is how a state gets another configuration: what was held under the old one is
 //! kept in a file next to the state.
 //!
+//! `seen_file` is what others made of a file since it was left.
+//!
 //! With an audit file, `keeping` is the order of that file and the state's: whatever a stop leaves,
 //! each change that is held has its line there. `cutting` is how a replica begins with the file
 //! that it found: then it has the lines of exactly the changes that are held.
@@ -22,17 +24,28 @@ mod file_step;
 mod folding;
 mod keeping;
 pub mod laws;
+mod line_cuts;
+mod new_fate;
 mod resuming;
 mod saving;
+mod seen_file;
 mod shortening;
+mod since;
 
 pub use appending::{AppendStep, Appending};
 pub use beginning::{BeginStep, Beginning, FoundFiles};
-pub use carrying_over::{CarryStep, CarryingOver};
+pub use carrying_over::{CarrySide, CarryStep, CarryingOver};
 pub use cutting::{CutStep, Cutting, LastLine};
 pub use file_step::FileStep;
 pub use folding::{FoldEnd, Folding};
-pub use keeping::{KeepStep, Keeping};
+pub use keeping::{KeepStep, Keeping, OnDisk};
+pub use line_cuts::{CountedLines, EndLine, end_line, may_be_left_of};
+pub use new_fate::{NewFate, fate_of_new, head_of_bytes};
 pub use resuming::{ResumeStep, Resuming};
 pub use saving::Saving;
+pub use seen_file::{
+    FileFate, FileSeen, FileTime, LostFile, fate_of_file, fate_of_written, is_of_one_config,
+    lost_of,
+};
 pub use shortening::{ShortenStep, Shortening};
+pub use since::Since;

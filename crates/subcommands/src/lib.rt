@@ -2,17 +2,16 @@
 //! own.
 //!
 //! `commands` says which file carries out a command. `state_access` is the state file as they use
-//! it, `connection` a connection with another replica, and `sums_exchange` the question with which
-//! a session begins. `limited_reader` is a reader with a limit, and `peeked_reader` one of which
-//! bytes are read ahead. The contracts of `fedbundle` say what the commands print and change: only
+//! it, `connection` a connection with another replica, `limited_reader` a reader with a limit, and
+//! `open_line` the line of a stream that has not ended yet.
+//! The contracts of `fedbundle` and `bucket_sums` say what the commands print and change: only
 //! safety is proved here.
 #![tactic(auto)]
 
 mod commands;
 mod connection;
 mod limited_reader;
-mod peeked_reader;
+mod open_line;
 mod state_access;
-mod sums_exchange;
 
 pub use commands::carry_out_here;

@@ -2,6 +2,7 @@
 use Rattle.std.specs.Prelude.{◌≡◌, ℕ, ◌+◌, List, [], ◌∷◌, length, map}
 use Rattle.std.specs.List.Sorted.{IsStrictlySortedBy}
 use Rattle.receipt_core.specs.Receipt.{distrust_cmp, receipt_cmp}
+use Rattle.replica_core.specs.Convergence.{IsPartOf}
 use Rattle.replica_core.specs.State.{State}
 use Rattle.bucket_sums.specs.Lines.{part_count}
 use Rattle.bucket_sums.specs.Parts.{count_in, part_sum}
@@ -35,3 +36,11 @@ pub record HasCountsOf (kept : KeptSums) (state : State) : Type 0 where
   pub rest : List CountedSum
   pub parts : kept.parts.items ≡ first ∷ rest
   pub records : first.count ≡ length state.records
+
+-- The sums are those of something that was held, and all of that is still held.
+pub record AreKeptSums (kept : KeptSums) (state : State) : Type 0 where
+  pub before : State
+  pub rising : IsRisingBoth before
+  pub grown : IsPartOf before state
+  pub sums : ArePartSums before 0 kept.parts.items
+  pub receipts : kept.receipts ≡ length before.held

@@ -5,7 +5,7 @@
 use crate::connection::{Connection, connect};
 use crate::limited_reader::LimitedReader;
 use crate::state_access::{StateAccess, leave, load, lock, room_left, save, state_access_of};
-use bucket_sums::{KeptSums, QuietPulling, pull_quietly};
+use bucket_sums::{QuietPulling, SummedClosure, pull_quietly};
 use byte_lines::{FromRead, FromWrite};
 use closure_core::Closure;
 use command_exits::{CommandError, Exit, Step};
@@ -22,8 +22,8 @@ use std::io::Read;
 
 /// What is held when a session begins, and the file that it is of.
 #[derive(Drop)]
-struct Begun<C> {
-    closure: C,
+struct Begun<C: Closure> {
+    closure: SummedClosure<C>,
     file: SeenState,
 }
 
@@ -57,7 +57,7 @@ pub(crate) fn run<C: Closure>(
 fn pull_from<C: Closure>(
     rt: &HostRuntime,
     call: &Call<'_>,
-    closure: &mut C,
+    closure: &mut SummedClosure<C>,
     most_bytes: u64,
 ) -> Result<Result<(), Exit>, Exit> {
     let address = options::known_address(wanted(call, OptionName::Peer)?)?;
@@ -80,7 +80,7 @@ fn begin<C: Closure>(
     state: StateAccess<'_>,
 ) -> Result<Begun<C>, Exit> {
     let _lock = lock(rt, state)?;
-    let closure = load(rt, config, state)?;
+    let closure = SummedClosure::of(rt.alloc(), load(rt, config, state)?);
     match see_state(rt, state.path) {
         Ok(file) => Ok(Begun { closure, file }),
         Err(fault) => Err(Exit::of_file(Step::See, fault)),
@@ -91,13 +91,12 @@ fn begin<C: Closure>(
 // takes the next one.
 fn pull_with_sums<C: Closure>(
     rt: &HostRuntime,
-    closure: &mut C,
+    closure: &mut SummedClosure<C>,
     connection: Connection,
     most_bytes: u64,
 ) -> SumsSession {
     let mut answers = LimitedReader::new(connection.direction(rt), most_bytes);
-    let mut sums = KeptSums::new(rt.alloc());
-    let mut session = match QuietPulling::new(rt.alloc(), &*closure, &mut sums) {
+    let mut session = match QuietPulling::new(rt.alloc(), &mut *closure) {
         Ok(session) => session,
         Err(why) => return SumsSession::Ended(Err(Exit::Refused(pull_error(why, 0)))),
     };
@@ -206,7 +205,7 @@ fn end_saving<C: Closure>(
     if is_as_begun(rt, &begun.file, state.path)? {
         save(rt, &begun.closure, state.path)
     } else {
-        join(rt, config, state, &begun.closure)
+        join(rt, config, state, begun.closure.closure())
     }
 }
 

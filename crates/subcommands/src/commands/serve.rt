@@ -1,10 +1,9 @@
 //! `serve`: the end of a session that answers, over a socket. It loads the state, reads the
 //! address, and opens the socket before a session begins.
 use crate::connection::{Connection, accept, listen};
-use crate::peeked_reader::PeekedReader;
+use crate::open_line::{LineReader, OpenLine};
 use crate::state_access::{load, state_access_of};
-use crate::sums_exchange::answer_sums;
-use bucket_sums::KeptSums;
+use bucket_sums::{SummedClosure, serve_quietly};
 use byte_lines::{FromRead, FromWrite};
 use closure_core::Closure;
 use command_exits::{CommandError, Exit};
@@ -14,7 +13,7 @@ use command_streams::{
     error_lines, options, output_line, print_exit, progress_mode, warn_of_anywhere,
 };
 use fed_config::Config;
-use fedbundle::{run_serve, write_served};
+use fedbundle::write_served;
 use progress_line::{LongWork, WatchedWriter, WorkProgress};
 use std::io::Write;
 use std::net::{SocketAddr, TcpListener};
@@ -42,17 +41,18 @@ fn serve<C: Closure>(
     sessions: u32,
 ) -> Result<u8, Exit> {
     let state = state_access_of(call)?;
-    let closure: C = load(rt, config, state)?;
+    let loaded: C = load(rt, config, state)?;
+    let mut closure = SummedClosure::of(rt.alloc(), loaded);
     let service = Service {
         sessions,
         is_verbose: state.manner.is_verbose,
     };
-    serve_at(rt, &closure, wanted(call, OptionName::Listen)?, service)
+    serve_at(rt, &mut closure, wanted(call, OptionName::Listen)?, service)
 }
 
 fn serve_at<C: Closure>(
     rt: &HostRuntime,
-    closure: &C,
+    closure: &mut SummedClosure<C>,
     address: &str,
     service: Service,
 ) -> Result<u8, Exit> {
@@ -67,14 +67,13 @@ fn serve_at<C: Closure>(
 
 fn serve_all<C: Closure>(
     rt: &HostRuntime,
-    closure: &C,
+    closure: &mut SummedClosure<C>,
     listener: &TcpListener,
     service: Service,
 ) -> u8 {
     let mut worst = 0;
-    let mut sums = KeptSums::new(rt.alloc());
     for _ in 0..service.sessions {
-        let served = serve_next(rt, closure, &mut sums, listener, service.is_verbose);
+        let served = serve_next(rt, closure, listener, service.is_verbose);
         worst = status_of(rt, served).max(worst);
     }
     let written = write_served(u64::from(service.sessions), &mut output_line(rt));
@@ -83,8 +82,7 @@ fn serve_all<C: Closure>(
 
 fn serve_next<C: Closure>(
     rt: &HostRuntime,
-    closure: &C,
-    sums: &mut KeptSums,
+    closure: &mut SummedClosure<C>,
     listener: &TcpListener,
     is_verbose: bool,
 ) -> Result<(), Exit> {
@@ -92,7 +90,7 @@ fn serve_next<C: Closure>(
     if is_verbose {
         say_coming(rt, connection.peer());
     }
-    let count = serve_on(rt, closure, sums, &connection)?;
+    let count = serve_on(rt, closure, &connection)?;
     if is_verbose {
         say_given(rt, connection.peer(), count);
     }
@@ -101,17 +99,24 @@ fn serve_next<C: Closure>(
 
 fn serve_on<C: Closure>(
     rt: &HostRuntime,
-    closure: &C,
-    sums: &mut KeptSums,
+    closure: &mut SummedClosure<C>,
     connection: &Connection,
 ) -> Result<u64, CommandError> {
     let mut progress = WorkProgress::begin(rt, rt.alloc(), LongWork::Serving, progress_mode(rt));
-    let mut answers = WatchedWriter::new(connection.direction(rt), &mut progress);
-    let mut questions = PeekedReader::new(rt.alloc(), connection.direction(rt));
-    answer_sums(rt.alloc(), closure, sums, &mut questions, &mut answers)?;
-    let mut source = FromRead::new(questions);
+    let answers = WatchedWriter::new(connection.direction(rt), &mut progress);
     let mut sink = FromWrite::new(answers);
-    run_serve(rt.alloc(), closure, &mut source, &mut sink)
+    let mut line = OpenLine::new();
+    let served = {
+        let mut source = FromRead::new(LineReader::new(connection.direction(rt), &mut line));
+        serve_quietly(rt.alloc(), closure, &mut source, &mut sink)
+    };
+    match served {
+        Ok(count) => Ok(count),
+        Err(why) => {
+            let why = line.error_of(why, &mut connection.direction(rt));
+            Err(CommandError::from(why))
+        }
+    }
 }
 
 // In these three, a line that cannot be written changes nothing.

@@ -2,7 +2,7 @@ use Rattle.std.proofs.Common.{◌∙◌, ℕ, List, ap, inr, map, refl, subst}
 use Rattle.std.proofs.lemmas.Result.{err_from_is_err_and}
 use Rattle.std.specs.Prelude.{string_bytes}
 use Rattle.fedbundle.specs.CommandRun.{state_run}
-use Rattle.command_line.specs.Words.{CallsInRequest, RefusesWords}
+use Rattle.command_line.specs.Checks.{IsSoundRequest, RefusesWords}
 use Rattle.fedbundle.specs.SaidValues.{texts_of_call}
 use Rattle.local_answers.specs.RequestRun.{CallRun, call_run, change_run}
 use Rattle.local_answers.proofs.ChangingFacts.{error_unjournalled, lacks_memory, line_called, result_lacks_memory, said_of_words}
@@ -25,7 +25,7 @@ returns-in-Ok-clause-answers g c =
     (change_run (state_run (g.C.Closure.state c.args.closure.now) (g.C.Closure.state c.answer_call.new.closure)) c.args.input.now) in
     let words = map string_bytes c.in_ok-words.words.items in
     line_called c.args.words.now words run c.answer_call.result c.in_ok-words.ensures
-    (subst (λ (ws : List (List ℕ)). CallsInRequest ws run.name run.texts)
+    (subst (λ (ws : List (List ℕ)). IsSoundRequest ws run.name run.texts)
     (ap (map (λ w. w.now)) c.as_slice-2.ensures.value ∙ c.in_ok-texts.ensures ∙ ap (map string_bytes) c.as_slice.ensures.value)
     c.in-Ok.ensures)
     c.answer_call.ensures.answers
@@ -49,6 +49,7 @@ returns-clause-answers g c =
         replied = said_of_words (λ e. RefusesWords _ spelt e) spelt words c.in-Err.error c.in_ok-reply_by_words-in-Err.field-0
             (ap (map (λ w. w.now)) c.as_slice-2.ensures.value ∙ c.in_ok-texts.ensures ∙ ap (map string_bytes) c.as_slice.ensures.value)
             (λ e at_fault. at_fault) (λ none. record { taken = none.taken; none = λ name texts calls. none.none name texts calls })
+            (λ call flaw has. record { name = call.name; texts = texts_of_call call; call = has.0; is = has.1 })
             c.in-Err.ensures c.in_ok-reply_by_words-in-Err.ensures;
         held = refl;
       });

@@ -8,3 +8,6 @@ returns-in-Words c = subst (λ (e : WordsError). IfOk c.reply_of_clap.result (Re
 
 pub returns-in-Usage : goal.returns-in-Usage
 returns-in-Usage c = subst (λ (e : WordsError). IfOk c.ended.result (RepliesToError e)) (sym c.in-Usage.is) c.ended.ensures
+
+pub returns-in-Flawed : goal.returns-in-Flawed
+returns-in-Flawed c = subst (λ (e : WordsError). IfOk c.reply_of_flaw.result (RepliesToError e)) (sym c.in-Flawed.is) c.reply_of_flaw.ensures

@@ -15,8 +15,6 @@ places-preserved g c =
     let at : c.places.part ≡ 0 + length old = omega (arith, many) in
     record {
       all = ap length items ∙ omega (arith, many, longer);
-      sums = λ were.
-          subst (ArePartSums state 0) (sym items)
-          (sums_more state 0 old counted (c.places.invariant.sums were)
-          (subst (λ (n : ℕ). IsSumOf state n counted) at (c.in_ok-counted.ensures were)));
+      sums = subst (ArePartSums state 0) (sym items)
+          (sums_more state 0 old counted c.places.invariant.sums (subst (λ (n : ℕ). IsSumOf state n counted) at c.in_ok-counted.ensures));
     }

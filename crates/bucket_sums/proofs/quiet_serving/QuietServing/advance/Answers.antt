@@ -1,12 +1,14 @@
-use Rattle.std.proofs.Common.{◌∙◌, ◌++◌, ◌∷◌, ◌<◌, ℕ, List, inl, inr, length, [], refl, sym, ap, subst, take}
-use Rattle.std.specs.Prelude.{None, Ok, Some}
+use Rattle.std.proofs.Common.{◌∙◌, ◌++◌, ◌∷◌, ◌<◌, ◌+◌, ℕ, List, inl, inr, length, [], refl, sym, ap, subst, take, arith}
+use Rattle.std.specs.Prelude.{IfOk, None, Ok, Some}
 use Rattle.replica_core.specs.declared.error.SyncError.TheVariants.{NoMemory}
 use Rattle.replica_texts.specs.SoleLines.{written_header}
 use Rattle.replica_sync.specs.Pieces.{kept_part}
+use Rattle.replica_sync.specs.AnsweredFrom.{answered_from}
 use Rattle.replica_sync.specs.ServedPieces.{came_taken, due_give, records_answered}
 use Rattle.bucket_sums.specs.RecordsOnce.{left_out_if}
 use Rattle.bucket_sums.specs.Quiet.{ServesFrom, due_marks, fault_in, first_due}
 use Rattle.bucket_sums.specs.Serving.{TakesToLine, marks_made}
+use Rattle.bucket_sums.specs.Inside.QuietTurns.{turns_of}
 use Rattle.bucket_sums.specs.declared.quiet_serving.Opening.TheVariants.{FirstLine, Question, Plain, Answered}
 use Rattle.bucket_sums.proofs.QuietFacts.{asks_on, asks_stops}
 use Rattle.bucket_sums.proofs.QuietStepFacts.{failed, opening_asks, opening_haves, opening_out, opening_stops, opening_within, plain_reads}
@@ -14,10 +16,11 @@ use Rattle.bucket_sums.proofs.QuietStepFacts.{answered_reads, answered_stops}
 use Rattle.bucket_sums.proofs.QuietStepFacts.{question_ends, question_out, step_from}
 use Rattle.bucket_sums.proofs.QuestionFacts.{line_feed}
 use Rattle.bucket_sums.proofs.QuietStepFacts.{haves_taken, marks_due}
+use Rattle.bucket_sums.proofs.QuietServeFacts.{haves_go, no_give, question_goes}
 use Rattle.bucket_sums.proofs.quiet_serving.QuietServing.advance.Goals as goal
 
 pub returns-in-Plain-clause-serves : goal.returns-in-Plain-clause-serves
-returns-in-Plain-clause-serves g c config came written own kept h =
+returns-in-Plain-clause-serves g c config came written own h =
     let self = c.args.self.now in
     let m = (g.C.Closure.state c.args.closure.now).meaning in
     let piece = c.args.piece.now in
@@ -29,7 +32,7 @@ returns-in-Plain-clause-serves g c config came written own kept h =
     (subst (λ o. ServesFrom o None config self.haves due came written) c.in-Plain.is h))
 
 pub returns-in_err-used-in-Answered-clause-serves : goal.returns-in_err-used-in-Answered-clause-serves
-returns-in_err-used-in-Answered-clause-serves g c config came written own kept h =
+returns-in_err-used-in-Answered-clause-serves g c config came written own h =
     let self = c.args.self.now in
     let m = (g.C.Closure.state c.args.closure.now).meaning in
     let piece = c.args.piece.now in
@@ -44,7 +47,7 @@ returns-in_err-used-in-Answered-clause-serves g c config came written own kept h
     (subst (λ o. ServesFrom o None config self.haves due came written) c.in-Answered.is h)))
 
 pub returns-in_ok-used-in-Answered-clause-serves : goal.returns-in_ok-used-in-Answered-clause-serves
-returns-in_ok-used-in-Answered-clause-serves g c config came written own kept h =
+returns-in_ok-used-in-Answered-clause-serves g c config came written own h =
     let self = c.args.self.now in
     let m = (g.C.Closure.state c.args.closure.now).meaning in
     let piece = c.args.piece.now in
@@ -60,7 +63,7 @@ returns-in_ok-used-in-Answered-clause-serves g c config came written own kept h 
     (subst (λ o. ServesFrom o None config self.haves due came written) c.in-Answered.is h))
 
 pub returns-in_err-used-in-Question-clause-serves : goal.returns-in_err-used-in-Question-clause-serves
-returns-in_err-used-in-Question-clause-serves g c config came written own kept h =
+returns-in_err-used-in-Question-clause-serves g c config came written own h =
     let self = c.args.self.now in
     let m = (g.C.Closure.state c.args.closure.now).meaning in
     let k = c.config-config.result.now in
@@ -78,7 +81,7 @@ returns-in_err-used-in-Question-clause-serves g c config came written own kept h
     (λ asks. asks_stops k old new self.haves due m came piece written e err.ensures.takes err.ensures.fault asks) h)
 
 pub returns-in_err-marks-in-Question-clause-serves : goal.returns-in_err-marks-in-Question-clause-serves
-returns-in_err-marks-in-Question-clause-serves g c config came written own kept h =
+returns-in_err-marks-in-Question-clause-serves g c config came written own h =
     let self = c.args.self.now in
     let m = (g.C.Closure.state c.args.closure.now).meaning in
     let k = c.config-config.result.now in
@@ -94,7 +97,7 @@ returns-in_err-marks-in-Question-clause-serves g c config came written own kept 
     (λ asks. question_out k old self.haves due came (record { bytes = piece; held = m }) written NoMemory refl asks) h)
 
 pub returns-in_ok-marks-in-Question-clause-serves : goal.returns-in_ok-marks-in-Question-clause-serves
-returns-in_ok-marks-in-Question-clause-serves g c config came written own kept h =
+returns-in_ok-marks-in-Question-clause-serves g c config came written own h =
     let self = c.args.self.now in
     let m = (g.C.Closure.state c.args.closure.now).meaning in
     let k = c.config-config.result.now in
@@ -115,7 +118,7 @@ returns-in_ok-marks-in-Question-clause-serves g c config came written own kept h
     c.records_differ.ensures (left.serves [] []) left.records left.fault asks) h
 
 pub returns-else-has_asked-clause-serves : goal.returns-else-has_asked-clause-serves
-returns-else-has_asked-clause-serves g c config came written own kept h =
+returns-else-has_asked-clause-serves g c config came written own h =
     let self = c.args.self.now in
     let m = (g.C.Closure.state c.args.closure.now).meaning in
     let k = c.config-config.result.now in
@@ -131,7 +134,7 @@ returns-else-has_asked-clause-serves g c config came written own kept h =
     (λ asks. asks_on k old new self.haves due m came piece used written read.ensures.takes c.read_lines.ensures.own read.ensures.fault asks) h
 
 pub returns-in_err-take_first_line-in-FirstLine-clause-serves : goal.returns-in_err-take_first_line-in-FirstLine-clause-serves
-returns-in_err-take_first_line-in-FirstLine-clause-serves g c config came written own kept h =
+returns-in_err-take_first_line-in-FirstLine-clause-serves g c config came written own h =
     let self = c.args.self.now in
     let m = (g.C.Closure.state c.args.closure.now).meaning in
     let k = c.config-config.result.now in
@@ -149,7 +152,7 @@ returns-in_err-take_first_line-in-FirstLine-clause-serves g c config came writte
     (λ opens. opening_stops k part self.haves due m came piece written e err.ensures.refused opens) h)
 
 pub returns-in-Within-clause-serves : goal.returns-in-Within-clause-serves
-returns-in-Within-clause-serves g c config came written own kept h =
+returns-in-Within-clause-serves g c config came written own h =
     let self = c.args.self.now in
     let m = (g.C.Closure.state c.args.closure.now).meaning in
     let k = c.config-config.result.now in
@@ -167,7 +170,7 @@ returns-in-Within-clause-serves g c config came written own kept h =
     c.read-in-Within.ensures.whole c.read-in-Within.ensures.quiet c.read-in-Within.ensures.records c.read-in-Within.ensures.fault opens) h
 
 pub returns-in_err-own-in-Sums-clause-serves : goal.returns-in_err-own-in-Sums-clause-serves
-returns-in_err-own-in-Sums-clause-serves g c config came written own kept h =
+returns-in_err-own-in-Sums-clause-serves g c config came written own h =
     let self = c.args.self.now in
     let m = (g.C.Closure.state c.args.closure.now).meaning in
     let k = c.config-config.result.now in
@@ -183,7 +186,7 @@ returns-in_err-own-in-Sums-clause-serves g c config came written own kept h =
     (λ opens. opening_out k part self.haves due came (record { bytes = piece; held = m }) written NoMemory refl opens) h)
 
 pub returns-in_ok-own-in-Sums-clause-serves : goal.returns-in_ok-own-in-Sums-clause-serves
-returns-in_ok-own-in-Sums-clause-serves g c config came written own kept h =
+returns-in_ok-own-in-Sums-clause-serves g c config came written own h =
     let self = c.args.self.now in
     let m = (g.C.Closure.state c.args.closure.now).meaning in
     let k = c.config-config.result.now in
@@ -199,11 +202,11 @@ returns-in_ok-own-in-Sums-clause-serves g c config came written own kept h =
     step_from self.opening (FirstLine part) k config self.haves due came written
     (λ d. ServesFrom (Question question) None d then due (came ++ record { bytes = take used piece; held = m } ∷ []) written) c.in-FirstLine.is same
     (λ opens. opening_asks k part question self.haves then due m came piece used written ends (c.after_first_line.ensures.begins k)
-    (c.after_first_line.ensures.own ∙ c.in_ok-own-in-Sums.ensures.sums kept) c.after_first_line.ensures.sound c.new.ensures.begins c.new.ensures.sound
+    (c.after_first_line.ensures.own ∙ c.in_ok-own-in-Sums.ensures.sums) c.after_first_line.ensures.sound c.new.ensures.begins c.new.ensures.sound
     c.new.ensures.idle c.new.ensures.records opens) h
 
 pub returns-in-Haves-clause-serves : goal.returns-in-Haves-clause-serves
-returns-in-Haves-clause-serves g c config came written own kept h =
+returns-in-Haves-clause-serves g c config came written own h =
     let self = c.args.self.now in
     let m = (g.C.Closure.state c.args.closure.now).meaning in
     let k = c.config-config.result.now in
@@ -254,3 +257,49 @@ returns-in_ok-own-in-Sums-clause-taken g c =
 pub returns-in-Haves-clause-taken : goal.returns-in-Haves-clause-taken
 returns-in-Haves-clause-taken g c =
     haves_taken (due_marks c.args.self.now) c.read-in-Haves.new.self c.args.piece.now c.read-in-Haves.result c.read-in-Haves.ensures.taken
+
+pub returns-in-Plain-clause-goes : goal.returns-in-Plain-clause-goes
+returns-in-Plain-clause-goes g c some =
+    let self = c.args.self.now in
+    let turns = turns_of self.opening in
+    haves_go self.haves c.read.new.self (answered_from (records_answered self.haves) (g.C.Closure.state c.args.closure.now).meaning) c.args.piece.now
+    c.read.result turns turns (omega arith) c.read.ensures.step (no_give (due_marks self) (due_give self.haves) c.requires) some
+
+pub returns-in_ok-used-in-Answered-clause-goes : goal.returns-in_ok-used-in-Answered-clause-goes
+returns-in_ok-used-in-Answered-clause-goes g c some =
+    let self = c.args.self.now in
+    let turns = turns_of self.opening in
+    let ok = c.in_ok-used-in-Answered in
+    haves_go self.haves c.read-in-Answered.new.self (answered_from (records_answered self.haves) (g.C.Closure.state c.args.closure.now).meaning)
+    c.args.piece.now (Ok ok.used) turns turns (omega arith) ok.ensures.step (no_give (due_marks self) (due_give self.haves) c.requires) some
+
+pub returns-in_ok-marks-in-Question-clause-goes : goal.returns-in_ok-marks-in-Question-clause-goes
+returns-in_ok-marks-in-Question-clause-goes g c some =
+    let used = c.in_ok-used-in-Question.used in subst (λ o. 0 < turns_of o + used) (sym c.in-Question.is) (omega arith)
+
+pub returns-else-has_asked-clause-goes : goal.returns-else-has_asked-clause-goes
+returns-else-has_asked-clause-goes g c some =
+    let used = c.in_ok-used-in-Question.used in
+    subst (λ o. 1 < turns_of o + used) (sym c.in-Question.is)
+    (question_goes used (length c.args.piece.now)
+    (λ less. let yes = c.has_asked.ensures.asked.1 (c.in_ok-used-in-Question.ensures.taken less) in let no = c.if-has_asked.false in absurd (cc)) some)
+
+pub returns-in-Within-clause-goes : goal.returns-in-Within-clause-goes
+returns-in-Within-clause-goes g c some =
+    let self = c.args.self.now in
+    subst (λ o. IfOk c.read-in-Within.result (λ used. 2 < turns_of o + used)) (sym c.in-FirstLine.is)
+    (haves_go self.haves c.read-in-Within.new.self (answered_from (records_answered self.haves) (g.C.Closure.state c.args.closure.now).meaning)
+    c.args.piece.now c.read-in-Within.result 2 2 (omega arith) c.read-in-Within.ensures.step
+    (no_give (due_marks self) (due_give self.haves) c.requires) some)
+
+pub returns-in_ok-own-in-Sums-clause-goes : goal.returns-in_ok-own-in-Sums-clause-goes
+returns-in_ok-own-in-Sums-clause-goes g c some =
+    let used = c.in-Sums.used in subst (λ o. 1 < turns_of o + used) (sym c.in-FirstLine.is) (omega arith)
+
+pub returns-in-Haves-clause-goes : goal.returns-in-Haves-clause-goes
+returns-in-Haves-clause-goes g c some =
+    let self = c.args.self.now in
+    subst (λ o. IfOk c.read-in-Haves.result (λ used. 0 < turns_of o + used)) (sym c.in-FirstLine.is)
+    (haves_go self.haves c.read-in-Haves.new.self (answered_from (records_answered self.haves) (g.C.Closure.state c.args.closure.now).meaning)
+    c.args.piece.now c.read-in-Haves.result 2 0 (omega arith) c.read-in-Haves.ensures.step
+    (no_give (due_marks self) (due_give self.haves) c.requires) some)

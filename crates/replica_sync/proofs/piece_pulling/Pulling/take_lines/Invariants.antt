@@ -1,6 +1,6 @@
 -- The lines so far are taken, and what they changed is appended to the journal.
-use Rattle.std.proofs.Common.{◌≤◌, ◌-◌, length, take}
-use Rattle.replica_sync.specs.PullSessions.{PullsLines}
+use Rattle.std.proofs.Common.{◌≡◌, ◌≤◌, ◌-◌, None, length, take}
+use Rattle.replica_sync.specs.PullSessions.{PullsLines, fault_of_pulling}
 use Rattle.replica_sync.specs.PulledPieces.{JournalsAll}
 use Rattle.replica_sync.specs.Inside.Waiting.{Waits, held_with}
 use Rattle.replica_sync.proofs.piece_pulling.Pulling.take_lines.Given as goal
@@ -16,6 +16,8 @@ invariant-lines g l = record {
       (held_with l.news (g.C.Closure.state l.closure).meaning) l.fn.news.journal.items l.news.journal.items;
   waits : Waits (g.C.Closure.state l.closure).meaning l.news;
   within : l.used ≤ length l.piece;
+  first : l.used ≡ 0 → l.self ≡ l.fn.self;
+  calm : fault_of_pulling l.fn.self ≡ None → fault_of_pulling l.self ≡ None;
 }
 
 abbrev pub decreases-lines : goal.decreases-lines

@@ -12,4 +12,5 @@ returns-else-self-len-clause-pulls c plan start came written h =
       pulls = wrote_have plan self.fault self.plan.answered self.lines start came _ written (due_have self) _ c.args.count later h.pulls;
       taken = h.taken;
       idle = λ stopped. none_left (due_have self) _ c.args.count later (h.idle stopped);
+      ended = λ over. none_left (due_have self) _ c.args.count later (h.ended over);
     }

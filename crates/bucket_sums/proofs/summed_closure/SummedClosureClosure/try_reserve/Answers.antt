@@ -1,0 +1,11 @@
+use Rattle.replica_core.specs.Session.{state_of}
+use Rattle.bucket_sums.proofs.GrownFacts.{same_grown}
+use Rattle.bucket_sums.proofs.KeptFacts.{kept_grown}
+use Rattle.bucket_sums.proofs.summed_closure.SummedClosureClosure.try_reserve.Goals as goal
+
+pub invariant_of-self : goal.invariant_of-self
+invariant_of-self g c =
+    let old = (g.C.Closure.state c.self.inside.closure).meaning in
+    let new = (g.C.Closure.state c.try_reserve.new.self).meaning in
+    kept_grown c.self.inside.kept (state_of old) (state_of new) c.self.invariant
+    (same_grown old new c.try_reserve.ensures.meaning)
