@@ -9,7 +9,7 @@ work takes no second prints none.
 
 - reading: each command that reads a state prints the line of `reading the state`; so does `replica` at its start;
 - writing: `observe`, `distrust`, `merge` and `replica` print that of `writing the state`, `merge` that of `reading the other
-  state`, and `migrate` to a file that of `writing the migrated state`;
+  state`, and `migrate` that of `writing the migrated state`;
 - sessions: `pull` and `serve` print their own, also with several sessions, and if nothing is new;
 - quick: a state of a few receipts.
 
@@ -35,6 +35,8 @@ from harness import HANG, find_program, temporary  # noqa: E402
 
 # How long the program is stopped, or a peer pauses, and how long a command may take in all.
 PAUSE = 1.3
+# How often a run is made again that was too quick to be stopped.
+TRIES = 20
 MANY, FEW = 12_000, 3
 LINE = re.compile(r"fedbundle: (reading the state|reading the other state|writing the state|writing the migrated state|pulling|serving): "
                   r"(\d+) receipts, (\d+) MB so far")
@@ -157,7 +159,7 @@ class Room:
 
     def stopped_run(self, words, terminal, paused_at, given, source):
         """A run that is stopped while it has the file open. One that was too quick for that is made again."""
-        for _ in range(3):
+        for _ in range(TRIES):
             self.fill(source)
             run = self.run(words, terminal, given)
             paused = run.pause_at(paused_at)
@@ -200,16 +202,17 @@ def writing(room):
 
 
 def migrates(room):
-    """What goes along is written to a file."""
-    migrated = room.folder / "migrated"
+    """What goes along is written to a pipe, which is read after a pause."""
     for terminal in [True, False]:
         room.fill(room.many)
-        with migrated.open("wb") as file:
-            run = Run(room.program, room.words("migrate", "--to", room.config), terminal, room.folder, output=file)
-            while migrated.stat().st_size == 0 and run.process.poll() is None:
-                time.sleep(0.001)
-            run.pause()
-            want("migrate ends well", run.end() == 0, run.text)
+        ours, theirs = os.pipe()
+        run = Run(room.program, room.words("migrate", "--to", room.config), terminal, room.folder, output=theirs)
+        os.close(theirs)
+        with open(ours, "rb") as migrated:
+            first = migrated.read(1)
+            time.sleep(PAUSE)
+            size = len(first + migrated.read())
+        want("migrate ends well", run.end() == 0 and size == room.bytes, size, run.text)
         if terminal:
             says(run, "migrate", "writing the migrated state", MANY, room.bytes + 1_000)
         else:
@@ -238,13 +241,22 @@ def started(room, words, terminal, ready):
     return run, paused
 
 
-def replica(room):
+def stopped_replica(room, terminal):
+    """A replica that is stopped while it reads its state, and then asked to end. One that was too quick is started again."""
     ready = room.folder / "socket"
-    for terminal in [True, False]:
+    for _ in range(TRIES):
         room.fill(room.many)
         run, paused = started(room, room.words("replica", "--socket", ready), terminal, ready)
         subprocess.run([room.program, "stop", "--at", ready], stderr=subprocess.DEVNULL, stdout=subprocess.DEVNULL)
         status = run.end()
+        if paused:
+            break
+    return run, paused, status
+
+
+def replica(room):
+    for terminal in [True, False]:
+        run, paused, status = stopped_replica(room, terminal)
         want("replica is stopped while it reads", paused and status == 0, status, run.text)
         if terminal:
             says(run, "replica", "reading the state", MANY, room.bytes)

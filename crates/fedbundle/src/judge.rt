@@ -12,10 +12,11 @@ ghost use Rattle.fedbundle.specs.Inside.Judging.{StopsJudging};
 ghost use Rattle.command_exits.specs.declared.run_error.RunError.TheVariants.{Io};
 
 use crate::line_fault::{LineFault, write_line_error};
+use bundle_doc::KnownDocuments;
 use byte_lines::{Line, LineBuf, Sink, Source};
 use closure_core::{Closure, TakeError};
 use command_exits::RunError;
-use receipt_core::{KnownParts, LineError, Receipt};
+use receipt_core::{LineError, Receipt};
 use std::alloc::Global;
 
 /// Takes every receipt that fits, and reports each other line, and a rest that no line feed ends.
@@ -44,7 +45,7 @@ pub(crate) fn take_lines<C: Closure, R: Source, E: Sink>(
         × (E.has_failed line_errors.new ≡ E.has_failed line_errors.old) }
 {
     let mut lines = LineBuf::new(alloc);
-    let mut known = KnownParts::new(alloc);
+    let mut known = KnownDocuments::new(alloc);
     let mut number = 0u64;
     let mut count = 0u64;
     'lines: loop {
@@ -71,7 +72,7 @@ pub(crate) fn take_lines<C: Closure, R: Source, E: Sink>(
 fn take_text<C: Closure, E: Sink>(
     alloc: Global,
     closure: &mut C,
-    known: &mut KnownParts,
+    known: &mut KnownDocuments,
     line_errors: &mut E,
     number: u64,
     text: &[u8],
@@ -94,7 +95,7 @@ fn take_text<C: Closure, E: Sink>(
 fn judge<C: Closure>(
     alloc: Global,
     closure: &mut C,
-    known: &mut KnownParts,
+    known: &mut KnownDocuments,
     text: &[u8],
 ) -> Result<Option<LineFault>, RunError>
     ensures { MatchResult result (JudgesText (C.state closure.old) text.now (C.state closure.new))

@@ -11,7 +11,6 @@ ghost use Rattle.jwk_set.specs.Forms.{IsCertificate};
 use crate::forms::{Certificate, NonEmptyText, UrlText};
 use crate::text::write_text;
 use serde_json::{Map, Value};
-use sha2::{Digest, Sha256};
 use std::alloc::{AllocError, Global};
 use std::collections::BTreeMap;
 use std::{fmt, str};
@@ -104,7 +103,7 @@ impl Authority {
         ensures { result ≡ key_id_of self.now }
     {
         match self {
-            Authority::X509 { der, .. } => Some(KeyId(Sha256::digest(der.as_bytes()))),
+            Authority::X509 { der, .. } => Some(der.key_id()),
             Authority::Jwt { .. } => None,
         }
     }

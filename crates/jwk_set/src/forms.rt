@@ -9,10 +9,13 @@ ghost use Rattle.base64.specs.GeneralPurpose.{encode_of};
 ghost use Rattle.jwk_set.specs.Inside.KeptText.{bytes_of};
 ghost use Rattle.jwk_set.specs.Forms.{FindsMember, IsUrlText, IsNonEmptyText, IsCertificate};
 ghost use Rattle.jwk_set.specs.Forms.{is_url_symbol as url_symbol};
+ghost use Rattle.sha2.specs.Sha256.{sha256};
 
+use crate::authority::KeyId;
 use crate::kept_text::KeptText;
 use base64::DecodeAllocError;
 use base64::engine::general_purpose::STANDARD;
+use sha2::{Digest, Sha256};
 use std::alloc::{AllocError, Global};
 use std::marker::Model;
 use std::sync::Arc;
@@ -152,10 +155,12 @@ impl Eq for NonEmptyText {
 }
 
 /// The DER bytes of a certificate (RFC 7517, section 4.7), at least one. They are opaque here:
-/// nothing in them is looked at, and certificates are equal exactly when their bytes are.
+/// nothing in them is looked at, and certificates are equal exactly when their bytes are. They are
+/// hashed once, when the certificate is decoded.
 #[derive(Debug, Drop)]
 pub struct Certificate {
     der: Arc<Vec<u8>, Global>,
+    key: KeyId,
 }
 
 impl Model for Certificate {
@@ -163,7 +168,8 @@ impl Model for Certificate {
 
     ghost view = { λ a. a.der.value.items };
 
-    ghost invariant = { λ a. IsCertificate a.der.value.items };
+    ghost invariant = { λ a. IsCertificate a.der.value.items
+        × (a.key ≡ record { 0 = sha256 a.der.value.items }) };
 }
 
 impl Certificate {
@@ -180,6 +186,7 @@ impl Certificate {
         match STANDARD.decode(alloc, text.as_bytes()) {
             Ok(der) if der.is_empty() => Ok(None),
             Ok(der) => Ok(Some(Certificate {
+                key: KeyId(Sha256::digest(der.as_slice())),
                 der: Arc::new(alloc, der)?,
             })),
             Err(DecodeAllocError::OutOfMemory) => Err(AllocError),
@@ -215,6 +222,13 @@ impl Certificate {
         self.der.as_slice()
     }
 
+    /// The id of its key: the SHA-256 of its bytes (FIPS 180-4, section 6.2).
+    pub fn key_id(&self) -> KeyId
+        ensures { result ≡ record { 0 = sha256 self.now } }
+    {
+        self.key
+    }
+
     /// A certificate that is equal to this one. Both share their bytes, so it takes no memory.
     ///
     /// # Errors
@@ -224,6 +238,7 @@ impl Certificate {
     {
         Ok(Certificate {
             der: Arc::try_clone(&self.der)?,
+            key: self.key,
         })
     }
 }

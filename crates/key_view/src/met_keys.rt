@@ -8,7 +8,6 @@ use crate::key_listing::AcceptedBundle;
 use closure_core::Closure;
 use jwk_set::{Authority, Certificate, KeyId};
 use receipt_core::Receipt;
-use sha2::{Digest, Sha256};
 use spiffe_name::TrustDomain;
 use std::alloc::{AllocError, Global};
 use std::collections::BTreeSet;
@@ -103,7 +102,7 @@ fn push_certificate(met: &mut MetKeys, der: &Certificate) -> Result<(), AllocErr
     ensures keys { OnOk result (met.new.keys.items ≡ with_der met.old.keys.items der.now) }
     ensures ids { OnOk result (HasIds met.new) }
 {
-    let key = KeyId(Sha256::digest(der.as_bytes()));
+    let key = der.key_id();
     if met.ids.insert(key)? {
         met.keys.push(KnownKey {
             key,

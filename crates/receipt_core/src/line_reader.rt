@@ -8,13 +8,12 @@ ghost use Rattle.receipt_core.specs.Line.{IsLine, IsNoJson, IsNoLine, RefusesRec
 ghost use Rattle.receipt_core.specs.Line.{SaysReceipt, Unless};
 ghost use Rattle.receipt_core.specs.Parts.{pieces};
 
-use crate::known_parts::KnownParts;
 use crate::line_error::LineError;
 use crate::members::{
     digest_of, domain_of, endpoint_of, read_digest, read_document, read_domain, read_endpoint,
 };
 use crate::receipt::Receipt;
-use bundle_doc::{DocId, Document};
+use bundle_doc::{DocId, Document, KnownDocuments};
 use jwk_set::KeyId;
 use serde_json::Value;
 use std::alloc::{AllocError, Global};
@@ -31,7 +30,7 @@ const MAX_RECEIPT_LINE_BYTES: usize = 1_051_063;
 pub(crate) fn read_receipt(
     alloc: Global,
     bytes: &[u8],
-    known: &mut KnownParts,
+    known: &mut KnownDocuments,
 ) -> Result<Receipt, LineError>
     ensures { MatchResult result (IsLine bytes.now) (RefusesReceiptLine bytes.now) }
 {
@@ -61,7 +60,7 @@ struct Pieces<'a> {
 pub(crate) fn read_directly(
     alloc: Global,
     bytes: &[u8],
-    known: &mut KnownParts,
+    known: &mut KnownDocuments,
 ) -> Result<Option<Receipt>, AllocError>
     ensures { IfOk result (λ o. IfSome o (IsLine bytes.now)) }
 {
@@ -115,7 +114,7 @@ fn split_last<'a>(text: &'a str, label: &str) -> Option<(&'a str, &'a str)>
 fn read_pieces(
     alloc: Global,
     parts: &Pieces<'_>,
-    known: &mut KnownParts,
+    known: &mut KnownDocuments,
 ) -> Result<Option<Receipt>, AllocError>
     ensures { IfOk result (λ o. IfSome o
         (IsLine (pieces parts.now.document.now parts.now.domain.now parts.now.endpoint.now
@@ -130,8 +129,7 @@ fn read_pieces(
     let Some(endpoint) = endpoint_of(alloc, parts.endpoint)? else {
         return Ok(None);
     };
-    let Some(document) = Document::read_canonical_with(alloc, parts.document, &mut known.documents)?
-    else {
+    let Some(document) = Document::read_canonical_with(alloc, parts.document, known)? else {
         return Ok(None);
     };
     let receipt = Receipt::new_with(

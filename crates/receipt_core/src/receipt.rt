@@ -8,14 +8,13 @@ ghost use Rattle.receipt_core.specs.Order.{same_receipt, receipt_total, receipt_
 ghost use Rattle.receipt_core.specs.Line.{IsLine, RefusesReceiptLine};
 ghost use Rattle.receipt_core.specs.Parts.{IsKeptReceipt, parts_cmp, rest_cmp};
 
-use crate::known_parts::KnownParts;
 use crate::line::{form_of_parts, id_of, write_receipt};
 use crate::line_error::LineError;
 use crate::line_reader::{read_directly, read_receipt};
 use crate::offers::{copies_of, offers_with};
 use crate::receipt_id::ReceiptId;
 use crate::triple::Triple;
-use bundle_doc::{DocId, Document};
+use bundle_doc::{DocId, Document, KnownDocuments};
 use jwk_set::KeyId;
 use spiffe_name::{SpiffeId, TrustDomain};
 use std::alloc::{AllocError, Global};
@@ -90,11 +89,11 @@ impl Receipt {
               key = key;
             }) }
     {
-        let mut known = KnownParts::none(alloc);
+        let mut known = KnownDocuments::none(alloc);
         Receipt::new_with(alloc, domain, endpoint, document, voucher, key, &mut known)
     }
 
-    // The same, if parts are known.
+    // The same, if documents are known.
     pub(crate) fn new_with(
         alloc: Global,
         domain: TrustDomain,
@@ -102,7 +101,7 @@ impl Receipt {
         document: Document,
         voucher: DocId,
         key: KeyId,
-        known: &mut KnownParts,
+        known: &mut KnownDocuments,
     ) -> Result<Receipt, AllocError>
         ensures { IfOk result (λ r. r
             ≡ record {
@@ -144,20 +143,19 @@ impl Receipt {
     pub fn read_line(alloc: Global, bytes: &[u8]) -> Result<Receipt, LineError>
         ensures { MatchResult result (IsLine bytes.now) (RefusesReceiptLine bytes.now) }
     {
-        read_receipt(alloc, bytes, &mut KnownParts::none(alloc))
+        read_receipt(alloc, bytes, &mut KnownDocuments::none(alloc))
     }
 
-    /// Reads a line as [`Receipt::read_line`] does, if parts of lines are known: a certificate
-    /// that came in a line before is not hashed again, and an authority or the beginning of a
-    /// document that came twice is neither read nor hashed. The receipts share what the authority
-    /// takes.
+    /// Reads a line as [`Receipt::read_line`] does, if documents are known: an authority or the
+    /// beginning of a document that came twice is neither read nor hashed. The receipts share what
+    /// the authority takes.
     ///
     /// # Errors
     /// As those of [`Receipt::read_line`].
     pub fn read_line_with(
         alloc: Global,
         bytes: &[u8],
-        known: &mut KnownParts,
+        known: &mut KnownDocuments,
     ) -> Result<Receipt, LineError>
         ensures { MatchResult result (IsLine bytes.now) (RefusesReceiptLine bytes.now) }
     {
@@ -172,7 +170,7 @@ impl Receipt {
     pub fn read_directly(alloc: Global, bytes: &[u8]) -> Result<Option<Receipt>, AllocError>
         ensures { IfOk result (λ o. IfSome o (IsLine bytes.now)) }
     {
-        read_directly(alloc, bytes, &mut KnownParts::none(alloc))
+        read_directly(alloc, bytes, &mut KnownDocuments::none(alloc))
     }
 
     /// The line, without a line feed.

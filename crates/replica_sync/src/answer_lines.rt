@@ -8,9 +8,9 @@ ghost use Rattle.replica_sync.specs.Inside.Waiting.{Waits, held_with};
 ghost use Rattle.replica_sync.specs.PulledPieces.{Journals};
 
 use crate::news::News;
+use bundle_doc::KnownDocuments;
 use closure_core::Closure;
 use fed_config::Config;
-use receipt_core::KnownParts;
 use replica_core::SyncError;
 use replica_texts::{Wanted, next_entry_with, read_give_line};
 use std::alloc::{AllocError, Global};
@@ -34,7 +34,7 @@ pub(crate) struct AnswerLines {
     // Its last line that is not the first; empty if there is no such line.
     last: Vec<u8>,
     // What is known of its lines, and of those of the answers before it.
-    known: KnownParts,
+    known: KnownDocuments,
     // How many lines were read, and how many receipts were new.
     read: u64,
     taken: u64,
@@ -70,7 +70,7 @@ impl AnswerLines {
                 records: 0,
             },
             last: Vec::new(alloc),
-            known: KnownParts::new(alloc),
+            known: KnownDocuments::new(alloc),
             read: 0,
             taken: 0,
         }

@@ -7,8 +7,9 @@ ghost use Rattle.replica_texts.specs.Inside.EntrySteps.{RefusesSpelling, TakesEn
 ghost use Rattle.replica_texts.specs.Inside.EntrySteps.{TakesEntryText, HasRefusedEntry};
 ghost use Rattle.replica_texts.specs.Inside.EntrySteps.{HasRefusedLine};
 
+use bundle_doc::KnownDocuments;
 use closure_core::{Closure, Distrusted, TakeError, Taken};
-use receipt_core::{Distrust, KnownParts, LineError, Receipt};
+use receipt_core::{Distrust, LineError, Receipt};
 use replica_core::{Entry, SyncError};
 use std::alloc::Global;
 use std::cmp::Ordering;
@@ -25,11 +26,11 @@ pub enum Wanted {
 }
 
 /// Reads the line with this number, and takes what it says. `last` is the line before it, which is
-/// empty for the first; digests are known. Returns how many receipts are held now and were not.
+/// empty for the first; documents are known. Returns how many receipts are held now and were not.
 pub(crate) fn take_line<C: Closure>(
     alloc: Global,
     closure: &mut C,
-    known: &mut KnownParts,
+    known: &mut KnownDocuments,
     wanted: Wanted,
     last: &[u8],
     number: u64,
@@ -69,7 +70,7 @@ pub fn next_entry(
 {
     next_entry_with(
         alloc,
-        &mut KnownParts::none(alloc),
+        &mut KnownDocuments::none(alloc),
         wanted,
         last,
         number,
@@ -83,7 +84,7 @@ pub fn next_entry(
 /// Those of [`next_entry`].
 pub fn next_entry_with(
     alloc: Global,
-    known: &mut KnownParts,
+    known: &mut KnownDocuments,
     wanted: Wanted,
     last: &[u8],
     number: u64,
@@ -151,7 +152,7 @@ fn take_record<C: Closure>(closure: &mut C, distrust: &Distrust) -> Result<u64, 
 
 fn read_entry(
     alloc: Global,
-    known: &mut KnownParts,
+    known: &mut KnownDocuments,
     wanted: Wanted,
     text: &[u8],
 ) -> Result<Entry, LineError>
@@ -173,7 +174,7 @@ fn read_record(alloc: Global, text: &[u8]) -> Result<Entry, LineError>
     Ok(Entry::Record(Distrust::read_line(alloc, text)?))
 }
 
-fn read_receipt(alloc: Global, known: &mut KnownParts, text: &[u8]) -> Result<Entry, LineError>
+fn read_receipt(alloc: Global, known: &mut KnownDocuments, text: &[u8]) -> Result<Entry, LineError>
     ensures { MatchResult result (IsEntry Wanted.Receipts text.now) (RefusesReceipt text.now) }
 {
     Ok(Entry::Receipt(Receipt::read_line_with(alloc, text, known)?))

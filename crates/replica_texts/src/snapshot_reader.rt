@@ -17,10 +17,10 @@ use crate::entry_line::{Wanted, take_line};
 use crate::format::Format;
 use crate::header::{read_first, write_count};
 use crate::line_bytes::set_last;
+use bundle_doc::KnownDocuments;
 use byte_lines::{Line, LineBuf, Source};
 use closure_core::Closure;
 use fed_config::Config;
-use receipt_core::KnownParts;
 use replica_core::SyncError;
 use std::alloc::{AllocError, Global};
 
@@ -82,7 +82,7 @@ fn read_held<C: Closure, R: Source>(
     ensures fault { R.has_failed source.new ≡ (is_io result || R.has_failed source.old) }
 {
     let mut last = Vec::new(alloc);
-    let mut known = KnownParts::new(alloc);
+    let mut known = KnownDocuments::new(alloc);
     let mut number = 2;
     'lines: while read_next(
         alloc, format, closure, &mut known, &mut last, number, lines, source,
@@ -98,7 +98,7 @@ fn read_next<C: Closure, R: Source>(
     alloc: Global,
     format: Format,
     closure: &mut C,
-    known: &mut KnownParts,
+    known: &mut KnownDocuments,
     last: &mut Vec<u8>,
     number: u64,
     lines: &mut LineBuf,
@@ -137,7 +137,7 @@ fn judge<C: Closure>(
     alloc: Global,
     format: Format,
     closure: &mut C,
-    known: &mut KnownParts,
+    known: &mut KnownDocuments,
     last: &mut Vec<u8>,
     number: u64,
     text: &[u8],

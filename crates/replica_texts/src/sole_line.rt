@@ -12,9 +12,9 @@ use crate::format::Format;
 use crate::give_header_reader::{Expected, read_head};
 use crate::have_reader::{own_have, versioned_have};
 use crate::header::{format_of, write_header};
+use bundle_doc::KnownDocuments;
 use closure_core::Closure;
 use fed_config::Config;
-use receipt_core::KnownParts;
 use replica_core::{Have, SyncError};
 use std::alloc::{AllocError, Global};
 
@@ -39,7 +39,7 @@ pub fn take_sole_line<C: Closure>(
         (HasRefusedSoleLine (C.state closure.old).meaning
         (record { number = number; text = text.now }) (C.state closure.new).meaning) }
 {
-    let mut none = KnownParts::none(alloc);
+    let mut none = KnownDocuments::none(alloc);
     take_line(
         alloc,
         closure,

@@ -9,8 +9,7 @@ use bundle_doc::Document;
 use bundle_view::current;
 use cert_key::read_certificate;
 use closure_core::Closure;
-use jwk_set::{Authority, KeyId};
-use sha2::{Digest, Sha256};
+use jwk_set::{Authority, Certificate};
 use spiffe_name::TrustDomain;
 use std::alloc::{AllocError, Global};
 
@@ -86,7 +85,7 @@ fn push_authority(
         ends.old.items ends.new.items) }
 {
     match authority {
-        Authority::X509 { der, .. } => push_certificate(alloc, ends, domain, der.as_bytes()),
+        Authority::X509 { der, .. } => push_certificate(alloc, ends, domain, der),
         Authority::Jwt { .. } => Ok(()),
     }
 }
@@ -95,15 +94,15 @@ fn push_certificate(
     alloc: Global,
     ends: &mut Vec<CertificateEnd>,
     domain: &TrustDomain,
-    der: &[u8],
+    der: &Certificate,
 ) -> Result<(), AllocError>
     ensures { OnOk result (AddsPart (IsEndOf domain.now der.now)
         ends.old.items ends.new.items) }
 {
-    if let Some(parts) = read_certificate(der) {
+    if let Some(parts) = read_certificate(der.as_bytes()) {
         ends.push(CertificateEnd {
             domain: domain.try_clone(alloc)?,
-            key: KeyId(Sha256::digest(der)),
+            key: der.key_id(),
             not_after: parts.not_after,
         })?;
     }

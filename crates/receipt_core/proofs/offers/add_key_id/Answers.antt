@@ -6,4 +6,4 @@ use Rattle.receipt_core.proofs.offers.add_key_id.Goals as goal
 pub returns-in_ok-insert : goal.returns-in_ok-insert
 returns-in_ok-insert c =
     c.in_ok-insert.ensures.keys ∙ insert_key-with_item key_cmp c.args.keys.now.keys c.in-Some.key
-    ∙ ap (λ o. with_key_id o c.args.keys.now.keys) (sym c.in-Some.is ∙ c.key_id_with.ensures)
+    ∙ ap (λ o. with_key_id o c.args.keys.now.keys) (sym c.in-Some.is ∙ c.key_id.ensures)
