@@ -12,7 +12,7 @@ All are tried over the libraries that earlier checks left in out/, some crates s
 no source meanwhile. It needs rt, git and python3. A line for each edit that was not refused for its meaning, and at the end how
 many were tried; the status is 1 if one was accepted, or if nothing is known of one.
 
-usage: edits --gate        after `rt ci` passed: tries at most 60 edits that have no line or are due, and then a sample: the
+usage: edits --gate        after `rt ci` passed: tries at most 30 edits that have no line or are due, and then a sample: the
                            edits are cut into parts of 60, and the number of the commit says which part is tried, so that
                            any 18 commits in a row try all. It writes nothing. It fails for one that is accepted, for one that
                            cannot be applied any more, and for one that has no line and was not tried or was refused by a
@@ -49,7 +49,7 @@ from grounds import Grounds  # noqa: E402
 from prover import Prover, lanes  # noqa: E402
 
 # How many edits that have no line or are due the gate tries, and how many others.
-MOST_DUE = 60
+MOST_DUE = 30
 SAMPLE = 60
 
 

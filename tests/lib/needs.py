@@ -58,9 +58,10 @@ OTHERS = {
     "kubectl": "there is no kubectl",
 }
 
-# When a script is run. FIRST: before all others, without a program. USUAL: by `tests/run`, with a program. PROVED: over what
-# `rt ci` has just proved. BY_HAND: if it is named; tests/due says which are due.
-FIRST, USUAL, PROVED, BY_HAND = "first", "usual", "proved", "by hand"
+# When a script is run. FIRST: before all others, without a program. USUAL: by `tests/run`, with a program. BESIDE: in the gate,
+# beside the usual ones, since it takes one processor for long. PROVED: over what `rt ci` has just proved, by all processors.
+# BY_HAND: if it is named; tests/due says which are due.
+FIRST, USUAL, BESIDE, PROVED, BY_HAND = "first", "usual", "beside", "proved", "by hand"
 
 
 @dataclass(frozen=True)
@@ -122,6 +123,7 @@ SCRIPTS = [
     Script("rows/check.py"),
     Script("system/locks.py"),
     Script("views.py", "", USUAL, "", "openssl dot"),
+    Script("system/memory.py"),
     Script("system/same_keys.py", "", USUAL, "openssl"),
     Script("system/devices.py"),
     Script("oracle/check.sh", "", USUAL, "openssl"),
@@ -131,8 +133,8 @@ SCRIPTS = [
     Script("tour.py", "", USUAL, "bash", "openssl"),
     Script("system/states.py"),
 
-    Script("release.py", "$FEDBUNDLE", PROVED, "xz"),
-    Script("rows/play.py", "", PROVED, "rt"),
+    Script("rows/play.py", "", BESIDE, "rt"),
+    Script("release.py", "$FEDBUNDLE", BESIDE, "xz"),
     Script("edits.py", "--gate", PROVED, "rt"),
 
     Script("certificates.py", "", BY_HAND, "rt openssl python:cryptography", "", "crates/cert_key crates/key_view crates/floor_rows"),
