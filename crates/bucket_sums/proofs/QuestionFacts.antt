@@ -1,6 +1,6 @@
 -- Pieces of a question.
-use Rattle.std.proofs.Common.{◌≡◌, ◌≢◌, ◌∙◌, ℕ, ◌+◌, ◌<◌, ◌≤◌, ◌⊎◌, inl, inr, Bool, true, false, List, [], ◌∷◌, ◌++◌, length, take, drop, get_or}
-use Rattle.std.proofs.Common.{refl, sym, ap, subst, arith, append_assoc, append-nil, length-append, length-drop, take-append-drop}
+use Rattle.std.proofs.Common.{◌≡◌, ◌≢◌, ◌∙◌, ℕ, ◌+◌, ◌<◌, inl, inr, Bool, true, false, List, [], ◌∷◌, ◌++◌, length, take, drop, get_or}
+use Rattle.std.proofs.Common.{refl, sym, ap, subst, arith, append_assoc, append-nil, length-append, take-append-drop}
 use Rattle.std.specs.Prelude.{Option, Some, None}
 use Rattle.std.specs.List.{AllByRecursion}
 use Rattle.std.proofs.lemmas.List.{length-take, take_all}
@@ -11,11 +11,10 @@ use Rattle.replica_texts.specs.Snapshots.{ended, text_of_lines}
 use Rattle.replica_texts.specs.SoleLines.{written_header}
 use Rattle.replica_sync.specs.Pieces.{EndsLine, Continues, kept_part, piece_run}
 use Rattle.replica_sync.specs.PullSessions.{EndsInFeed}
-use Rattle.replica_sync.proofs.PullLinesFacts.{no_feed}
 use Rattle.replica_sync.proofs.PullStepFacts.{feed_last}
 use Rattle.bucket_sums.specs.Lines.{IsSumLine, differences, differs, part_count}
 use Rattle.bucket_sums.specs.Questions.{RefusesText, StopsAtLine, headed, longest_line}
-use Rattle.bucket_sums.specs.Serving.{HasAsked, HasQuestionPart, TakesToLine}
+use Rattle.bucket_sums.specs.Serving.{HasQuestionPart, TakesToLine}
 use Rattle.bucket_sums.specs.Inside.Comparing.{marks_so_far, own_sums}
 use Rattle.bucket_sums.specs.Inside.QuestionSteps.{FailsQuestion, RefusesQuestionLine, StepsQuestion, TakesLineWhere}
 use Rattle.bucket_sums.specs.declared.question_lines.QuestionLines.{QuestionLines}
@@ -47,18 +46,6 @@ pub question_taken : (config : Configuration) (old new : SumsServing) (piece : L
     → StepsQuestion config old piece used new → TakesToLine Ended piece used
 question_taken config old new piece used Ended (inl on) less = absurd (let all = on.all in omega (arith, all, less))
 question_taken config old new piece used Ended (inr ended) less = inl (line_feed (kept_part old.part) piece ended.text used ended.ends)
-
--- If a call takes nothing of what is left, or the rest of it, only the end of the question leaves
--- any bytes.
-pub rest_taken : (serving : SumsServing) (piece : List ℕ) (used more : ℕ) → used ≤ length piece → TakesToLine (HasAsked serving) (drop used piece) more
-    → (more ≡ 0) ⊎ (used + more ≡ length piece) → used + more < length piece → HasAsked serving
-rest_taken serving piece used more within taken (inl none) less =
-    let left = length-drop used piece in
-    elim (taken (omega (arith, left, none, less))) [
-      | inl feed ↦ absurd (no_feed (subst (λ n. EndsInFeed (take n (drop used piece))) none feed))
-      | inr ended ↦ ended
-    ]
-rest_taken serving piece used more within taken (inr all) less = absurd (omega (arith, all, less))
 
 -- A line that ended and is refused is an error of the question.
 pub line_fails : (config : Configuration) (serving : SumsServing) (piece : List ℕ) (used : ℕ) (text : List ℕ) (e : SyncError)

@@ -14,7 +14,7 @@ use Rattle.replica_core.specs.declared.error.SyncError.TheVariants.{BadHeader, N
 use Rattle.replica_core.proofs.RisingListFacts.{all_back}
 use Rattle.replica_texts.specs.Snapshots.{ended, text_of_lines}
 use Rattle.replica_texts.specs.SoleLines.{RefusesSoleHeader, written_header}
-use Rattle.replica_sync.specs.Pieces.{EndsLine, Continues, IsOverlong, kept_part, piece_run}
+use Rattle.replica_sync.specs.Pieces.{EndsLine, Continues, kept_part, piece_run}
 use Rattle.replica_sync.specs.ServedPieces.{Came, HasServedPieces, IsStill, bytes_came, came_taken, due_give, fault_of_serving, kept_have, records_answered}
 use Rattle.replica_sync.specs.AnsweredFrom.{answered_from}
 use Rattle.replica_sync.specs.declared.line_part.LinePart.{LinePart}
@@ -259,9 +259,6 @@ plain_line config old piece text used ends why = record {
   parts = ended_text old piece text used ends.parts;
   cause = inr (record { after = drop used piece; feed = refl }, why);
 }
-
-pub plain_long : (config : Configuration) (bytes : List ℕ) → IsOverlong longest_line bytes → IsPlain config bytes
-plain_long config bytes over = record { text = over.text; rest = over.rest; plain = over.plain; parts = over.parts; cause = inl over.long }
 
 -- From here on haves come.
 pub opened_haves : (config : Configuration) (then : Serving) (due : List ℕ) (m : Meaning) (came : List Came) (old piece : List ℕ)

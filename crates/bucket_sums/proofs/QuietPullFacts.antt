@@ -1,5 +1,5 @@
 -- A session that asks for sums: what one call does.
-use Rattle.std.proofs.Common.{◌≡◌, ◌∙◌, ℕ, zero, suc, ◌+◌, ◌<◌, ◌≤◌, ◌⊎◌, inl, inr, Bool, List, [], ◌∷◌, ◌++◌, length, take, drop}
+use Rattle.std.proofs.Common.{◌≡◌, ◌∙◌, ℕ, zero, suc, ◌+◌, ◌<◌, ◌⊎◌, inl, inr, Bool, List, [], ◌∷◌, ◌++◌, length, take, drop}
 use Rattle.std.proofs.Common.{refl, sym, ap, subst, arith, append_assoc, append-nil, drop-drop, length-append, take-append-drop}
 use Rattle.std.specs.Prelude.{Option, Some, None, Result, Ok, Err, IfOk, IsErrAnd, MatchResult, flat_map}
 use Rattle.std.proofs.lemmas.Grind.{flat_map-append}
@@ -400,12 +400,6 @@ wrote_question (Asking asking) (Some e) due later start came written count is so
 }
 wrote_question (PullsNow pulling) f due later start came written count is some h = absurd (some h.1.0)
 
--- Nothing is written while an answer is waited for.
-pub wrote_none : (asking : SumsAsking) (f : Option SyncError) (due : List ℕ) (start : Meaning) (came : List PulledPiece) (written : List ℕ)
-    (count : ℕ) → PullsFrom (Asking asking) f due start came written → PullsFrom (Asking asking) f due start came (written ++ take count [])
-wrote_none asking f due start came written count h =
-    subst (PullsFrom (Asking asking) f due start came) (sym (ap (λ (l : List ℕ). written ++ l) (take_none count) ∙ append-nil written)) h
-
 -- What was written of a have is no longer due.
 pub wrote_haves : (before after : Pulling) (f : Option SyncError) (due bytes : List ℕ) (start : Meaning) (came : List PulledPiece)
     (written : List ℕ) → ((plan : Option (List ℕ)) (from : Meaning) (later : List PulledPiece) (then : List ℕ)
@@ -453,14 +447,6 @@ question_wrote stage f text from count start came written less h =
     (sym (first_some (drop from text) (due_of_stage stage) some))
     (wrote_question stage f (drop from text) (drop (from + count) text) start came written count (sym (drop-drop count from text)) some h)
 
-pub asking_wrote : (stage : Stage) (asking : SumsAsking) (f : Option SyncError) (due : List ℕ) (start : Meaning) (came : List PulledPiece)
-    (written : List ℕ) (count : ℕ) → stage ≡ Asking asking → due ≡ [] → PullsFrom stage f due start came written
-    → PullsFrom stage f due start came (written ++ take count (first_due due (due_of_stage stage)))
-asking_wrote stage asking f due start came written count is none h =
-    let nothing : take count (first_due due (due_of_stage stage)) ≡ [] = ap (take count) (stage_due stage (Asking asking) due is none) ∙ take_none count in
-    subst (λ (l : List ℕ). PullsFrom stage f due start came (written ++ l)) (sym nothing)
-    (subst (PullsFrom stage f due start came) (sym (append-nil written)) h)
-
 pub pulling_wrote : (stage : Stage) (before after : Pulling) (f : Option SyncError) (due : List ℕ) (start : Meaning) (came : List PulledPiece)
     (written : List ℕ) (count : ℕ) → stage ≡ PullsNow before → due ≡ []
     → ((plan : Option (List ℕ)) (from : Meaning) (later : List PulledPiece) (then : List ℕ) → HasPulledAbout plan before from later then
@@ -471,7 +457,3 @@ pulling_wrote stage before after f due start came written count is none on same 
     subst (λ (l : List ℕ). PullsFrom (PullsNow after) f due start came (written ++ take count l)) (sym (stage_due stage (PullsNow before) due is none))
     (wrote_haves before after f due (take count (due_have before)) start came written on same
     (subst (λ (s : Stage). PullsFrom s f due start came written) is h))
-
-pub count_left : (stage : Stage) (pulling : Pulling) (due : List ℕ) (count : ℕ) → stage ≡ PullsNow pulling → due ≡ []
-    → count ≤ length (first_due due (due_of_stage stage)) → count ≤ length (due_have pulling)
-count_left stage pulling due count is none few = subst (λ (l : List ℕ). count ≤ length l) (stage_due stage (PullsNow pulling) due is none) few

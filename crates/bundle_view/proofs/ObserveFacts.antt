@@ -1,6 +1,6 @@
 -- What an observation rests on: that what is vouched for and held is accepted.
 use Rattle.std.proofs.Common.{◌≡◌, ℕ, ◌⊎◌, inl, inr, ◌↔◌, List, [], ◌∷◌, ◌++◌, Option, None, Result, Ok, Err}
-use Rattle.std.proofs.Common.{MatchResult, refl, sym, ap, ◌∙◌, subst, arith}
+use Rattle.std.proofs.Common.{MatchResult, refl, sym, ap, ◌∙◌, subst}
 use Rattle.std.specs.List.{Contains, AllByRecursion}
 use Rattle.spiffe_name.specs.SpiffeId.{Id}
 use Rattle.bundle_doc.specs.Bundle.{Bundle, IsDocument}
@@ -24,7 +24,7 @@ use Rattle.closure_core.specs.declared.error.TakeError.TheVariants.{UnknownDomai
 use Rattle.closure_core.specs.declared.outcome.Taken.{Taken}
 use Rattle.closure_core.specs.declared.outcome.Taken.TheVariants.{New as TakenNew, Already as TakenAlready}
 use Rattle.closure_core.specs.Refusals.{Room, RefusesReceipt, IsOfWrongEndpoint}
-use Rattle.closure_core.specs.Changes.{HeldAndRoom, TakesOk, IsUnchanged}
+use Rattle.closure_core.specs.Changes.{HeldAndRoom, TakesOk}
 use Rattle.closure_core.specs.AcceptedList.{document_of}
 use Rattle.closure_core.proofs.MemberFacts.{leads_more}
 use Rattle.bundle_view.specs.Conflicts.{id_in}
@@ -36,8 +36,6 @@ use Rattle.bundle_view.specs.Inside.Observing.{IsVoucher, HasKept, HasNotKept}
 use Rattle.bundle_view.specs.declared.observation.Verdict.{Verdict}
 use Rattle.bundle_view.specs.declared.observe_error.ObserveError.{ObserveError}
 use Rattle.bundle_view.specs.declared.observe_error.ObserveError.TheVariants.{NoRelationship, WrongEndpoint, Take}
-
--- ---- a record that is another one is passed over
 
 -- ---- what is vouched for and held is accepted
 
@@ -211,10 +209,6 @@ refuses_endpoint m domain verdict NoRelationship h = h
 refuses_endpoint m domain verdict WrongEndpoint h = h
 refuses_endpoint m domain verdict e h = absurd h
 
--- if nothing was done, nothing is changed
-pub unchanged_then : (s : HeldAndRoom) → IsUnchanged s s
-unchanged_then s = record { meaning = refl; room = record { receipts = omega arith; offers = omega arith } }
-
 -- ---- no document of the endpoint's trust domain is accepted
 
 -- that a domain has no current document, in the terms of the meaning and of the verdict
@@ -253,11 +247,6 @@ too_low m config domain bytes verdict id document is read own misses = record {
   read = read;
   misses = subst (λ (c : Configuration). MissesFloor c domain document) own misses;
 }
-
--- if memory ran out although there is an observation, it is refused for that
-pub memory_for : (m : Meaning) (fetched : FetchedBundle) (r : Receipt) → IsObservation m fetched r
-    → RefusesObservation m fetched (Take NoMemory)
-memory_for m fetched r o = ((o.voucher, o.authentic), o.read.short)
 
 -- the voucher of an observation
 voucher_of : (m : Meaning) (fetched : FetchedBundle) (r : Receipt) (o : IsObservation m fetched r)

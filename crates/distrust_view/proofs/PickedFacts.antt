@@ -26,11 +26,6 @@ pub record AddsPicked {A : Type 0} (P : A → Type 0) (line : A → List ℕ) (i
 abbrev pub PicksSoFar : {A : Type 0} → (A → Type 0) → (A → List ℕ) → List A → List A → List ℕ → List ℕ → Type 0
 PicksSoFar P line all rest old new = (more : _) → ArePicked P rest more → AddsPicked P line all old (new ++ flat_map line more)
 
--- At the start no line was added.
-pub picks_start : {A : Type 0} (P : A → Type 0) (line : A → List ℕ) (all rest : List A) (old : List ℕ) → rest ≡ all
-    → PicksSoFar P line all rest old old
-picks_start P line all rest old e more are = record { picked = more; are = subst (λ z. ArePicked P z more) e are; now = refl }
-
 -- The line of an item that has the property was added.
 pub picks_one : {A : Type 0} (P : A → Type 0) (line : A → List ℕ) (all ahead rest : List A) (first : A) (old now next : List ℕ)
     → ahead ≡ first ∷ rest → P first → next ≡ now ++ line first → PicksSoFar P line all ahead old now → PicksSoFar P line all rest old next

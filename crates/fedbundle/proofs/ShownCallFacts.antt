@@ -1,6 +1,5 @@
 -- What a command that shows what is held does, by what its functions answer
-use Rattle.std.proofs.Common.{◌≡◌, ℕ, ℤ, Bool, true, false, if◌then◌else◌, List, Option, Some, Result, Err, refl, subst, sym}
-use Rattle.std.specs.Int.{from_bool}
+use Rattle.std.proofs.Common.{◌≡◌, ℕ, ℤ, Bool, List, Option, Some, Result, Err, refl, subst, sym}
 use Rattle.byte_lines.specs.declared.error.DeviceError.{DeviceError}
 use Rattle.byte_lines.specs.declared.error.DeviceError.TheVariants.{Io as SourceFailed}
 use Rattle.byte_lines.specs.declared.error.DeviceError.TheVariants.{NoMemory as NoMemoryForBytes}
@@ -46,11 +45,6 @@ report_failed T m sink NoMemoryForReport failed same = same refl
 pub polls_as : (run : CommandRun) (m : Meaning) (now : ℤ) (form : PollsForm) (output : OutputForm) (answer : Result (Unit {0}) CommandError)
     → form ≡ polls_form output → RunsPollsIn run m (polls_call form now) answer → RunsPollsIn run m (polls_call (polls_form output) now) answer
 polls_as run m now form output answer is runs = subst (λ f. RunsPollsIn run m (polls_call f now) answer) is runs
-
--- the byte of whether there is a warning
-pub byte_of_warning : (warned : Bool) → from_bool warned ≡ (if warned then 1 else 0)
-byte_of_warning true = refl
-byte_of_warning false = refl
 
 -- what the command of this name does is what the call does
 pub shows_as : (name other : CommandName) (call : ShownCall) (run : CommandRun) (result : Result ℕ Exit) → name ≡ other

@@ -1,5 +1,5 @@
 -- What each command does that shows what is held, by what its functions answer
-use Rattle.std.proofs.Common.{◌≡◌, ℕ, if◌then◌else◌, List, [], length, Option, Some, None, Result, Ok, Err, inl, inr, refl, ap, ◌∙◌, subst}
+use Rattle.std.proofs.Common.{◌≡◌, ℕ, List, [], length, Option, Some, None, Result, inr, refl, ap, ◌∙◌, subst}
 use Rattle.std.proofs.Common.{sym}
 use Rattle.std.specs.Global.{Vec}
 use Rattle.fed_config.specs.Configuration.{Configuration}
@@ -16,12 +16,10 @@ use Rattle.fedbundle.specs.CommandRun.{CommandRun}
 use Rattle.command_exits.specs.DeviceRuns.{DeviceRun}
 use Rattle.fedbundle.specs.Migrate.{move_to}
 use Rattle.fedbundle.specs.Shown.{IsUntouched, ShownCall, ShowsBy}
-use Rattle.fedbundle.specs.ShownCommands.{ComparesConfigsIn, MovesTo, MovesToRead, PrintsBoth, PrintsWhole}
+use Rattle.fedbundle.specs.ShownCommands.{ComparesConfigsIn, MovesTo, MovesToRead, PrintsBoth}
 use Rattle.fedbundle.specs.ShownCommands.{ReseedChoice, ReseedsInto, TwoTexts, reseed_texts, stay_line}
 use Rattle.fedbundle.specs.ShownCommands.{ShowsConfig, ShowsConfigIn, ShowsMove, ShowsNamed, config_call}
-use Rattle.command_exits.specs.declared.error.CommandError.TheVariants.{Io}
 use Rattle.command_exits.specs.declared.exits.Exit.{Exit}
-use Rattle.command_exits.specs.declared.exits.Exit.TheVariants.{Refused}
 
 -- what the command of this name does is what the call does
 pub named_as : (name other : CommandName) (call : ShownCall) (run : CommandRun) (line_errors : DeviceRun) (result : Result ℕ Exit) → name ≡ other
@@ -89,16 +87,3 @@ refused_as m choice sink line_errors found lines with_it result is reseeds said 
     let texts : two_texts [] with_it 1 ≡ two_texts [] lines.items 1 = λ i. two_texts [] (said i) 1 in
     reseeded_as m choice sink line_errors found (Refusals lines) result is reseeds
     (subst (λ (t : TwoTexts). PrintsBoth t sink line_errors result) texts prints)
-
--- the first of two texts was written, and then the second, as far as it was
-pub both_printed : (texts : TwoTexts) (sink line_errors : DeviceRun) (ended : ℕ) (result : Result ℕ Exit) → PrintsWhole texts.output 0 sink (Ok ended)
-    → PrintsWhole texts.with_it texts.status line_errors result → PrintsBoth texts sink line_errors result
-both_printed texts sink line_errors ended (Ok n) first second = ((refl, first.1, first.2), second)
-both_printed texts sink line_errors ended (Err (Refused Io)) first second = inr ((refl, first.1, first.2), second)
-both_printed texts sink line_errors ended (Err exit) first second = absurd second
-
--- the first of them was cut off
-pub first_cut_off : (texts : TwoTexts) (sink line_errors : DeviceRun) (exit : Exit) → PrintsWhole texts.output 0 sink (Err exit)
-    → IsUntouched line_errors → PrintsBoth texts sink line_errors (Err exit)
-first_cut_off texts sink line_errors (Refused Io) cut silent = inl (cut, silent)
-first_cut_off texts sink line_errors exit cut silent = absurd cut

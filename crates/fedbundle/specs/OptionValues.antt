@@ -3,8 +3,8 @@
 use Rattle.std.specs.Prelude.{◌≡◌, ◌⊎◌, ℕ, ℤ, List, Option, Some, None, codes}
 use Rattle.jiff.specs.Words.{IsTimestampNanos, nanos_of_seconds}
 use Rattle.poll_log.specs.PollLines.{ReadsSeconds}
-use Rattle.status_view.specs.declared.status_writer.StatusFormat.{StatusFormat}
-use Rattle.status_view.specs.declared.status_writer.StatusFormat.TheVariants as status
+use Rattle.status_view.specs.declared.status_format.StatusFormat.{StatusFormat}
+use Rattle.status_view.specs.declared.status_format.StatusFormat.TheVariants as status
 
 abbrev pub SaysStatusFormat : Option (List ℕ) → StatusFormat → Type 0
 SaysStatusFormat text status.Text = (text ≡ None) ⊎ (text ≡ Some (codes "text"))

@@ -20,7 +20,7 @@ use Rattle.replica_view.specs.TrustGraph.{IsGraphText}
 use Rattle.poll_view.specs.declared.polls_writer.PollsForm.{PollsForm}
 use Rattle.poll_view.specs.declared.polls_writer.PollsForm.TheVariants as polls
 use Rattle.status_view.specs.declared.running.RunningStatus.{RunningStatus}
-use Rattle.status_view.specs.declared.status_writer.StatusFormat.{StatusFormat}
+use Rattle.status_view.specs.declared.status_format.StatusFormat.{StatusFormat}
 use Rattle.status_view.specs.StatusRuns.{IsWarned}
 use Rattle.status_warnings.specs.WarnedStatus.{IsWarnedStatusIn, Watching}
 use Rattle.status_warnings.specs.Fetches.{AreFetches}

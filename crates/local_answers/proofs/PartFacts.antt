@@ -7,7 +7,7 @@ use Rattle.std.proofs.lemmas.List.Elements.{All-append}
 use Rattle.byte_lines.specs.Lines.{HasNoFeed}
 use Rattle.byte_lines.specs.Ahead.{AtFeed, IsFeed}
 use Rattle.request_lines.specs.RequestLines.{request_limit}
-use Rattle.local_answers.specs.RequestLimits.{IsBeyondLimit, IsRequest, IsWithin, IsWithinWith, PassesLimit}
+use Rattle.local_answers.specs.RequestLimits.{IsBeyondLimit, IsWithin, IsWithinWith, PassesLimit}
 use Rattle.local_answers.specs.declared.request_fault.RequestFault.{RequestFault}
 use Rattle.local_answers.specs.declared.request_fault.RequestFault.TheVariants.{WordsTooLong, InputTooLong}
 
@@ -38,10 +38,6 @@ feed_comes bytes piece place plain feed =
     (All-append (λ (x : ℕ). x ≢ 10) bytes (take place piece) plain feed.plain)
     (omega (arith, length-append bytes (take place piece), length-take place piece, feed.inside))
 
--- if neither has one, they have none together
-pub feed_misses : (bytes piece : List ℕ) → HasNoFeed bytes → HasNoFeed piece → HasNoFeed (bytes ++ piece)
-feed_misses bytes piece plain more = All-append (λ (x : ℕ). x ≢ 10) bytes piece plain more
-
 -- the numbers that pass a limit are those of bytes that pass it
 pub passes : (bytes : List ℕ) (end : Option ℕ) (e : RequestFault) → AtFeed bytes end → IsBeyondLimit (length bytes) end e → PassesLimit bytes e
 passes bytes None WordsTooLong plain over =
@@ -61,22 +57,6 @@ passes bytes (Some k) InputTooLong feed over = record {
   long = omega (arith, ap length feed.parts, length-append (take k bytes) (10 ∷ drop (k + 1) bytes), length-take k bytes, feed.inside, over.1);
 }
 passes bytes end e feed over = absurd over
-
--- bytes with a line feed, within the limits, are a request
-pub request_of : (bytes : List ℕ) (place : ℕ) → IsFeed bytes place → IsWithinWith (length bytes) place
-    → IsRequest bytes (take place bytes) (drop (place + 1) bytes)
-request_of bytes place feed within = record {
-  split = record { parts = feed.parts; plain = feed.plain };
-  short = omega (arith, length-take place bytes, feed.inside, within.words);
-  small = omega (
-    arith,
-    ap length feed.parts,
-    length-append (take place bytes) (10 ∷ drop (place + 1) bytes),
-    length-take place bytes,
-    feed.inside,
-    within.input,
-  );
-}
 
 -- the same for what was kept and a piece, counted apart
 pub passes_with : (bytes piece : List ℕ) (count : ℕ) (end : Option ℕ) (e : RequestFault) → length bytes + length piece ≡ count

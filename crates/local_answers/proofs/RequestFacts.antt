@@ -41,10 +41,6 @@ pub merge_journals : (old new : HeldAndRoom) (other : Meaning) (text : List ℕ)
 merge_journals old new other text receipts count lines merged =
     record { entries = lines.entries; lines = lines.lines; meaning = merged.merged.meaning ∙ sym lines.union }
 
--- none, if nothing has changed
-pub nothing_journalled : (state : HeldAndRoom) → JournalsChange [] (state_run state state)
-nothing_journalled state = record { entries = []; lines = record { each = tt; fresh = tt; spelt = refl }; meaning = refl }
-
 -- the same, if what is held is the same
 pub same_journalled : (old new : HeldAndRoom) (text : List ℕ) → text ≡ [] → new.meaning ≡ old.meaning → JournalsChange text (state_run old new)
 same_journalled old new text none same = record { entries = []; lines = record { each = tt; fresh = tt; spelt = none }; meaning = same }

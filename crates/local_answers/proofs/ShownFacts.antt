@@ -47,11 +47,6 @@ pub exit_of_other : (e : CommandError) → (e ≡ Io → ⊥) → Refused e ≡ 
 exit_of_other Io other = absurd (other refl)
 exit_of_other e other = refl
 
--- the same for an exit that is not a refusal
-pub exit_of_none : (exit : Exit) → ((e : CommandError) → exit ≡ Refused e → ⊥) → exit ≡ exit_over_memory exit
-exit_of_none (Refused e) other = absurd (other e refl)
-exit_of_none exit other = refl
-
 -- ---- if a command ended, and not by a device, nothing was written
 
 -- by the answer of a writer

@@ -26,7 +26,7 @@ use Rattle.closure_core.specs.declared.outcome.Distrusted.{Distrusted}
 use Rattle.closure_core.specs.declared.outcome.Distrusted.TheVariants.{New as DistrustedNew, Already as DistrustedAlready}
 use Rattle.closure_core.proofs.FitFacts.{fits_known, fits_right, fits_above}
 use Rattle.closure_core.proofs.RisingFacts.{with_item_longer}
-use Rattle.migration.specs.Carry.{AreLeftOut, ReportsReceipt, ReportsRecord, left_record, left_receipt, chosen_receipts}
+use Rattle.migration.specs.Carry.{AreLeftOut, ReportsReceipt, ReportsRecord, left_receipt, chosen_receipts}
 use Rattle.migration.specs.Carry.{AreLinesOf, CarriesOver, StopsCarrying, carry_run}
 use Rattle.migration.specs.declared.carrying.Choice.{Choice}
 use Rattle.migration.specs.Inside.Carrying.{SinkRun, sink_run, SortsItem, StopsAtItem, HasSorted, StopsSorting}
@@ -104,22 +104,6 @@ receipt_goes sets old new r TakenAlready held valid is took =
       },
       refl,
     )
-
--- a record that was refused and reported is left out; the search finds this lemma
-pub record_stays : (old new : Meaning) (x : Distrust) (before after : Option (List ℕ)) (r : Result ℕ DeviceError)
-    → (HasDomain old.config x.domain → ⊥) → new ≡ old → IfOk r (λ n. (n ≡ 1) × Appends before after (left_record x))
-    → IfOk r (SortsItem (λ y. HasDomain old.config y.domain) (ReportsRecord old.config) x old.records new.records (sink_run before after))
-record_stays old new x before after r unknown same wrote =
-    IfOk-weaker r _ _ (λ n w. inr (
-      record {
-        stays = unknown;
-        same = ap (λ (m : Meaning). m.records) same;
-        line = left_record x;
-        reported = (unknown, refl);
-        written = w.1;
-      },
-      w.0,
-    )) wrote
 
 -- the same for a receipt of an unknown domain
 pub unknown_stays : (old new : Meaning) (r : Receipt) (before after : Option (List ℕ)) (result : Result ℕ DeviceError)

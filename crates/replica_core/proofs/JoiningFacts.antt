@@ -101,19 +101,6 @@ IsDistrusting-next start now new all i x result sets is so l e room h =
 abbrev pub IsCollected : Configuration → Meaning → List Distrust → ℕ → Type 0
 IsCollected c now all i = now ≡ only_records c (take i all)
 
--- The step of the loop that collects.
-pub IsCollected-next : (c : Configuration) (now new : Meaning) (all : List Distrust) (i : ℕ) (x : Distrust) (done : Distrusted)
-    → AreSets Always distrust_cmp → IsMeaning now → IsCollected c now all i → i < length all → get_or all i x ≡ x
-    → Distrusts now x new done → IsCollected c new all (i + 1)
-IsCollected-next c now new all i x done sets is so l e h =
-    distrusts-held now new x done sets is h ∙ ap (with_entry (Record x)) so
-    ∙ (λ j. record {
-      config = c;
-      held = [];
-      records = sym (ap (λ (xs : List Distrust). with_items distrust_cmp xs []) (take-next all i x l e)
-          ∙ with_items-push distrust_cmp (take i all) [] x) j;
-    })
-
 -- A set with the items of a set of these items is the set with the items.
 twice : (xs set : List Distrust) → AreSets Always distrust_cmp → IsStrictlySortedBy distrust_cmp set
     → with_items distrust_cmp (with_items distrust_cmp xs []) set ≡ with_items distrust_cmp xs set

@@ -21,11 +21,11 @@ use Rattle.replica_core.specs.World.{World, empty_world, Rules, Effect, sends, g
 use Rattle.replica_core.specs.World.{apply, happens, run_from, is_replica}
 use Rattle.replica_core.specs.World.{WorldRun, rules_in, config_in, world_after, held_by, followed_by}
 use Rattle.replica_core.specs.Convergence.{Inquiry, IsInquiry, Exchange, ExchangeOf, answer_with, shown_with, Settles, IsQuiet, only_receipt}
-use Rattle.replica_core.specs.Convergence.{Peers, ArePeers, about, SumsCourse}
+use Rattle.replica_core.specs.Convergence.{Peers, ArePeers, about}
 use Rattle.replica_core.specs.declared.event.Event.{Event}
 use Rattle.replica_core.specs.declared.event.Event.TheVariants.{Take, Ask, Absorb, Restart, AskSums, AnswerSums}
 use Rattle.replica_core.proofs.ContainsFacts.{contains-here, contains-later, contains-none, each-from, get-new}
-use Rattle.replica_core.proofs.RisingListFacts.{all_append, all_front, all_back, rising_head}
+use Rattle.replica_core.proofs.RisingListFacts.{all_append, all_front, rising_head}
 use Rattle.replica_core.proofs.JoinLawFacts.{Keeps, keeps-joined}
 use Rattle.replica_core.proofs.WorldJoins.{joins}
 use Rattle.replica_core.proofs.KeptFacts.{IsKept, kept-event}
@@ -33,7 +33,6 @@ use Rattle.replica_core.proofs.EventFacts.{replica-true, sent-gained, part-run}
 use Rattle.replica_core.proofs.StateFacts.{IsTidy, Throughout, throughout-event, tidy-kept, tidy-empty}
 use Rattle.replica_core.proofs.ExchangeFacts.{with_message, content_of, asked-here, answered-with}
 use Rattle.replica_core.proofs.AgreementFacts.{quiet-admits_all}
-use Rattle.replica_core.proofs.BucketFacts.{bucket-small}
 use Rattle.replica_core.proofs.Provenance.{empty-kept}
 use Rattle.replica_core.proofs.EffectFacts.{takes-held}
 use Rattle.replica_core.proofs.WorldLawFacts.{agreed}
@@ -365,10 +364,6 @@ session i j b place = AskSums i ∷ AnswerSums j place ∷ turn_with false i j b
 abbrev sessions : ℕ → List Event
 sessions b = session 0 1 b 0 ++ session 1 0 b 4
 
--- No event of both takes a receipt, distrusts a key or restarts.
-quiet-sessions : (b : ℕ) → AllByRecursion (IsQuiet 0) (sessions b)
-quiet-sessions b = (tt, (tt, (tt, (tt, (omega arith, (tt, (tt, (tt, (tt, (omega arith, tt))))))))))
-
 -- The sums are at their place.
 sums-here : (rules : Rules) (w : World) (i : ℕ) → i < rules.replicas → happens rules w (AskSums i) ≡ with_message w (sums_sent i)
 sums-here rules w i l = ap (λ t. apply rules.limits w (where_so t (sends (sums_sent i)))) (replica-true rules i l)
@@ -393,13 +388,6 @@ compared-sends rules w i j place l m size =
     ∙ ap (λ (u : World). length u.sent) (marks-here rules v i j place m there)
     ∙ omega (arith, one, two, size)
 
--- A session is four messages.
-session-sends : (rules : Rules) (w : World) (i j b place : ℕ) → i < rules.replicas → j < rules.replicas → b ≤ 255 → length w.sent ≡ place
-    → length (run_from rules w (session i j b place)).sent ≡ place + 4
-session-sends rules w i j b place l m n size =
-    turn-sends false rules (run_from rules w (AskSums i ∷ AnswerSums j place ∷ [])) i j b (place + 2) l m n (compared-sends rules w i j place l m size)
-    ∙ omega arith
-
 -- A filter that nothing passes keeps nothing.
 filter-none : {X : Type 0} (p : X → Bool) (xs : List X) → ((x : X) → Contains xs x → p x ≡ false) → filter p xs ≡ []
 filter-none p [] none = refl
@@ -417,69 +405,3 @@ no-ids a state b h apart =
 -- And it has no records.
 no-distrusts : (a : Receipt) (state : State) → Keeps (λ r. r ≡ a) (λ x. ⊥) state → state.records ≡ []
 no-distrusts a state h = empty-is state.records (none-in state.records h.records)
-
--- A session about the bucket of the one receipt that is anywhere is a course by sums, whatever came
--- before it and comes after it.
-session-course : (rules : Rules) (a : Receipt) (w : World) (p : Peers) (events before after : List Event) (place : ℕ)
-    → ArePeers rules.replicas p → IsOnly rules.limits a w → AllByRecursion (IsQuiet 0) events
-    → events ≡ before ++ (session p.asker p.answerer (bucket_of_id a) place ++ after)
-    → length (run_from rules w before).sent ≡ place → SumsCourse rules w p events
-session-course rules a w p events before after place are h quiet order size =
-    let i = p.asker in
-    let j = p.answerer in
-    let bucket = bucket_of_id a in
-    let later = turn_with false i j bucket (place + 2) ++ after in
-    let both = subst (AllByRecursion (IsQuiet 0)) order quiet in
-    let early = all_front (IsQuiet 0) before (session i j bucket place ++ after) both in
-    let rest = all_back (IsQuiet 0) before (session i j bucket place ++ after) both in
-    let u = run_from rules w before in
-    let v = happens rules u (AskSums i) in
-    let z = happens rules v (AnswerSums j place) in
-    let at_u : IsOnly rules.limits a u = only-run rules a before w early h in
-    let at_v : IsOnly rules.limits a v = only-event rules a u (AskSums i) tt at_u in
-    let at_z : IsOnly rules.limits a z = only-event rules a v (AnswerSums j place) tt at_v in
-    record {
-      compared = record { before = before; asked = []; after = later; place = place; order = order };
-      asked_at = sym size;
-      records = inl (no-distrusts a (u.now i) (at_u.kept.now i) ∙ sym (no-distrusts a (v.now j) (at_v.kept.now j)));
-      buckets = λ b small. elim (cases_eq b bucket) [
-        | inl e ↦ inr (
-          false,
-          turn-exchanges false rules a z (about p b) later [] after (place + 2)
-              (record { asker = are.asker; answerer = are.answerer; bucket = small }) at_z rest.1.1
-              (ap (λ k. turn_with false i j k (place + 2) ++ after) (sym e))
-              (compared-sends rules u i j place are.asker are.answerer size),
-        )
-        | inr d ↦ inl (no-ids a (u.now i) b (at_u.kept.now i) d ∙ sym (no-ids a (v.now j) b (at_v.kept.now j) d))
-      ];
-    }
-
--- Both sessions are what it takes to settle.
-settles_by_sums : (config : Configuration) (limits : ℕ → Limits) (a : Receipt)
-    → Settles (rules_in (one_given config limits a)) (world_after (one_given config limits a)) (sessions (bucket_of_id a))
-settles_by_sums config limits a =
-    let rules = rules_in (one_given config limits a) in
-    let w = world_after (one_given config limits a) in
-    let only = only-given config limits a in
-    let none = none-sent config limits a in
-    let bucket = bucket_of_id a in
-    let quiet = quiet-sessions bucket in
-    let first = session 0 1 bucket 0 in
-    record {
-      quiet = λ event c. subst (λ place. IsQuiet place event) (sym none) (each-from (IsQuiet 0) (sessions bucket) quiet event c);
-      one_id = λ i j r s c d e. (only.kept.now i).receipts r c ∙ sym ((only.kept.now j).receipts s d);
-      pulled = λ p are apart. inr (elim (both-ways p are apart) [
-        | inl d ↦ session-course rules a w p (sessions bucket) [] (session 1 0 bucket 4) 0 are only quiet
-            (ap₂ (λ i j. session i j bucket 0 ++ session 1 0 bucket 4) (sym d.0) (sym d.1)) none
-        | inr d ↦ session-course rules a w p (sessions bucket) first [] 4 are only quiet
-            (ap (λ (t : List Event). first ++ t) (sym (append-nil (session 1 0 bucket 4)))
-            ∙ ap₂ (λ i j. first ++ (session i j bucket 4 ++ [])) (sym d.0) (sym d.1))
-            (session-sends rules w 0 1 bucket 0 (omega arith) (omega arith) (bucket-small a) none)
-      ]);
-    }
-
--- After two sessions of five events each the second holds the receipt.
-settled_by_sums : (config : Configuration) (limits : ℕ → Limits) (a : Receipt) → IsReceipt a → IsFitting config a
-    → Contains (held_by (followed_by (one_given config limits a) (sessions (bucket_of_id a))) 1).held a
-settled_by_sums config limits a form fits =
-    given-held config limits a (sessions (bucket_of_id a)) form fits (quiet-sessions (bucket_of_id a)) (settles_by_sums config limits a)

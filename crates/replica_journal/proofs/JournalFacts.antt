@@ -19,9 +19,9 @@ use Rattle.replica_core.specs.declared.error.SyncError.TheVariants.{BadHeader, C
 use Rattle.replica_core.specs.declared.error.SyncError.TheVariants.{Refused, Io, NoMemory}
 use Rattle.replica_texts.specs.Entries.{entry_line}
 use Rattle.replica_texts.specs.Snapshots.{ended, text_of_lines}
-use Rattle.replica_texts.specs.SoleLines.{HasRefusedSoleLine, IsWellFormed, RefusesSoleHeader, RefusesSoleLine, written_header}
+use Rattle.replica_texts.specs.SoleLines.{IsWellFormed, RefusesSoleHeader, RefusesSoleLine, written_header}
 use Rattle.replica_journal.specs.Journal.{HasBadEntry, HasBadStart, ReadsJournal, ReadsLines, RefusesJournal, RefusesJournalStart}
-use Rattle.replica_journal.specs.Inside.JournalSteps.{FailsBehindLines, FailsNext, FailsStart, FindsStart, HasReadAll, HasReadPart}
+use Rattle.replica_journal.specs.Inside.JournalSteps.{FailsBehindLines, FailsStart, FindsStart, HasReadAll, HasReadPart}
 use Rattle.replica_journal.specs.Inside.JournalSteps.{StepsOn, StepsThroughJournal}
 
 -- ---- lines of a stream
@@ -138,36 +138,6 @@ read_all false m stream read now new left after is so_far step valid =
       ends = step.1;
       valid = valid;
     }
-
--- The exit of the loop: the next line has an error, which is that of the journal. The search finds
--- this lemma.
-pub read_fails : (m : Meaning) (stream : Option (List ℕ)) (read : ℕ) (now : Meaning) (left : Option (List ℕ)) (e : SyncError)
-    → HasReadMore m stream read now left → IsMeaning now → FailsNext now (read + 1) left e → FailsBehindLines m 1 stream e
-read_fails m stream read now left e so_far valid fails =
-    let before = so_far.number in
-    let number : read + 1 ≡ 1 + length so_far.entries + 1 = omega arith in
-    record {
-      entries = so_far.entries;
-      now = now;
-      left = left;
-      part = so_far.part;
-      valid = valid;
-      cause = subst (λ n. FailsNext now n left e) number fails;
-    }
-
--- Why a single line is refused is why the next line of the stream is. The search finds this lemma.
-pub next_refused : (old new : Meaning) (number : ℕ) (stream after : Option (List ℕ)) (text : List ℕ) (e : SyncError) → HasLine stream after text
-    → HasRefusedSoleLine old (record { number = number; text = text }) new e → FailsNext old number stream e
-next_refused old new number stream after text BadHeader line h = absurd h.cause
-next_refused old new number stream after text ConfigDiffers line h = absurd h.cause
-next_refused old new number stream after text VersionDiffers line h = absurd h.cause
-next_refused old new number stream after text (NotCanonical n) line h = record { text = text; after = after; is = line; cause = h.cause }
-next_refused old new number stream after text (NotRising n) line h = absurd h.cause
-next_refused old new number stream after text BadCount line h = absurd h.cause
-next_refused old new number stream after text Truncated line h = absurd h.cause
-next_refused old new number stream after text (Refused n why) line h = record { text = text; after = after; is = line; cause = h.cause }
-next_refused old new number stream after text Io line h = absurd h.cause
-next_refused old new number stream after text NoMemory line h = tt
 
 -- A refusal of the line is one of the first line.
 pub first_refused : (config : Configuration) (stream after : Option (List ℕ)) (text : List ℕ) (e : SyncError) → HasLine stream after text

@@ -25,10 +25,6 @@ use Rattle.replica_sync.specs.declared.news.News.{News}
 
 -- ---- no record waits
 
--- What is held with none is what is held.
-pub held_empty : (m : Meaning) (news : News) → news.later.items ≡ [] → held_with news m ≡ m
-held_empty m news none = λ i. record m { records = with_items distrust_cmp (none i) m.records }
-
 -- If none waits, nothing has to be shown of those that do.
 pub waits_empty : (m : Meaning) (news : News) → IsMeaning m → IsEmptyNews news → Waits m news
 waits_empty m news is empty =

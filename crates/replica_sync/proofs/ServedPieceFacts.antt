@@ -23,7 +23,7 @@ use Rattle.replica_texts.specs.Haves.{IsHaveOf, RefusesFurther}
 use Rattle.replica_sync.specs.Pieces.{EndsLine, IsOverlong, PieceRun, piece_run}
 use Rattle.replica_sync.specs.ServedPieces.{AnswersAll, HaveAndHeld, Came, CameLines, HeldLine, IsOwnHave, ServesPieces}
 use Rattle.replica_sync.specs.ServedPieces.{gives_in_turn, line_of_have, lines_came, lines_with, with_held}
-use Rattle.replica_sync.specs.Inside.ServingSteps.{AnswersLine, RefusesPiece, TakesHave}
+use Rattle.replica_sync.specs.Inside.ServingSteps.{RefusesPiece, TakesHave}
 use Rattle.replica_sync.proofs.CutFacts.{ended_split, lines_of-kept}
 
 -- ---- one piece more
@@ -138,21 +138,6 @@ pub kept_plain : (ended : Bool) (line : List ℕ) → HasNoFeed line → HasNoFe
 kept_plain true line plain = All-from_recursion (λ b. b ≢ 10) [] tt
 kept_plain false line plain = plain
 
--- An error ends the session: what was answered remains. The search finds this lemma.
-pub served_stops : (f : Option SyncError) (m : Meaning) (came : List Came) (old piece new due later written : List ℕ) (e : SyncError)
-    → f ≡ None → due ≡ [] → later ≡ [] → RefusesPiece m old piece e → ServesPieces f came old (written ++ due)
-    → ServesPieces (Some e) (came ++ came_at piece m ∷ []) new (written ++ later)
-served_stops None m came old piece new due later written e sound idle quiet refused serves = record {
-  before = came;
-  last = came_at piece m;
-  later = [];
-  order = refl;
-  rest = old;
-  answers = subst (λ (l : List ℕ). AnswersAll came old (written ++ l)) (idle ∙ sym quiet) serves;
-  cause = refused;
-}
-served_stops (Some d) m came old piece new due later written e sound idle quiet refused serves = absurd (cc)
-
 -- After an error nothing more is answered, whatever comes. The search finds this lemma.
 pub served_still : (f : Option SyncError) (why : SyncError) (came : List Came) (c : Came) (rest output : List ℕ) → f ≡ Some why
     → ServesPieces f came rest output → ServesPieces f (came ++ c ∷ []) rest output
@@ -259,25 +244,3 @@ pub ended_refused : (m : Meaning) (old piece : List ℕ) (used : ℕ) (text : Li
 ended_refused m old piece used text e ends why more after =
     line_refused m.config ((old ++ piece) ++ (more ++ (10 ∷ after))) (drop used piece ++ (more ++ (10 ∷ after))) text e ends.plain ends.short
     (ended_split used old piece (more ++ (10 ∷ after)) text ends.parts) why
-
--- Memory may run out anywhere, and that is then the error. The search finds this lemma.
-pub memory_refused : (m : Meaning) (old piece : List ℕ) (e : SyncError) → e ≡ NoMemory → RefusesPiece m old piece e
-memory_refused m old piece e is = subst (RefusesPiece m old piece) (sym is) (λ more after. tt)
-
--- ---- a have that is answered
-
--- A have that a piece ended is taken and answered. The search finds this lemma.
-pub ended_answered : (m : Meaning) (old piece : List ℕ) (used : ℕ) (text new answer : List ℕ) → EndsLine (piece_run line_limit old piece) used text
-    → new ≡ [] → AnswersLine m text answer → TakesHave m old piece used new answer
-ended_answered m old piece used text new answer ends none is =
-    let spelt = is.line.line.spelt in
-    inr (record {
-      have = is.have;
-      own = record {
-        askable = record { asked = is.line.line.is; short = subst (λ (l : List ℕ). length l ≤ line_limit) spelt ends.short };
-        own = is.line.own;
-      };
-      ends = subst (EndsLine (piece_run line_limit old piece) used) spelt ends;
-      kept = none;
-      is = is.is;
-    })

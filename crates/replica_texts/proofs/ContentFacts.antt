@@ -1,18 +1,14 @@
 -- What an answer has, with what one more line says at its end.
-use Rattle.std.proofs.Common.{◌≡◌, ℕ, List, [], ◌∷◌, ◌++◌, map, sym, ap, ◌∙◌, subst, append-nil, append_assoc, Option}
+use Rattle.std.proofs.Common.{◌≡◌, ℕ, List, [], ◌∷◌, ◌++◌, map, sym, ap, ◌∙◌, append-nil, append_assoc}
 use Rattle.std.specs.declared.cmp.Ordering.{Ordering}
 use Rattle.std.specs.declared.cmp.Ordering.TheVariants.{Less}
-use Rattle.std.specs.Io.KnownBytes.{Consumes}
 use Rattle.std.specs.List.{AllByRecursion, flat_map}
 use Rattle.std.specs.List.Sorted.{IsStrictlySortedBy}
 use Rattle.std.proofs.lemmas.Grind.{flat_map-append}
 use Rattle.std.proofs.lemmas.List.{map-append}
 use Rattle.std.proofs.lemmas.List.Folds.{flat_map-map}
-use Rattle.std.proofs.lemmas.List.Sums.{fold-append}
 use Rattle.receipt_core.specs.declared.distrust.Distrust.{Distrust}
 use Rattle.receipt_core.specs.Receipt.{Receipt, line, distrust_line}
-use Rattle.byte_lines.specs.Lines.{HasLine}
-use Rattle.receipt_core.specs.Rising.{with_item, with_items}
 use Rattle.replica_core.specs.State.{State}
 use Rattle.replica_texts.specs.Snapshots.{ended, last_of, text_of_lines}
 use Rattle.replica_texts.specs.Entries.{entry_line, IsAbove}
@@ -20,7 +16,6 @@ use Rattle.replica_core.specs.declared.entry.Entry.{Entry}
 use Rattle.replica_core.specs.declared.entry.Entry.TheVariants.{Record, Receipt as AReceipt}
 use Rattle.replica_texts.proofs.HeldFacts.{text_cmp, AllBelow, below_last}
 use Rattle.replica_core.proofs.RisingListFacts.{rising_head, rising_tail, rising_cons}
-use Rattle.replica_texts.proofs.SnapshotFacts.{consumes_both}
 use Rattle.replica_texts.specs.Messages.{record_text, receipt_text}
 use Rattle.replica_texts.specs.Gives.{content_lines}
 use Rattle.replica_texts.specs.Inside.Gathering.{pushed}
@@ -49,10 +44,6 @@ rising_below (x ∷ lines) text rising below =
 pub rising_pushed : (lines : List (List ℕ)) (text : List ℕ) → IsStrictlySortedBy text_cmp lines
     → IsAbove (last_of lines) text → IsStrictlySortedBy text_cmp (lines ++ text ∷ [])
 rising_pushed lines text rising above = rising_below lines text rising (below_last lines text rising above)
-
--- To join one more item is to join it last.
-pub joined_one : {A : Type 0} (cmp : A → A → Ordering) (xs set : List A) (x : A) → with_items cmp (xs ++ x ∷ []) set ≡ with_item cmp x (with_items cmp xs set)
-joined_one cmp xs set x = fold-append (λ old item. with_item cmp item old) set xs (x ∷ [])
 
 -- ---- lines
 
@@ -86,12 +77,6 @@ lines_pushed (AReceipt r) content none = lines_with_receipt content r
 -- One line more, with its line feed, ends the text.
 text_pushed : (lines : List (List ℕ)) (text : List ℕ) → text_of_lines (lines ++ text ∷ []) ≡ text_of_lines lines ++ ended text
 text_pushed lines text = flat_map-append ended lines (text ∷ []) ∙ ap (λ t. text_of_lines lines ++ t) (append-nil (ended text))
-
--- After some lines of a stream and one more, all of these are used up.
-pub consumes_one : (a b c : Option (List ℕ)) (lines : List (List ℕ)) (text : List ℕ)
-    → Consumes a b (text_of_lines lines) → HasLine b c text → Consumes a c (text_of_lines (lines ++ text ∷ []))
-consumes_one a b c lines text before is =
-    subst (Consumes a c) (sym (text_pushed lines text)) (consumes_both a b c (text_of_lines lines) (ended text) before is.1)
 
 -- all lines, as an answer's text has them
 pub text_of_content : (content : State) → text_of_lines (content_lines content) ≡ flat_map record_text content.records ++ flat_map receipt_text content.held

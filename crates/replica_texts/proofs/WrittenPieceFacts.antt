@@ -1,5 +1,5 @@
 -- What has been written of a text, piece by piece.
-use Rattle.std.proofs.Common.{◌≡◌, ℕ, ◌+◌, ◌≤◌, List, [], ◌++◌, length, Option, None, Some, sym, ap, ◌∙◌, subst, append-nil, append_assoc, arith, min}
+use Rattle.std.proofs.Common.{◌≡◌, ℕ, ◌+◌, ◌≤◌, List, [], ◌++◌, length, Option, sym, ap, ◌∙◌, subst, append_assoc, arith, min}
 use Rattle.std.proofs.Math.Seq.{take-append-add}
 use Rattle.std.proofs.lemmas.List.{take-append-le, take_min}
 use Rattle.std.specs.Io.KnownBytes.{Appends}
@@ -8,11 +8,6 @@ use Rattle.std.specs.Prelude.{Result, Ok, Err, IsErr, true, false}
 use Rattle.byte_lines.specs.Device.{AppendsBeginning}
 use Rattle.replica_core.specs.declared.error.SyncError.{SyncError}
 use Rattle.replica_texts.specs.Messages.{WritesText}
-
--- If nothing was written, the empty text was.
-pub nothing-appended : (a : Option (List ℕ)) → Appends a a []
-nothing-appended None = tt
-nothing-appended (Some xs) = sym (append-nil xs)
 
 -- A beginning of the first piece is one of both.
 pub begins-first : (a b : Option (List ℕ)) (first second : List ℕ) → AppendsBeginning a b first → AppendsBeginning a b (first ++ second)

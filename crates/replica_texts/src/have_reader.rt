@@ -1,13 +1,13 @@
 //! Haves, read.
-ghost use Rattle.std.specs.Prelude.{◌≡◌, ◌≢◌, ◌<◌, ◌||◌, IfOk, IfErr, MatchResult, None};
+ghost use Rattle.std.specs.Prelude.{◌≡◌, ◌||◌, IfOk, IfErr, MatchResult, None};
 ghost use Rattle.std.specs.Io.KnownBytes.{Consumes};
 ghost use Rattle.fed_config.specs.Configuration.{config_id_of};
-ghost use Rattle.byte_lines.specs.Streams.{stream_of, left_of};
+ghost use Rattle.byte_lines.specs.Streams.{stream_of};
 ghost use Rattle.replica_texts.specs.Snapshots.{is_io};
 ghost use Rattle.replica_texts.specs.Messages.{have_text};
 ghost use Rattle.replica_texts.specs.FirstLines.{IsAnyHaveLine};
-ghost use Rattle.replica_texts.specs.Haves.{IsAskable, RefusesFurther, RefusesHave};
-ghost use Rattle.replica_texts.specs.Inside.HaveLines.{FindsHaveLine, FindsOwn, RefusesAnyHave};
+ghost use Rattle.replica_texts.specs.Haves.{IsAskable, RefusesHave};
+ghost use Rattle.replica_texts.specs.Inside.HaveLines.{FindsHaveLine, RefusesAnyHave};
 ghost use Rattle.replica_texts.specs.Inside.HaveLines.{IsSupportedHave, IsUnsupportedHave};
 ghost use Rattle.replica_texts.specs.Inside.HaveLines.{RefusesNextHave, RefusesVersionedHave};
 ghost use Rattle.replica_texts.specs.Inside.HaveLines.{versioned_have_says};
@@ -56,42 +56,6 @@ pub fn read_have<R: Source>(
     }
 }
 
-/// Reads the next have as [`read_have`] does, and then compares its configuration. Returns `None`
-/// if the stream ends before its first byte.
-///
-/// # Errors
-/// The first of these that holds:
-/// - [`SyncError::Truncated`]: the source ends within the line,
-/// - [`SyncError::BadHeader`]: it is not a have's, of whatever format and number of buckets, or its
-///   bucket is not below that number, or its ids do not rise strictly, or it has more than
-///   8,388,608 bytes,
-/// - [`SyncError::ConfigDiffers`]: it is of another configuration,
-/// - [`SyncError::VersionDiffers`]: it has another format than 2, or another number of buckets than
-///   256,
-/// - [`SyncError::Io`]: the source failed,
-/// - [`SyncError::NoMemory`]: memory ran out.
-pub fn next_own<R: Source>(
-    alloc: Global,
-    config: &Config,
-    lines: &mut LineBuf,
-    source: &mut R,
-) -> Result<Option<Have>, SyncError>
-    ensures ok { IfOk result
-        (FindsOwn config.now (stream_of R.remaining lines.old source.old)
-        (stream_of R.remaining lines.new source.new)) }
-    ensures refused { IfErr result
-        (RefusesFurther config.now (stream_of R.remaining lines.old source.old)) }
-    ensures fault { R.has_failed source.new ≡ (is_io result || R.has_failed source.old) }
-    ensures falls { IfOk result
-        (λ found. found ≢ None → left_of R.budget lines.new source.new
-        < left_of R.budget lines.old source.old) }
-{
-    match next_have_line(alloc, lines, source)? {
-        Some(versioned) => Ok(Some(own_have(config, versioned)?)),
-        None => Ok(None),
-    }
-}
-
 // The line of a have that is next in the stream, or `None` if the stream ends before its first
 // byte.
 fn next_have_line<R: Source>(
@@ -106,9 +70,6 @@ fn next_have_line<R: Source>(
         (RefusesNextHave (stream_of R.remaining lines.old source.old)
         (stream_of R.remaining lines.new source.new)) }
     ensures fault { R.has_failed source.new ≡ (is_io result || R.has_failed source.old) }
-    ensures falls { IfOk result
-        (λ found. found ≢ None → left_of R.budget lines.new source.new
-        < left_of R.budget lines.old source.old) }
 {
     match lines.next_line(source)? {
         Line::Text(text) => Ok(Some(versioned_have(alloc, text)?)),

@@ -31,7 +31,7 @@ mod spelling;
 pub use entry_line::{Wanted, next_entry, next_entry_with};
 pub use give_reader::read_give;
 pub use give_writer::write_answer;
-pub use have_reader::{next_own, read_have};
+pub use have_reader::read_have;
 pub use have_writer::write_have;
 pub use snapshot_lines::{first_snapshot_line, last_snapshot_line};
 pub use snapshot_reader::read_snapshot;

@@ -9,8 +9,8 @@ use Rattle.receipt_core.specs.declared.distrust.Distrust.{Distrust}
 use Rattle.receipt_core.specs.Acceptance.{Meaning}
 use Rattle.receipt_core.specs.Receipt.{Receipt}
 use Rattle.replica_view.specs.HeldLines.{ShowsReceipt, ShowsRecord}
-use Rattle.replica_view.specs.HeldTexts.{AreDifferenceLines, AreHeldLines, AreLackedLines, AreLinesFor, HoldSame}
-use Rattle.replica_view.specs.HeldTexts.{IsReceiptOfOther, IsRecordOfOther, is_left_aside}
+use Rattle.replica_view.specs.HeldTexts.{AreDifferenceLines, AreLackedLines, AreLinesFor, HoldSame}
+use Rattle.replica_view.specs.HeldTexts.{is_left_aside}
 use Rattle.replica_view.specs.Inside.MadeLines.{AddsLinesFor, PushesLine}
 
 -- ---- one item more at the end
@@ -120,29 +120,6 @@ no_parts [] ys e = (refl, e)
 no_parts (x ∷ xs) ys e = absurd (omega (arith, ap length e))
 
 -- ---- what is held, and what another one does not hold
-
--- the lines of the receipts and then of the records were made
-pub held_made : (m : Meaning) (chosen : Option (List ℕ)) (old one two : List (List ℕ)) → old ≡ []
-    → AddsLinesFor (IsReceiptOfOther chosen) (ShowsReceipt m []) m.held old one
-    → AddsLinesFor (IsRecordOfOther chosen) (ShowsRecord []) m.records one two → AreHeldLines m chosen two
-held_made m chosen old one two empty receipts records = record {
-  receipts = receipts.made;
-  each_receipt = receipts.are;
-  records = records.made;
-  each_record = records.are;
-  are = records.now ∙ ap (λ z. z ++ records.made) (receipts.now ∙ ap (λ z. z ++ receipts.made) empty);
-}
-
-pub lacked_made : (one other : Meaning) (mark : List ℕ) (old then new : List (List ℕ)) → old ≡ []
-    → AddsLinesFor (Contains other.held) (ShowsReceipt one mark) one.held old then
-    → AddsLinesFor (Contains other.records) (ShowsRecord mark) one.records then new → AreLackedLines one other mark new
-lacked_made one other mark old then new empty receipts records = record {
-  receipts = receipts.made;
-  each_receipt = receipts.are;
-  records = records.made;
-  each_record = records.are;
-  are = records.now ∙ ap (λ z. z ++ records.made) (receipts.now ∙ ap (λ z. z ++ receipts.made) empty);
-}
 
 -- If there is no such line, the other one holds all that this one holds.
 module _ (one other : Meaning) (mark : List ℕ) (lines : List (List ℕ)) (lacked : AreLackedLines one other mark lines) where

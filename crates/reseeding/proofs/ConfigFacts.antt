@@ -1,28 +1,13 @@
 -- The new configuration, out of its parts.
-use Rattle.std.proofs.Common.{◌≡◌, ℕ, List, length, refl, sym, ap, subst}
-use Rattle.fed_config.specs.Configuration.{Configuration, config_text}
+use Rattle.std.proofs.Common.{◌≡◌, ℕ, List, length, sym, ap, subst}
+use Rattle.fed_config.specs.Configuration.{Configuration}
 use Rattle.fed_config.specs.declared.floor.Floor.{Floor}
-use Rattle.fed_config.specs.declared.relationship.Relationship.{Relationship}
-use Rattle.fed_config.specs.declared.seed.Seed.{Seed}
 use Rattle.receipt_core.specs.Acceptance.{IsMeaning, Meaning}
-use Rattle.reseeding.specs.Reseeding.{AreCurrentSeeds, AreNewFloors, AreRaisedFloors, IsNewConfig, IsStayCount, MakesConfig}
+use Rattle.reseeding.specs.Reseeding.{AreNewFloors, AreRaisedFloors, IsNewConfig, IsStayCount, MakesConfig}
 use Rattle.reseeding.specs.Inside.Domains.{IsWrittenWith}
 use Rattle.reseeding.specs.declared.new_floors.FloorChoice.{FloorChoice}
 use Rattle.reseeding.specs.declared.new_floors.FloorChoice.TheVariants.{Kept, Raised}
 use Rattle.reseeding.proofs.StayFacts.{all_stay}
-use Rattle.fed_config.specs.Limits.{usual_limits}
-
--- the text that was written
-pub written_with : (m : Meaning) (relationships : List Relationship) (seeds : List Seed) (floors : List Floor) (text : List ℕ)
-    → relationships ≡ m.config.relationships → AreCurrentSeeds m seeds
-    → text ≡ config_text (record { relationships = relationships; seeds = seeds; floors = floors; limits = usual_limits }) → IsWrittenWith m floors text
-written_with m relationships seeds floors text same are is = record {
-  config = record { relationships = relationships; seeds = seeds; floors = floors; limits = usual_limits };
-  relationships = same;
-  seeds = are;
-  has = refl;
-  written = is;
-}
 
 makes_config : (choice : FloorChoice) (m : Meaning) (floors : List Floor) (text : List ℕ) (staying : ℕ) → IsWrittenWith m floors text
     → AreNewFloors choice m floors → ((c : Configuration) → IsNewConfig choice m c → IsStayCount m c staying)

@@ -56,10 +56,6 @@ IsListedRecord domain d x = (x.domain ≡ domain) × HasKeyId d.authorities x.ke
 pub listed : (m : Meaning) (domain : List ℕ) (d : Bundle) → HasSome (IsListedRecord domain d) m.records → ListsDistrusted m domain d
 listed m domain d some = record { given = some.item; held = some.has; of_domain = some.is.0; lists = some.is.1 }
 
--- and the other way; the search finds this lemma
-pub listed_back : (m : Meaning) (domain : List ℕ) (d : Bundle) → ListsDistrusted m domain d → HasSome (IsListedRecord domain d) m.records
-listed_back m domain d lists = record { item = lists.given; has = lists.held; is = (lists.of_domain, lists.lists) }
-
 -- another document with the same sequence number, or with none as this one
 abbrev pub IsOther : Bundle → Bundle → Type 0
 IsOther d rival = (rival.rank ≡ d.rank) × (canonical_text rival ≢ canonical_text d)

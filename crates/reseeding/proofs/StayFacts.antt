@@ -137,29 +137,6 @@ new_reaches m c domain document floor new raised known reaches n some =
 
 -- ---- one receipt
 
--- without a floor each document reaches it
-pub reaches_none : (d : Bundle) (floor : Option ℕ) → floor ≡ None → IsTrue true ↔ ((n : ℕ) → floor ≡ Some n → Reaches n d)
-reaches_none d floor none = (λ _ n some. absurd (let wrong : None ≡ Some n = sym none ∙ some in cc), λ _. refl)
-
--- one with a number reaches it if that is not lower
-pub reaches_some : (d : Bundle) (floor : Option ℕ) (f k : ℕ) (stated : Bool) → floor ≡ Some f → d.rank ≡ Some k → (IsTrue stated ↔ (f ≤ k))
-    → IsTrue stated ↔ ((n : ℕ) → floor ≡ Some n → Reaches n d)
-reaches_some d floor f k stated some ranked is = (
-  λ t n same. (k, ranked, let e : n ≡ f = cc in let low = is.0 t in omega (arith, e, low)),
-  λ reaches.
-      let (n, numbered, low) = reaches f some in
-      let e : n ≡ k = cc in
-      is.1 (omega (arith, e, low)),
-)
-
--- one without a number does not
-pub reaches_unnumbered : (d : Bundle) (floor : Option ℕ) (f : ℕ) → floor ≡ Some f → d.rank ≡ None
-    → IsTrue false ↔ ((n : ℕ) → floor ≡ Some n → Reaches n d)
-reaches_unnumbered d floor f some unranked = (
-  λ t. absurd (cc),
-  λ reaches. absurd (let (n, numbered, low) = reaches f some in let wrong : None ≡ Some n = sym unranked ∙ numbered in cc),
-)
-
 -- the configuration has the domain of a receipt that fits
 fitting_known : (m : Meaning) (domains : List (List ℕ)) (r : Receipt) → AreDomains m.config domains → IsFitting m.config r → Contains domains r.domain
 fitting_known m domains r are fits = are.complete r.domain (inl (fits.relationship, fits.has, fits.domain))

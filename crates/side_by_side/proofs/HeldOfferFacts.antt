@@ -1,6 +1,6 @@
 -- All that a closure holds, offered item by item.
 use Rattle.std.proofs.Common.{◌≡◌, ℕ, ◌+◌, ◌≤◌, inl, inr, List, [], ◌∷◌, ◌++◌, length, map, refl, sym, ap, ◌∙◌, subst, arith}
-use Rattle.std.proofs.Common.{append_assoc, append-nil}
+use Rattle.std.proofs.Common.{append_assoc}
 use Rattle.std.specs.Prelude.{◌↔◌, Contains}
 use Rattle.std.specs.List.{AllByRecursion}
 use Rattle.std.proofs.lemmas.List.{map-append}
@@ -19,7 +19,7 @@ use Rattle.side_by_side.specs.declared.fate.Fate.{Fate}
 use Rattle.side_by_side.specs.declared.offer_counts.Offered.{Offered}
 use Rattle.side_by_side.specs.Offering.{HasOffered, HasOfferedPart, IsEntryHeld, Kept, OffersEntry, OffersInTurn, OffersLine}
 use Rattle.side_by_side.specs.Offering.{OffersLines, counted_fate, counted_all, none_offered}
-use Rattle.side_by_side.specs.Promise.{AddsFitting, LinesSay}
+use Rattle.side_by_side.specs.Promise.{LinesSay}
 use Rattle.side_by_side.specs.Inside.Steps.{offered_count}
 use Rattle.side_by_side.proofs.EntryFacts.{one_entry}
 use Rattle.side_by_side.proofs.StepFacts.{counted_one, said_line, turn_more}
@@ -76,33 +76,10 @@ item_more {A} text old all rest later x now new before offered more fate so is l
       number = omega (arith, size, number, one);
     }
 
--- All items.
-pub item_all : {A : Type 0} (text : A → List ℕ) (old : Kept) (all rest : List A) (now : Kept) (before offered : Offered)
-    → OffersSome text old all rest now before offered → rest ≡ [] → OffersLines old (map text all) now before offered
-item_all {A} text old all rest now before offered so none =
-    let whole : all ≡ so.done = so.split ∙ ap (λ (xs : List A). so.done ++ xs) none ∙ append-nil so.done in
-    record {
-      fates = so.fates;
-      each = subst (λ (xs : List A). OffersInTurn old (map text xs) now so.fates) (sym whole) so.each;
-      counts = so.counts;
-    }
-
 -- How many there were.
 pub item_count : {A : Type 0} (text : A → List ℕ) (old : Kept) (all rest : List A) (now : Kept) (before offered : Offered)
     → OffersSome text old all rest now before offered → offered_count offered ≤ offered_count before + length all
 item_count text old all rest now before offered so = let number = so.number in omega (arith, number)
-
--- An item is left.
-pub item_part : {A : Type 0} (text : A → List ℕ) (old : Kept) (all rest later : List A) (x : A) (now new : Kept) (before offered : Offered)
-    → OffersSome text old all rest now before offered → rest ≡ x ∷ later → new ≡ now → HasOfferedPart old (map text all) new
-item_part {A} text old all rest later x now new before offered so is same = record {
-  done = map text so.done;
-  next = text x;
-  later = map text later;
-  fates = so.fates;
-  lines = ap (map text) (so.split ∙ ap (λ (xs : List A). so.done ++ xs) is) ∙ map-append text so.done (x ∷ later);
-  each = subst (λ (k : Kept). OffersInTurn old (map text so.done) k so.fates) (sym same) so.each;
-}
 
 -- ---- some lines, and then others
 
@@ -174,12 +151,3 @@ held_law m is e = (
   ],
   holds_said m e is,
 )
-
--- ---- no line
-
--- Nothing is offered, and nothing is added.
-pub none_adds : (m : Meaning) → AddsFitting m (LinesSay []) m
-none_adds m = record {
-  only = record { config = refl; keeps = λ e h. h; only = λ e h. inl h };
-  all = λ e says fits. let low = says.line.1 in absurd (omega (arith, low));
-}

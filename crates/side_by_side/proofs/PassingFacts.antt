@@ -8,10 +8,9 @@ use Rattle.std.proofs.lemmas.List.Elements.{Contains-append_left}
 use Rattle.std.proofs.lemmas.List.Sums.{fold-append}
 use Rattle.fed_config.specs.Configuration.{Configuration, HasDomain}
 use Rattle.receipt_core.specs.declared.distrust.Distrust.{Distrust}
-use Rattle.receipt_core.specs.Receipt.{Receipt, IsReceipt, with_receipt, with_distrust}
+use Rattle.receipt_core.specs.Receipt.{Receipt, IsReceipt}
 use Rattle.receipt_core.specs.Acceptance.{IsFitting, IsMeaning, Meaning}
 use Rattle.receipt_core.specs.Limits.{receipt_limit, record_limit}
-use Rattle.replica_core.specs.Absorbing.{with_entry}
 use Rattle.replica_core.specs.Convergence.{Gains, only_receipt, only_record}
 use Rattle.replica_core.specs.State.{State, is_within_limits, joined, limits_of, meaning_of_state}
 use Rattle.replica_core.specs.World.{World, WorldRun, config_in, empty_world, happens, rules_in, run_from, world_after}
@@ -35,9 +34,9 @@ use Rattle.side_by_side.specs.Offering.{HasTakenOffered, IsEntryHeld, Kept, Offe
 use Rattle.side_by_side.specs.PairWorlds.{PairRun, PairWorld, Step, receipt_over, record_over, config_at, empty_pair, limited_at, other_side}
 use Rattle.side_by_side.specs.PairWorlds.{pair_after, pair_from}
 use Rattle.side_by_side.specs.PairWorlds.{revoke_of, rules_at, side_run, steps_to, take_of, world_at}
-use Rattle.side_by_side.specs.PassedSteps.{HoldsIn, IsAfterSteps, IsHeldOn, IsOverFrom, PassesOwn, then_steps}
+use Rattle.side_by_side.specs.PassedSteps.{IsAfterSteps, IsHeldOn, IsOverFrom, PassesOwn, then_steps}
 use Rattle.side_by_side.specs.Promise.{LinesSay}
-use Rattle.side_by_side.specs.Sides.{IsOfferedPart, IsOfferedTo, Passing, PassesPartToOther, PassesToOther, SidePair, lines_in, side_meaning}
+use Rattle.side_by_side.specs.Sides.{IsOfferedPart, IsOfferedTo, Passing, PassesPartToOther, PassesToOther, lines_in}
 use Rattle.side_by_side.proofs.EntryFacts.{SetLaws, always}
 use Rattle.side_by_side.proofs.HeldOfferFacts.{held_law}
 use Rattle.side_by_side.proofs.OfferFacts.{said_first, said_later}
@@ -81,10 +80,6 @@ one_place limit count place = elim (cases_lt count limit) [
 abbrev event_of : ℕ → Entry → Event
 event_of i (Record x) = Revoke i x
 event_of i (AReceipt r) = Take i r
-
-abbrev only_entry : Entry → State
-only_entry (Record x) = only_record x
-only_entry (AReceipt r) = only_receipt r
 
 -- What was taken is tame, and within the limits.
 tame_taken : SetLaws → (m : Meaning) (e : Entry) (new : Meaning) → IsWellFormed e → IsTame m → HasTakenOffered m e new → IsTame new

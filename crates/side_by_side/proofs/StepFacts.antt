@@ -1,19 +1,17 @@
 -- One line, found, offered and counted, and the loop over all lines.
-use Rattle.std.proofs.Common.{◌≡◌, ℕ, ◌+◌, ◌≤◌, List, [], ◌∷◌, ◌++◌, length, take, drop, refl, sym, ap, ◌∙◌, subst, arith}
+use Rattle.std.proofs.Common.{◌≡◌, ℕ, ◌+◌, ◌≤◌, List, [], ◌∷◌, ◌++◌, length, refl, sym, ap, ◌∙◌, subst, arith}
 use Rattle.std.proofs.Common.{append_assoc, append-nil, length-append, Option, Result, Ok, Err}
 use Rattle.std.specs.Prelude.{Contains, MatchResult, OnErr, ok_or}
-use Rattle.std.proofs.lemmas.List.{take-append-le, take_all}
 use Rattle.std.proofs.lemmas.List.Sums.{fold-append}
 use Rattle.std.proofs.lemmas.List.Elements.{Contains-append_left}
 use Rattle.fed_config.specs.Configuration.{IsConfiguration}
 use Rattle.byte_lines.specs.Lines.{HasNoFeed, Lines, lines_of}
-use Rattle.byte_lines.specs.Ahead.{IsFeed}
 use Rattle.byte_lines.proofs.StreamFacts.{lines_of-line, lines_of-rest}
 use Rattle.receipt_core.specs.declared.distrust.Distrust.{Distrust}
 use Rattle.receipt_core.specs.Receipt.{Receipt}
 use Rattle.receipt_core.specs.Acceptance.{Meaning, IsMeaning}
-use Rattle.closure_core.specs.Changes.{HeldAndRoom, HasTaken as ClosureHasTaken, HasReceiptAlready, HasDistrusted, HasRecordAlready}
-use Rattle.closure_core.specs.Refusals.{RefusesDistrust, RefusesReceipt, Room}
+use Rattle.closure_core.specs.Changes.{HeldAndRoom, HasReceiptAlready, HasRecordAlready}
+use Rattle.closure_core.specs.Refusals.{RefusesReceipt, Room}
 use Rattle.closure_core.specs.declared.error.TakeError.{TakeError}
 use Rattle.closure_core.specs.declared.error.TakeError.TheVariants.{UnknownDomain, WrongEndpoint, BelowFloor, Full, NoMemory, ConfigDiffers}
 use Rattle.closure_core.proofs.FitFacts.{fits_known, fits_right, fits_above}
@@ -22,25 +20,17 @@ use Rattle.replica_core.specs.declared.entry.Entry.TheVariants.{Record, Receipt 
 use Rattle.replica_texts.specs.declared.entry_line.Wanted.TheVariants.{Either}
 use Rattle.replica_texts.specs.Entries.{IsEntry}
 use Rattle.replica_texts.specs.Snapshots.{ended}
-use Rattle.replica_journal.specs.Journal.{entry_text}
 use Rattle.side_by_side.specs.declared.fate.Fate.{Fate}
 use Rattle.side_by_side.specs.declared.fate.Fate.TheVariants.{Taken, Held, Unfit, NoPlace, Unread}
 use Rattle.side_by_side.specs.declared.offer_counts.Offered.{Offered}
 use Rattle.side_by_side.specs.Offering.{HasOffered, HasOfferedPart, Kept, OffersEntry, OffersInTurn}
-use Rattle.side_by_side.specs.Offering.{OffersLine, TakesAs, counted_fate, counted_all, journalled, none_offered}
+use Rattle.side_by_side.specs.Offering.{OffersLine, TakesAs, counted_fate, counted_all, none_offered}
 use Rattle.side_by_side.specs.Promise.{AddsOnlyFitting, LinesSay, TakesFitting}
-use Rattle.side_by_side.specs.Inside.Steps.{IsFirstLine, fate_when, kept_line, offered_count}
+use Rattle.side_by_side.specs.Inside.Steps.{IsFirstLine, fate_when, offered_count}
 use Rattle.side_by_side.proofs.EntryFacts.{SetLaws}
 use Rattle.side_by_side.proofs.OfferFacts.{adds_in_turn, only_first, takes_fitting}
 
 -- ---- the first line
-
--- The bytes before the first line feed are the first line.
-pub first_split : (bytes : List ℕ) (end : ℕ) → IsFeed bytes end → IsFirstLine bytes (take end bytes) (drop (end + 1) bytes)
-first_split bytes end feed = record {
-  plain = feed.plain;
-  parts = feed.parts ∙ sym (append_assoc (take end bytes) (10 ∷ []) (drop (end + 1) bytes));
-}
 
 -- The whole lines of the bytes are the first one, and then those of what follows it.
 first_whole : (bytes text after : List ℕ) → IsFirstLine bytes text after → (lines_of bytes).whole ≡ text ∷ (lines_of after).whole
@@ -56,18 +46,8 @@ first_shorter bytes text after first =
 
 -- ---- one receipt or one record
 
-pub receipt_taken : (old new : HeldAndRoom) (r : Receipt) (n : ℕ) → ClosureHasTaken old r new n → TakesAs old.meaning (AReceipt r) new.meaning Taken
-receipt_taken old new r n h =
-    let few = h.few in
-    record { fits = h.fits; unheld = h.unheld; place = λ full. omega (arith, few, full); meaning = h.meaning }
-
 pub receipt_held : (old new : HeldAndRoom) (r : Receipt) → HasReceiptAlready old r new → TakesAs old.meaning (AReceipt r) new.meaning Held
 receipt_held old new r h = (ap (λ (s : HeldAndRoom). s.meaning) h.same, h.held)
-
-pub record_taken : (old new : Meaning) (x : Distrust) (n : ℕ) → HasDistrusted old x new n → TakesAs old (Record x) new Taken
-record_taken old new x n h =
-    let few = h.few in
-    record { fits = h.domain; unheld = h.unheld; place = λ full. omega (arith, few, full); meaning = h.meaning }
 
 pub record_held : (old new : Meaning) (x : Distrust) → HasRecordAlready old x new → TakesAs old (Record x) new Held
 record_held old new x h = (h.meaning, h.held)
@@ -90,32 +70,7 @@ receipt_result m n room r why e fate result is h same came made =
     subst (λ (o : Result Fate _). MatchResult o (TakesAs m (AReceipt r) n) (λ e. n ≡ m)) (sym (made ∙ ap (λ (f : Option Fate). ok_or f e) came))
     (receipt_refused m n room r why e is h same)
 
-pub record_refused : {E : Type 0} (m n : Meaning) (x : Distrust) (why : TakeError) (e : E)
-    → RefusesDistrust m x why → n ≡ m → MatchResult (ok_or (fate_when why) e) (TakesAs m (Record x) n) (λ e. n ≡ m)
-record_refused m n x UnknownDomain e h same = (same, h)
-record_refused m n x WrongEndpoint e h same = absurd h
-record_refused m n x BelowFloor e h same = absurd h
-record_refused m n x Full e h same = (same, record { fits = h.domain; unheld = h.unheld; full = h.full })
-record_refused m n x NoMemory e h same = absurd h
-record_refused m n x ConfigDiffers e h same = absurd h
-
 -- ---- its line in the journal
-
--- The front of a list is what it was before more came.
-front_again : (before more : List ℕ) → take (length before) (before ++ more) ≡ before
-front_again before more = take-append-le (length before) before more (omega arith) ∙ take_all (length before) before (omega arith)
-
--- The line is kept only if what it says was taken.
-pub kept_journal : (fate : Fate) (entry : Entry) (before : List ℕ) → kept_line fate (length before) (before ++ entry_text entry) ≡ journalled fate entry before
-kept_journal Taken entry before = refl
-kept_journal Held entry before = front_again before (entry_text entry)
-kept_journal Unfit entry before = front_again before (entry_text entry)
-kept_journal NoPlace entry before = front_again before (entry_text entry)
-kept_journal Unread entry before = front_again before (entry_text entry)
-
--- The journal without the line is what it was.
-pub journal_again : (before now : List ℕ) (entry : Entry) → now ≡ take (length before) (before ++ entry_text entry) → now ≡ before
-journal_again before now entry cut = cut ∙ front_again before (entry_text entry)
 
 -- What comes of a receipt or a record comes of the line that says it.
 pub said_line : (old : Kept) (text : List ℕ) (entry : Entry) (new : Kept) (fate : Fate) → IsEntry Either text entry → OffersEntry old entry new fate
@@ -125,11 +80,6 @@ said_line old text entry new Held is h = record { entry = entry; is = is; offers
 said_line old text entry new Unfit is h = record { entry = entry; is = is; offers = h }
 said_line old text entry new NoPlace is h = record { entry = entry; is = is; offers = h }
 said_line old text entry new Unread is h = absurd h.takes
-
-pub said_match : {E : Type 0} (old : Kept) (text : List ℕ) (entry : Entry) (new : Kept) (result : Result Fate E) → IsEntry Either text entry
-    → MatchResult result (OffersEntry old entry new) (λ e. new ≡ old) → MatchResult result (OffersLine old text new) (λ e. new ≡ old)
-said_match old text entry new (Ok fate) is h = said_line old text entry new fate is h
-said_match old text entry new (Err e) is h = h
 
 -- ---- all lines
 

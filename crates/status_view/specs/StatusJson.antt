@@ -61,7 +61,3 @@ status_members s = counts_json s
     ++ (codes "],\"keyless_seeds\":["
     ++ (parted_texts keyless_json false s.keyless_seeds.items
     ++ (codes "],\"warning\":" ++ true_or_false (has_warning s))))))
-
--- an object, and a line feed
-abbrev pub status_json : Status → List ℕ
-status_json s = codes "{" ++ (status_members s ++ codes "}\n")

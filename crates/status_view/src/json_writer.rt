@@ -1,8 +1,8 @@
 //! A status as compact JSON.
-ghost use Rattle.std.specs.Prelude.{◌≡◌, ◌++◌, false, IfOk, OnOk};
+ghost use Rattle.std.specs.Prelude.{◌≡◌, ◌++◌, false, OnOk};
 ghost use Rattle.json_text.specs.JsonText.{parted_texts};
 ghost use Rattle.status_view.specs.StatusJson.{json_reports, counts_json, current_json};
-ghost use Rattle.status_view.specs.StatusJson.{domain_json, key_json, keyless_json, status_json};
+ghost use Rattle.status_view.specs.StatusJson.{domain_json, key_json, keyless_json};
 ghost use Rattle.status_view.specs.StatusJson.{status_members};
 
 use crate::standing::has_warning;
@@ -11,7 +11,8 @@ use byte_lines::{push_digits, push_number};
 use json_text::{push_bool, push_comma, push_number_or_null};
 use std::alloc::{AllocError, Global};
 
-/// The status as a compact JSON object, whose members are in this order, and a line feed:
+/// Adds the members of the status as those of a compact JSON object, in this order, without the
+/// braces, so that others can follow them:
 ///
 /// | Member | What it has |
 /// |---|---|
@@ -24,19 +25,6 @@ use std::alloc::{AllocError, Global};
 ///
 /// `current` is `null` or has `id`, `sequence`, `refresh_hint` and `keys`, each with `id` and
 /// `distrusted`. A number that is absent is `null`.
-///
-/// # Errors
-/// Memory ran out.
-pub fn status_json(alloc: Global, status: &Status) -> Result<Vec<u8>, AllocError>
-    ensures { IfOk result (λ text. text.items ≡ status_json status.now) }
-{
-    let mut out = Vec::from_slice(alloc, b"{")?;
-    push_status_members(&mut out, status)?;
-    out.extend_from_slice(b"}\n")?;
-    Ok(out)
-}
-
-/// Adds the members of that object, without the braces, so that others can follow them.
 ///
 /// # Errors
 /// Memory ran out. Nothing is said then of what is there.

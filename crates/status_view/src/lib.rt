@@ -6,7 +6,7 @@
 //! `domain_standing` and `keyless`. `text_writer`, `json_writer` and `metrics_writer` write it, and
 //! the files that begin with `running_` write the second; at their end those that begin with
 //! `previous_` write from which configuration the replica is changed, if it is. `peer_metrics` has
-//! what metrics of peers share. `status_writer` joins both.
+//! what metrics of peers share.
 #![tactic(auto)]
 
 mod current_status;
@@ -25,10 +25,10 @@ mod running_lines;
 mod running_metrics;
 mod standing;
 mod status;
-mod status_writer;
+mod status_format;
 mod text_writer;
 
-pub use json_writer::{push_status_members, status_json};
+pub use json_writer::push_status_members;
 pub use metric::{DomainGauge, Gauge};
 pub use metrics_writer::{push_gauge_head, push_label_value, status_metrics};
 pub use running::{AskedConfig, PeerFault, PeerStatus, PreviousStatus, RunningStatus, fault_code};
@@ -37,5 +37,5 @@ pub use running_lines::push_running_lines;
 pub use running_metrics::push_running_metrics;
 pub use standing::{has_warning, is_nearly_full, read_status};
 pub use status::{CurrentStatus, DomainStatus, KeyStatus, KeylessSeed, Status};
-pub use status_writer::{StatusFormat, write_running_status, write_status};
+pub use status_format::StatusFormat;
 pub use text_writer::status_lines;

@@ -29,7 +29,3 @@ pub all_begun : {X Y : Type 0} (Gives : X → List Y → Type 0) (xs : List X) (
     → length xs ≤ k → IsBegun Gives xs (drop k xs) [] now → AreParts Gives xs now
 all_begun Gives xs k now high begun =
     let whole = begun_all Gives xs k [] now high begun in subst (AreParts Gives xs) (sym whole.2) whole.1
-
--- nothing was added
-pub nothing_added : {Y : Type 0} (Is : List Y → Type 0) (old : List Y) → Is [] → AddsPart Is old old
-nothing_added Is old is = ([], is, sym (append-nil old))

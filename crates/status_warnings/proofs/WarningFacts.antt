@@ -5,7 +5,7 @@ use Rattle.std.proofs.lemmas.List.{drop_all}
 use Rattle.status_view.proofs.PieceFacts.{drop_next}
 use Rattle.status_view.specs.declared.running.PeerStatus.{PeerStatus}
 use Rattle.status_view.specs.declared.status.Status.{Status}
-use Rattle.status_view.specs.declared.status_writer.StatusFormat.{StatusFormat}
+use Rattle.status_view.specs.declared.status_format.StatusFormat.{StatusFormat}
 use Rattle.status_warnings.specs.declared.seen.CertificateEnd.{CertificateEnd}
 use Rattle.status_warnings.specs.declared.seen.SamePublicKey.{SamePublicKey}
 use Rattle.status_warnings.specs.declared.warning_kinds.Warning.{Warning}

@@ -4,9 +4,9 @@ use Rattle.receipt_core.specs.Acceptance.{Meaning}
 use Rattle.status_view.specs.declared.running.PeerStatus.{PeerStatus}
 use Rattle.status_view.specs.declared.running.RunningStatus.{RunningStatus}
 use Rattle.status_view.specs.declared.status.Status.{Status}
-use Rattle.status_view.specs.declared.status_writer.StatusFormat.{StatusFormat}
-use Rattle.status_view.specs.declared.status_writer.StatusFormat.TheVariants.{Text, Json}
-use Rattle.status_view.specs.declared.status_writer.StatusFormat.TheVariants.{Prometheus}
+use Rattle.status_view.specs.declared.status_format.StatusFormat.{StatusFormat}
+use Rattle.status_view.specs.declared.status_format.StatusFormat.TheVariants.{Text, Json}
+use Rattle.status_view.specs.declared.status_format.StatusFormat.TheVariants.{Prometheus}
 use Rattle.status_view.specs.Status.{IsStatus}
 use Rattle.status_view.specs.Running.{running_lines, running_members, running_metrics}
 use Rattle.status_view.specs.StatusLines.{status_lines}

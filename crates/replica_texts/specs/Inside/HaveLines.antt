@@ -2,7 +2,7 @@
 -- read.
 use Rattle.std.specs.Prelude.{◌≡◌, ◌≢◌, ◌≤◌, ◌⊎◌, ℕ, List, length, Option, None, Some, codes}
 use Rattle.std.specs.List.{join_by}
-use Rattle.std.specs.Io.KnownBytes.{Consumes, IsAtEnd}
+use Rattle.std.specs.Io.KnownBytes.{IsAtEnd}
 use Rattle.fed_config.specs.Configuration.{Configuration, config_id_of}
 use Rattle.byte_lines.specs.Lines.{HasLine, HasNoLine, HasMore}
 use Rattle.replica_core.specs.Session.{HaveMessage}
@@ -11,10 +11,9 @@ use Rattle.replica_core.specs.declared.error.SyncError.TheVariants.{BadHeader, C
 use Rattle.replica_core.specs.declared.error.SyncError.TheVariants.{VersionDiffers}
 use Rattle.replica_core.specs.declared.error.SyncError.TheVariants.{Truncated}
 use Rattle.replica_core.specs.declared.error.SyncError.TheVariants.{Io, NoMemory}
-use Rattle.replica_texts.specs.Messages.{AnyHave, have_text, quoted}
+use Rattle.replica_texts.specs.Messages.{AnyHave, quoted}
 use Rattle.replica_texts.specs.FirstLines.{HasBadFirstLine, IsAnyHaveLine, IsSupportedVersion}
 use Rattle.replica_texts.specs.FirstLines.{RefusesHaveLine}
-use Rattle.replica_texts.specs.Haves.{IsHaveOf}
 use Rattle.replica_texts.specs.declared.have_fields.VersionedHave.{VersionedHave}
 use Rattle.replica_texts.specs.declared.have_fields.HaveFields.{HaveFields}
 use Rattle.byte_lines.specs.Limits.{line_limit}
@@ -86,9 +85,3 @@ RefusesVersionedHave config a ConfigDiffers = a.have.config ≢ config_id_of con
 RefusesVersionedHave config a VersionDiffers = (a.have.config ≡ config_id_of config)
     × (IsSupportedVersion a.format a.buckets → ⊥)
 RefusesVersionedHave config a _ = ⊥
-
--- there is a have of the configuration, or the stream is at its end
-abbrev pub FindsOwn : Configuration → Option (List ℕ) → Option (List ℕ) → Option HaveMessage
-    → Type 0
-FindsOwn config old new None = IsAtEnd old × IsAtEnd new
-FindsOwn config old new (Some q) = IsHaveOf config q × Consumes old new (have_text q)
