@@ -1,3 +1,4 @@
+mod DistrustedFacts
 mod DomainKeyFacts
 mod ListingFacts
 mod MatchingFacts
@@ -5,3 +6,6 @@ mod MetFacts
 mod PartFacts
 mod PieceFacts
 mod PublicKeyFacts
+mod SameKeyFacts
+mod TrustedFacts
+mod ZipFacts

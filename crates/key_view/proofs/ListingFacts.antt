@@ -26,7 +26,7 @@ use Rattle.key_view.proofs.MetFacts.{same_key}
 
 -- ---- one key
 
-one_key : (key q : KeyId) → is_one_key key q ≡ true → key ≡ q
+pub one_key : (key q : KeyId) → is_one_key key q ≡ true → key ≡ q
 one_key key q same = λ i. record { 0 = (bytes_eq-Decides key.0 q.0).0 same i }
 
 new_ids : (b : Bool) (new old : Option Listing) (listing : Listing) (picked : List DocId) → new ≡ cond b (Some listing) (cond b None old)
@@ -126,13 +126,6 @@ pub record AreListed (domain : List ℕ) (accepted : List Bundle) (k : ℕ) (lis
 none_at : (m : BTreeMap KeyId Listing) (key : KeyId) → m.entries ≡ [] → listing_at m key ≡ None
 none_at m key empty = ap (λ es. lookup (is_at (key_cmp key)) es) empty
 
--- before the first document
-pub listings_none : (domain : List ℕ) (accepted : List Bundle) (m : BTreeMap KeyId Listing) → m.entries ≡ [] → AreListed domain accepted 0 m
-listings_none domain accepted m empty = record {
-  are = record { ids = λ key. ap ids_of (none_at m key empty) };
-  before = record { low = λ key. let none : last_listed (listing_at m key) ≡ 0 = ap last_listed (none_at m key empty) in omega arith };
-}
-
 one_more : (b : Bool) (id : DocId) (others : List DocId) → cond b (id ∷ others) others ≡ cond b (id ∷ []) [] ++ others
 one_more true id others = refl
 one_more false id others = refl
@@ -166,11 +159,6 @@ listings_more domain accepted k d id number old new low is so is_id is_number mo
         low = λ key. let high : last_listed (listing_at new key) ≤ number = more.low key in omega arith;
       };
     }
-
--- after the last document
-pub listings_all : (domain : List ℕ) (accepted : List Bundle) (k : ℕ) (m : BTreeMap KeyId Listing) → length accepted ≤ k
-    → AreListed domain accepted k m → AreListings domain accepted m
-listings_all domain accepted k m high so = subst (λ ds. AreListings domain ds m) (take_all k accepted high) so.are
 
 -- ---- the entries
 

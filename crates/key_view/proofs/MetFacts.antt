@@ -1,12 +1,12 @@
 -- Which keys were met, one key after another.
-use Rattle.std.proofs.Common.{◌≡◌, ℕ, Bool, true, false, ◌||◌, cond, List, [], ◌∷◌, ◌++◌, sym, ap, ◌∙◌}
+use Rattle.std.proofs.Common.{◌≡◌, Bool, true, false, ◌||◌, cond, List, [], ◌∷◌, ◌++◌, sym, ap, ◌∙◌}
 use Rattle.std.specs.Ordering.{is_eq}
 use Rattle.std.specs.BTreeSet.{BTreeSet, contains}
 use Rattle.std.proofs.lemmas.List.Folds.{list_any-append}
 use Rattle.std.proofs.lemmas.Map.Text.{is_eq-slice_cmp}
 use Rattle.jwk_set.specs.declared.authority.KeyId.{KeyId}
 use Rattle.receipt_core.specs.Receipt.{key_cmp}
-use Rattle.key_view.specs.KnownKeys.{id_of_der, is_one_key, knows, with_der}
+use Rattle.key_view.specs.KnownKeys.{is_one_key, knows}
 use Rattle.key_view.specs.declared.met_keys.KnownKey.{KnownKey}
 
 -- two keys are one in the order of their ids exactly if their bytes are equal
@@ -28,12 +28,3 @@ met_more keys k ids new same more id =
     or_more (contains key_cmp new id) (is_one_key k.key id) (knows keys id)
     (more id ∙ ap (λ b. cond b true (contains key_cmp ids id)) (same_key k.key id) ∙ ap (λ b. cond (is_one_key k.key id) true b) (same id))
     ∙ sym (list_any-append (λ own. is_one_key own.key id) keys (k ∷ []))
-
--- a key that is not known yet
-pub der_new : (keys : List KnownKey) (der : List ℕ) → knows keys (id_of_der der) ≡ false
-    → with_der keys der ≡ keys ++ record { key = id_of_der der; der = der } ∷ []
-der_new keys der is_new = ap (λ b. cond b keys (keys ++ record { key = id_of_der der; der = der } ∷ [])) is_new
-
--- a key that is known
-pub der_known : (keys : List KnownKey) (der : List ℕ) → knows keys (id_of_der der) ≡ true → with_der keys der ≡ keys
-der_known keys der is_known = ap (λ b. cond b keys (keys ++ record { key = id_of_der der; der = der } ∷ [])) is_known

@@ -1,6 +1,6 @@
 -- The public keys of distrusted keys, one after another.
 use Rattle.std.proofs.Common.{◌≡◌, ◌<◌, ◌≤◌, ◌+◌, ℕ, Bool, true, false, ◌&&◌, ◌||◌, cond, List, [], ◌∷◌, ◌++◌, length, get_or, take, refl, sym, ap, ◌∙◌, subst}
-use Rattle.std.proofs.Common.{add-one, Some, None}
+use Rattle.std.proofs.Common.{add-one, Some}
 use Rattle.std.proofs.Math.Seq.{take-suc}
 use Rattle.std.proofs.lemmas.List.{take_all}
 use Rattle.std.proofs.lemmas.List.Folds.{list_any-append}
@@ -16,13 +16,13 @@ use Rattle.key_view.specs.declared.known_entry.KeyEntry.{KeyEntry}
 use Rattle.key_view.specs.declared.known_entry.KeyParts.{KeyParts}
 use Rattle.key_view.specs.Inside.PublicKeys.{AddsPublicKey, AddsPublicKeyOf, HasPublicKeys, has_digest}
 
-or_with : (c b : Bool) → cond c true b ≡ (b || c)
+pub or_with : (c b : Bool) → cond c true b ≡ (b || c)
 or_with true true = refl
 or_with true false = refl
 or_with false true = refl
 or_with false false = refl
 
-or_none : (b : Bool) → b ≡ (b || false)
+pub or_none : (b : Bool) → b ≡ (b || false)
 or_none true = refl
 or_none false = refl
 
@@ -35,30 +35,6 @@ digest_more p old new more = record {
       ∙ or_with (bytes_eq p.public_key wanted) (has_digest old wanted);
 }
 
--- nothing was inserted
-pub digest_none : (old : BTreeSet (List ℕ)) → AddsPublicKeyOf None old old
-digest_none old = record { same = λ wanted. or_none (has_digest old wanted) }
-
-of_distrusted : (d : Bool) (b new : Bool) (is : Bool) → d ≡ true → new ≡ (b || is) → new ≡ (b || (d && is))
-of_distrusted true b new is so now = now
-of_distrusted false b new is so now = absurd (cc)
-
-of_trusted : (d : Bool) (b : Bool) (is : Bool) → d ≡ false → b ≡ (b || (d && is))
-of_trusted true b is so = absurd (cc)
-of_trusted false b is so = or_none b
-
--- the key is distrusted
-pub distrusted_more : (e : KeyEntry) (old new : BTreeSet (List ℕ)) → e.is_distrusted ≡ true → AddsPublicKeyOf e.parts old new → AddsPublicKey e old new
-distrusted_more e old new is more = record {
-  same = λ wanted. of_distrusted e.is_distrusted (has_digest old wanted) (has_digest new wanted) (is_one_public_key e.parts wanted) is (more.same wanted);
-}
-
--- the key is not distrusted
-pub trusted_more : (e : KeyEntry) (old : BTreeSet (List ℕ)) → e.is_distrusted ≡ false → AddsPublicKey e old old
-trusted_more e old is = record {
-  same = λ wanted. of_trusted e.is_distrusted (has_digest old wanted) (is_one_public_key e.parts wanted) is;
-}
-
 -- before the first key there are no public keys
 pub public_keys_none : (new : BTreeSet (List ℕ)) → new.keys ≡ [] → HasPublicKeys [] new
 public_keys_none new empty = record {
@@ -68,19 +44,23 @@ public_keys_none new empty = record {
 last_or : (c : Bool) → c ≡ (c || false)
 last_or c = or_none c
 
--- one more key: the step of the loop in `public_keys_of`
+-- one more key
+pub public_keys_push : (entries : List KeyEntry) (e : KeyEntry) (old new : BTreeSet (List ℕ)) → HasPublicKeys entries old
+    → AddsPublicKey e old new → HasPublicKeys (entries ++ e ∷ []) new
+public_keys_push entries e old new so more = record {
+  same = λ wanted. more.same wanted
+      ∙ ap (λ b. b || (e.is_distrusted && is_one_public_key e.parts wanted)) (so.same wanted)
+      ∙ ap (λ b. has_public_key entries wanted || b) (last_or (e.is_distrusted && is_one_public_key e.parts wanted))
+      ∙ sym (list_any-append (λ (o : KeyEntry). o.is_distrusted && is_one_public_key o.parts wanted) entries (e ∷ []));
+}
+
+-- the step of the loop in `public_keys_of`
 pub public_keys_more : (entries : List KeyEntry) (k : ℕ) (e : KeyEntry) (old new : BTreeSet (List ℕ)) → k < length entries → e ≡ get_or entries k e
     → HasPublicKeys (take k entries) old → AddsPublicKey e old new → HasPublicKeys (take (k + 1) entries) new
 public_keys_more entries k e old new low is so more =
     let taken : take (k + 1) entries ≡ take k entries ++ e ∷ [] =
     ap (λ n. take n entries) (add-one k) ∙ take-suc entries k e low ∙ ap (λ z. take k entries ++ z ∷ []) (sym is) in
-    record {
-      same = λ wanted. more.same wanted
-          ∙ ap (λ b. b || (e.is_distrusted && is_one_public_key e.parts wanted)) (so.same wanted)
-          ∙ ap (λ b. has_public_key (take k entries) wanted || b) (last_or (e.is_distrusted && is_one_public_key e.parts wanted))
-          ∙ sym (list_any-append (λ (o : KeyEntry). o.is_distrusted && is_one_public_key o.parts wanted) (take k entries) (e ∷ []))
-          ∙ ap (λ es. has_public_key es wanted) (sym taken);
-    }
+    subst (λ es. HasPublicKeys es new) (sym taken) (public_keys_push (take k entries) e old new so more)
 
 -- after the last key these are all
 pub public_keys_all : (entries : List KeyEntry) (k : ℕ) (new : BTreeSet (List ℕ)) → length entries ≤ k → HasPublicKeys (take k entries) new

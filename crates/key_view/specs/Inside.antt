@@ -1,4 +1,5 @@
 -- How far the work has come.
+pub mod Distrusted
 pub mod KeysSoFar
 pub mod Listed
 pub mod MetIds

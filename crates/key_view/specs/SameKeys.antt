@@ -1,5 +1,5 @@
 -- Which keys of a domain have one public key
-use Rattle.std.specs.Prelude.{◌≡◌, ℕ, Bool, cond, List, [], ◌∷◌, MatchBool}
+use Rattle.std.specs.Prelude.{◌≡◌, ℕ, Bool, false, cond, List, [], ◌∷◌}
 use Rattle.std.specs.Str.{bytes_eq}
 use Rattle.std.specs.List.{list_any}
 use Rattle.jwk_set.specs.declared.authority.KeyId.{KeyId}
@@ -25,17 +25,15 @@ ids_with wanted [] = []
 ids_with wanted (e ∷ others) = cond (is_one_public_key e.parts wanted)
     (e.key ∷ ids_with wanted others) (ids_with wanted others)
 
--- those of the domain
-pub record AreSameKeysOf (m : Meaning) (domain : List ℕ) (ids : List KeyId) : Type 0 where
-  pub keys : DomainKeys
-  pub of : keys.domain ≡ domain
-  pub are : IsDomainKeys m keys
-  pub is : ids ≡ same_ids_among keys.keys.items keys.keys.items
+-- those of the domain, whatever entries say what is known of its keys
+abbrev pub AreSameKeysOf : Meaning → List ℕ → List KeyId → Type 0
+AreSameKeysOf m domain ids = (keys : DomainKeys) → keys.domain ≡ domain → IsDomainKeys m keys
+    → ids ≡ same_ids_among keys.keys.items keys.keys.items
 
 -- A domain without a record of distrust has none.
-abbrev pub AreSameKeys : Meaning → List ℕ → List KeyId → Type 0
-AreSameKeys m domain ids =
-    MatchBool (has_record domain m.records) (AreSameKeysOf m domain ids) (ids ≡ [])
+pub record AreSameKeys (m : Meaning) (domain : List ℕ) (ids : List KeyId) : Type 0 where
+  pub are : AreSameKeysOf m domain ids
+  pub none : has_record domain m.records ≡ false → ids ≡ []
 
 -- the keys of the domain with this public key
 pub record AreKeysWith (m : Meaning) (domain wanted : List ℕ) (ids : List KeyId)

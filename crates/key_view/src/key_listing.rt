@@ -44,8 +44,7 @@ pub struct DomainKeys {
 /// its accepted documents list and then those of the documents of held receipts, each once, in the
 /// order of the documents, of the receipts' lines and of the authorities.
 ///
-/// Each certificate of an accepted document is hashed twice, and each of a held receipt once; keys
-/// are looked up in maps, so the work for n authorities of a domain grows as n log n does.
+/// Keys are looked up in maps, so the work for n authorities of a domain grows as n log n does.
 ///
 /// # Errors
 /// Memory ran out.
@@ -77,7 +76,8 @@ pub(crate) fn keys_of_domain<C: Closure>(
     })
 }
 
-fn accepted_bundles<'a, C: Closure>(
+/// The accepted documents of the domain, in their order.
+pub(crate) fn accepted_bundles<'a, C: Closure>(
     alloc: Global,
     closure: &'a C,
     domain: &TrustDomain,

@@ -4,9 +4,11 @@
 //!
 //! `met_keys` finds the different keys, `listings` which documents list each, and `known_entry`
 //! what is known of one; `key_listing` puts that together. `domain_entries` has the public keys of
-//! those that are distrusted. `matching_keys` and `keys_writer` select and write.
+//! those that are distrusted; `distrusted_keys` finds these without such a listing, for who asks
+//! often. `matching_keys` and `keys_writer` select and write.
 #![tactic(auto)]
 
+mod distrusted_keys;
 mod domain_entries;
 mod key_listing;
 mod keys_writer;

@@ -1,5 +1,5 @@
-//! Which accepted documents list each key. A key is looked up by its id, so each certificate and
-//! each document is hashed once.
+//! Which accepted documents list each key. A key is looked up by its id, and each document is
+//! hashed once.
 ghost use Rattle.std.specs.Prelude.{◌≡◌, IfOk, OnOk, Some};
 ghost use Rattle.jwk_set.specs.Element.{key_id_of};
 ghost use Rattle.key_view.specs.Inside.Listed.{AddsKey, AddsListed, AreListings, ListsBefore};

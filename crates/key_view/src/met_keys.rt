@@ -43,7 +43,11 @@ pub(crate) fn known_keys<C: Closure>(
     Ok(met.keys)
 }
 
-fn keys_of_documents(alloc: Global, accepted: &[AcceptedBundle<'_>]) -> Result<MetKeys, AllocError>
+/// The keys of these documents.
+pub(crate) fn keys_of_documents(
+    alloc: Global,
+    accepted: &[AcceptedBundle<'_>],
+) -> Result<MetKeys, AllocError>
     ensures keys { IfOk result (λ met. met.keys.items ≡ keys_of_documents accepted.now) }
     ensures ids { IfOk result HasIds }
 {
