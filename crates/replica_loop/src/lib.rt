@@ -8,14 +8,13 @@
 //! `replica` begins and ends a replica, and `turn` is one round of the loop: what came is read, and
 //! a few milliseconds of what waits are carried out, in the order that `fair_turns` has. Changes go
 //! to the journal, and only then they are shown to anyone; a long journal goes into the snapshot.
-//! `kept_files` has these files, by the calls of `state_files`, and `change_reports` says what the
-//! audit file and the events say of a change. `settings` are what the arguments say of a replica,
-//! and `turn_counts` has what the metrics show of the loop. Connections come in at the listeners of
-//! `replica_sockets`, and `replica_connections` has them.
+//! `change_reports` says what the files and the events get of a change, and `replica_events` has
+//! these files. `settings` are what the arguments say of a replica, and `turn_counts` has what the
+//! metrics show of the loop. Connections come in at the listeners of `replica_sockets`, and
+//! `replica_connections` has them.
 #![tactic(auto)]
 
 mod change_reports;
-mod kept_files;
 mod replica;
 mod settings;
 mod turn;

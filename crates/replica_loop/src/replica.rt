@@ -1,12 +1,11 @@
 //! The beginning and the end of a replica that keeps running.
-use crate::kept_files::KeepFault;
 use crate::settings::Settings;
 use crate::turn::{RunningReplica, turn};
 use closure_core::Closure;
 use command_exits::{CommandError, Exit, Step};
 use mio::Events;
 use peer_talks::HeldState;
-use replica_events::{ErrorStream, LogEvent, log_event};
+use replica_events::{ErrorStream, KeepFault, LogEvent, log_event};
 use replica_sockets::file_at_step;
 use state_files::{
     BegunSides, FoundFiles, GivenConfigs, StateBeginning, StateLock, has_journal, is_marked,

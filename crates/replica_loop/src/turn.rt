@@ -2,8 +2,7 @@
 //! milliseconds of long requests or of changes are carried out, what came is put on the disk, and
 //! only then it is shown. So nobody is shown a change that a kill could take back, and nobody waits
 //! for more than one of the others at a time. `kept_files` has what is on the disk.
-use crate::change_reports::log_changes;
-use crate::kept_files::{KeepFault, KeptFiles};
+use crate::change_reports::{log_changes, texts_of_turn};
 use crate::settings::Settings;
 use crate::turn_counts::TurnCounts;
 use change_view::NewEntries;
@@ -21,7 +20,7 @@ use peer_talks::{
 use replica_connections::{
     ConnectionTable, LiveConnection, LocalTalk, PageTalk, Surroundings, Talk,
 };
-use replica_events::{ErrorStream, EventCounts, LogEvent, log_event};
+use replica_events::{ErrorStream, EventCounts, KeepFault, KeptFiles, LogEvent, log_event};
 use replica_sockets::{Arrival, Listeners, Rights, Socket, at_step, file_at_step};
 use replica_sync::SyncError;
 use side_by_side::{Side, Sides};
@@ -393,8 +392,7 @@ impl RunningReplica {
         held: &mut HeldState<C>,
         path: &str,
     ) -> Result<(), KeepFault> {
-        let moment = unix_seconds(rt).unwrap_or(0);
-        match self.files.keep(rt, alloc, &mut self.errors, held, &self.table, path, moment) {
+        match self.keep(rt, alloc, held, path) {
             Ok(on_disk) => {
                 log_changes(rt, alloc, &mut self.errors, &self.table);
                 pass_on_requests(alloc, held, &self.table, &on_disk);
@@ -407,6 +405,33 @@ impl RunningReplica {
                 self.table.write(self.now);
                 Err(fault)
             }
+        }
+    }
+
+    // Gives the files what came in this turn; the audit file gets the Unix second with it.
+    fn keep<C: Closure, R: Files<File = File> + Clock + Eprint>(
+        &mut self,
+        rt: &R,
+        alloc: Global,
+        held: &HeldState<C>,
+        path: &str,
+    ) -> Result<OnDisk, KeepFault> {
+        let moment = self.audit_second(rt);
+        match texts_of_turn(alloc, held, &self.table, moment) {
+            Ok(texts) => {
+                self.files.keep(rt, alloc, &mut self.errors, &held.sides.next, &texts, path)
+            }
+            Err(error) if moment.is_some() => Err(KeepFault::Audit(FileFault::from(error))),
+            Err(error) => Err(KeepFault::State(FileFault::from(error))),
+        }
+    }
+
+    // Without an audit file there is no second.
+    fn audit_second<R: Clock>(&self, rt: &R) -> Option<u64> {
+        if self.files.has_audit() {
+            Some(unix_seconds(rt).unwrap_or(0))
+        } else {
+            None
         }
     }
 

@@ -1,8 +1,8 @@
 //! What a loop counts since it began.
-use crate::kept_files::KeptFiles;
 use health_pages::LoopCounts;
 use peer_talks::Ending;
 use replica_connections::{ConnectionTable, LiveConnection, Talk};
+use replica_events::KeptFiles;
 use std::time::Duration;
 
 /// What a loop counts, in addition to what its files and the connections that there are count.

@@ -1,13 +1,11 @@
 //! The files in which a running replica keeps what it holds: the lock, the state and its journal.
-use crate::change_reports::texts_of_turn;
+use crate::error_stream::ErrorStream;
+use crate::event_log::{LogEvent, log_event};
 use change_view::TurnTexts;
 use closure_core::Closure;
 use command_exits::FileFault;
-use peer_talks::HeldState;
 use progress_line::ProgressMode;
-use replica_connections::ConnectionTable;
 use replica_core::SyncError;
-use replica_events::{ErrorStream, LogEvent, log_event};
 use state_files::{
     AppendFault, AppendStep, AuditFile, FoldFault, FoldPiece, FoldResult, Journal, KeepStep,
     Keeping, LostFile, OnDisk, StateFold, StateLock, begin_again, save_snapshot, stale_file,
@@ -23,7 +21,7 @@ const KEEP_STEPS: u32 = 4;
 
 /// Why a change is not on the disk.
 #[derive(Clone, Copy, Debug)]
-pub(crate) enum KeepFault {
+pub enum KeepFault {
     /// The audit file could not be written: the journal has nothing of the change.
     Audit(FileFault),
     /// The journal or the state file could not be written.
@@ -38,7 +36,7 @@ impl From<FileFault> for KeepFault {
 
 /// The files of a running replica.
 #[derive(Drop)]
-pub(crate) struct KeptFiles {
+pub struct KeptFiles {
     lock: StateLock,
     journal: Journal,
     audit: Option<AuditFile>,
@@ -55,7 +53,7 @@ pub(crate) struct KeptFiles {
 }
 
 impl KeptFiles {
-    pub(crate) fn new(
+    pub fn new(
         lock: StateLock,
         journal: Journal,
         audit: Option<AuditFile>,
@@ -73,36 +71,39 @@ impl KeptFiles {
         }
     }
 
+    /// Whether there is an audit file.
+    pub fn has_audit(&self) -> bool {
+        self.audit.is_some()
+    }
+
     /// How often the snapshot was written again.
-    pub(crate) fn folds(&self) -> u64 {
+    pub fn folds(&self) -> u64 {
         self.folds
     }
 
     /// How many bytes the state file has.
-    pub(crate) fn snapshot_bytes(&self) -> u64 {
+    pub fn snapshot_bytes(&self) -> u64 {
         self.journal.snapshot_bytes()
     }
 
     /// How many bytes the journal has.
-    pub(crate) fn journal_bytes(&self) -> u64 {
+    pub fn journal_bytes(&self) -> u64 {
         self.journal.bytes()
     }
 
     /// Puts on the disk what came, and looks whether it is in the files that have the names. Only
     /// then it may be acknowledged, with the token that is given. The lines of the audit file are
     /// on the disk first, in the order of [`Keeping`], so a kill leaves no change there is no line
-    /// of. `moment` is the Unix second.
-    pub(crate) fn keep<C: Closure, R: Files<File = File> + Clock + Eprint>(
+    /// of.
+    pub fn keep<C: Closure, R: Files<File = File> + Clock + Eprint>(
         &mut self,
         rt: &R,
         alloc: Global,
         errors: &mut ErrorStream,
-        held: &HeldState<C>,
-        table: &ConnectionTable,
+        closure: &C,
+        texts: &TurnTexts<'_>,
         path: &str,
-        moment: u64,
     ) -> Result<OnDisk, KeepFault> {
-        let texts = self.texts_of(alloc, held, table, moment)?;
         self.keeping.add(!texts.audit.is_empty());
         for _ in 0..KEEP_STEPS {
             let Some(step) = self.keeping.next() else {
@@ -112,7 +113,7 @@ impl KeptFiles {
                 KeepStep::Audit(step) => self.audit_step(rt, texts.audit.as_slice(), step),
                 KeepStep::State => {
                     let lines = texts.journal.as_slice();
-                    self.keep_state(rt, alloc, errors, &held.sides.next, lines, path)
+                    self.keep_state(rt, alloc, errors, closure, lines, path)
                 }
             };
             if let Err(fault) = done {
@@ -124,26 +125,6 @@ impl KeptFiles {
         match self.keeping.on_disk() {
             Some(on_disk) => Ok(on_disk),
             None => Err(KeepFault::State(FileFault::from(SyncError::Io))),
-        }
-    }
-
-    // What the files get for this turn; the audit file only if there is one.
-    fn texts_of<'a, C: Closure>(
-        &self,
-        alloc: Global,
-        held: &'a HeldState<C>,
-        table: &'a ConnectionTable,
-        moment: u64,
-    ) -> Result<TurnTexts<'a>, KeepFault> {
-        let moment = if self.audit.is_some() {
-            Some(moment)
-        } else {
-            None
-        };
-        match texts_of_turn(alloc, held, table, moment) {
-            Ok(texts) => Ok(texts),
-            Err(error) if moment.is_some() => Err(KeepFault::Audit(FileFault::from(error))),
-            Err(error) => Err(KeepFault::State(FileFault::from(error))),
         }
     }
 
@@ -257,13 +238,13 @@ impl KeptFiles {
     }
 
     /// Whether a new snapshot is being written.
-    pub(crate) fn is_folding(&self) -> bool {
+    pub fn is_folding(&self) -> bool {
         self.fold.is_some()
     }
 
     /// Writes the state file again if the journal is long, one piece a call. If that fails, the
     /// journal is still used, or is begun again before the next change is acknowledged.
-    pub(crate) fn fold<C: Closure, R: Files<File = File> + Clock + Eprint>(
+    pub fn fold<C: Closure, R: Files<File = File> + Clock + Eprint>(
         &mut self,
         rt: &R,
         alloc: Global,
@@ -357,7 +338,7 @@ impl KeptFiles {
 
     /// The replica ends: a snapshot that is being written is given up, unless another command has
     /// the state.
-    pub(crate) fn end<R: Files>(&mut self, files: &R, path: &str) {
+    pub fn end<R: Files>(&mut self, files: &R, path: &str) {
         if let Some(fold) = self.fold.take()
             && let Ok(None) = self.journal.lost_file(files, &self.lock, path)
         {
