@@ -104,9 +104,9 @@ SaysNumber otherwise most (Some text) said = ReadsNumber most text said
 abbrev pub SaysWait : Option (List ℕ) → Option ℕ → Type 0
 SaysWait = SaysNumber 60 86400
 
--- How many bytes are held at most: 4 GiB, or any number of 64 bits.
+-- How many bytes are held at most: 256 MiB, or any number of 64 bits.
 abbrev pub SaysMostBytes : Option (List ℕ) → Option ℕ → Type 0
-SaysMostBytes = SaysNumber 4294967296 18446744073709551615
+SaysMostBytes = SaysNumber 268435456 18446744073709551615
 
 -- what the arguments say of waiting, of the most bytes and of saying more
 pub record SaysManner (name : CommandName) (texts : List (Option (List ℕ)))

@@ -23,8 +23,9 @@ const WAIT_SECONDS: u64 = 60;
 
 const MAX_WAIT_SECONDS: u64 = 86_400;
 
-/// How many bytes are held at most if nothing else is said.
-const MOST_BYTES: u64 = 4_294_967_296;
+/// How many bytes are held at most if nothing else is said. Documents of many short keys take six
+/// times their bytes of memory, so a replica that holds them starts again within 2 GiB.
+const MOST_BYTES: u64 = 268_435_456;
 
 /// How many receipts and how many records of distrust may be held if nothing else is said, and at
 /// most.
