@@ -14,9 +14,9 @@ many were tried; the status is 1 if one was accepted, or if nothing is known of 
 
 usage: edits --gate        after `rt ci` passed: tries at most 30 edits that have no line or are due, and then a sample: the
                            edits are cut into parts of 60, and the number of the commit says which part is tried, so that
-                           any 18 commits in a row try all. It writes nothing. It fails for one that is accepted, for one that
-                           cannot be applied any more, and for one that has no line and was not tried or was refused by a
-                           name alone. Those that are due are listed, and do not fail
+                           any 21 commits in a row try all. It writes nothing. It fails for one that is accepted, for one that
+                           cannot be applied any more, and for one that has no line and was not tried, was refused by a
+                           name alone, or got no verdict. Those that are due are listed, and do not fail
        edits --due [--minutes N] [CRATE..]
                            tries those that have no line or are due and writes the ledgers, until N minutes have passed: the
                            crates with most of them first. SIGTERM ends it after what is just tried
@@ -186,19 +186,21 @@ class Trial:
         for fault in faults[:1]:
             print(f"the ledger is not written: {fault}", flush=True)
 
-    def is_bad(self, crate, name, verdict):
-        """Whether this verdict fails the run: the gate is not failed by a name that is gone, unless the edit has no line."""
-        if verdict == ledger.BY_NAME:
-            return self.writes or (crate, name) not in self.lines
-        return verdict in (ledger.PROVED, None)
+    def is_bad(self, crate, name, verdict, said):
+        """Whether this verdict fails the run. The gate is not failed by a name that is gone, nor by a check that ended without
+        a verdict, as for lack of memory, unless the edit has no line. An edit whose text is no code cannot be applied."""
+        is_new = self.writes or (crate, name) not in self.lines
+        if verdict is None:
+            return is_new or bool(waves.NO_CODE_AT.search(said))
+        return verdict == ledger.PROVED or verdict == ledger.BY_NAME and is_new
 
     def note(self, crate, digests, verdicts, said):
         """Takes the verdicts on some edits of a crate."""
         with self.alone:
             for name, verdict in sorted(verdicts.items()):
                 self.said[crate, name] = verdict
-                is_bad = self.is_bad(crate, name, verdict)
-                if is_bad or self.writes or verdict == ledger.BY_NAME:
+                is_bad = self.is_bad(crate, name, verdict, said)
+                if is_bad or self.writes or verdict in (ledger.BY_NAME, None):
                     print(f"{crate}/{name}: {verdict or f'nothing is known{chr(10)}{said[-2000:]}'}", flush=True)
                 self.bad += [f"{crate}/{name}"] * is_bad
             if self.writes:
@@ -208,6 +210,8 @@ class Trial:
         """Tries a wave, and again those of its edits of which it says nothing."""
         digests = {edit.name(): self.grounds.digest(tries.crate, edit.path) for edit in wave} if self.writes else {}
         verdicts, said = tries.verdicts(wave)
+        if len(wave) == 1 and None in verdicts.values() and not waves.NO_CODE_AT.search(said):
+            verdicts, said = tries.verdicts(wave)
         again = [edit for edit in wave if verdicts[edit.name()] is None and len(wave) > 1]
         self.note(tries.crate, digests, {name: it for name, it in verdicts.items() if it or not again}, said)
         for part in waves.waves_again(again, said):
@@ -247,6 +251,7 @@ class Trial:
 
     def summary(self):
         counts = {verdict: sum(it == verdict for it in self.said.values()) for verdict in ledger.VERDICTS}
+        counts["without a verdict"] = sum(it is None for it in self.said.values())
         words = [f"{count} {verdict}" for verdict, count in counts.items() if count]
         used = resource.getrusage(resource.RUSAGE_CHILDREN)
         return f"{len(self.said)} edits tried{''.join(f', {it}' for it in words)}, in {used.ru_utime + used.ru_stime:.0f} s of a processor"

@@ -37,6 +37,7 @@ MORE = 16_384
 LONG_DER = 700_000
 LEAST_JOURNAL = 8_388_608
 SEED_KEY = hashlib.sha256(SEED_DER).hexdigest()
+UNKNOWN_KEY = hashlib.sha256(b"no certificate").hexdigest()
 # What else a second replica needs, in bytes.
 SPARE_MEMORY = 1 << 30
 
@@ -288,6 +289,9 @@ def print_size(table, program, folder, kind, count):
         table.times(f"{command[0]} --at", *least(replica, lambda: ask(path, command)))
     print_sessions(table, program, held, replica, address)
     print_load(table, held, replica, path)
+    ask(path, ["distrust", "--domain", DOMAIN, "--key", UNKNOWN_KEY])
+    next_event(replica, b"event=distrust")
+    table.times("status --at, with a record", *least(replica, lambda: ask(path, ["status"])))
     print_distrust(table, path, replica)
     table.bytes("the most held in all", memory(replica, "VmHWM"))
     replica.kill()
