@@ -4,7 +4,7 @@ use crate::command_name::{CommandName, OptionName};
 /// What `--version` prints: the version on a line of its own; then the kit with which it is proved
 /// and built, and the formats: the numbers are those in the first lines that are written.
 pub const VERSION: &str = "\
-0.11.0
+0.12.0
 kit rattle-kit-13b logic dac8208d650f15bf
 state format 2, and 1 is read
 journal format 2
@@ -483,7 +483,7 @@ impl OptionName {
                 "How long to wait for the state's lock, or for a running replica's reply, from 0 \
                 to 86400 seconds [60]",
             OptionName::MostBytes =>
-                "How many bytes to take at most, with those of the state file [4294967296]",
+                "How many bytes to take at most, with those of the state file [268435456]",
             OptionName::Allow => "A domain whose current bundle may be a seed even so",
             OptionName::Floors =>
                 "Makes the sequence of each current bundle the floor of its domain",
