@@ -38,6 +38,24 @@ UNSEEN = {
 }
 
 
+class Looks:
+    """What a script looked at, and what of that is wrong."""
+
+    def __init__(self):
+        self.ran, self.faults = 0, []
+
+    def want(self, name, holds, *seen):
+        self.ran += 1
+        if not holds:
+            self.faults.append(name)
+            print(f"{name}: not so", *(str(it)[-600:] for it in seen), flush=True)
+
+    def end(self, script):
+        """Prints how many, and ends the script."""
+        print(f"{script}: {self.ran} looks, {len(self.faults)} wrong")
+        sys.exit(1 if self.faults else 0)
+
+
 def stop(text):
     sys.exit(f"{Path(sys.argv[0]).name}: {text}")
 

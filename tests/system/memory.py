@@ -25,21 +25,14 @@ sys.dont_write_bytecode = True
 TOP = Path(__file__).resolve().parents[2]
 sys.path[:0] = [str(TOP / "tests/lib"), str(TOP / "bench")]
 import receipts  # noqa: E402
-from harness import HANG, find_program, first_port, temporary  # noqa: E402
+from harness import HANG, Looks, find_program, first_port, temporary  # noqa: E402
 
 # How many times the bytes of a store its replica may take of memory, in the units as here.
 TIMES = 16
 MIB = 1 << 20
 KEYS = 9_000
-ran, faults = 0, []
-
-
-def want(name, holds, *seen):
-    global ran
-    ran += 1
-    if not holds:
-        faults.append(name)
-        print(f"{name}: not so", *(str(it)[-600:] for it in seen), flush=True)
+looks = Looks()
+want = looks.want
 
 
 def many(random_):
@@ -153,8 +146,7 @@ def main():
         folder = Path(name).resolve()
         start(program, folder, int(words[0] if words else 64) * MIB)
         full(program, folder)
-    print(f"memory: {ran} looks, {len(faults)} wrong")
-    sys.exit(1 if faults else 0)
+    looks.end("memory")
 
 
 if __name__ == "__main__":

@@ -31,7 +31,7 @@ sys.dont_write_bytecode = True
 TOP = Path(__file__).resolve().parents[2]
 sys.path[:0] = [str(TOP / "tests/lib"), str(TOP / "bench")]
 import receipts  # noqa: E402
-from harness import HANG, find_program, temporary  # noqa: E402
+from harness import HANG, Looks, find_program, temporary  # noqa: E402
 
 # How long the program is stopped, or a peer pauses, and how long a command may take in all.
 PAUSE = 1.3
@@ -42,15 +42,8 @@ LINE = re.compile(r"fedbundle: (reading the state|reading the other state|writin
                   r"(\d+) receipts, (\d+) MB so far")
 DIGEST = hashlib.sha256(receipts.config_text().encode()).hexdigest()
 BUCKETS = 256
-ran, faults = 0, []
-
-
-def want(name, holds, *seen):
-    global ran
-    ran += 1
-    if not holds:
-        faults.append(name)
-        print(f"{name}: not so", *(str(it)[-600:] for it in seen), flush=True)
+looks = Looks()
+want = looks.want
 
 
 class Run:
@@ -386,8 +379,7 @@ def main():
         room = Room(program, folder)
         for name in sys.argv[1:] or PARTS:
             PARTS[name](room)
-    print(f"progress: {ran} looks, {len(faults)} wrong")
-    sys.exit(1 if faults else 0)
+    looks.end("progress")
 
 
 if __name__ == "__main__":
