@@ -30,7 +30,7 @@ _fedbundle() {
         migrate) words='--config --state --to --records-only --wait --most-receipts --most-records --verbose --at --help' ;;
         reseed) words='--config --state --allow --floors --wait --most-receipts --most-records --verbose --at --help' ;;
         polls) words='--config --state --now --format --wait --most-receipts --most-records --verbose --at --help' ;;
-        distrust) words='--config --state --domain --key --public-key --dry-run --new --wait --most-receipts --most-records --verbose --at --help' ;;
+        distrust) words='--config --state --domain --key --public-key --unknown-key --known --dry-run --new --wait --most-receipts --most-records --verbose --at --help' ;;
         serve) words='--config --state --listen --sessions --most-receipts --most-records --verbose --help' ;;
         pull) words='--config --state --peer --sums --wait --most-bytes --most-receipts --most-records --verbose --help' ;;
         replica) words='--config --previous --state --socket --read-socket --listen --health --health-host --audit --listen-anywhere --peers --every --peer-quiet --expires-within --most-bytes --most-receipts --most-records --most-request-bytes --new --verbose --help' ;;

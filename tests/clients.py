@@ -49,12 +49,15 @@ ENDPOINT = "spiffe://a.example/spire/server"
 RECEIPTS = (EXAMPLES / "receipts.jsonl").read_bytes().splitlines()
 FIRST = json.loads(RECEIPTS[0])
 A_DOCUMENT = (EXAMPLES / "a.example.json").read_bytes()
+A_KEYS = [hashlib.sha256(base64.b64decode(one["x5c"][0])).hexdigest() for one in json.loads(A_DOCUMENT)["keys"] if "x5c" in one]
+# A key that the configured bundle lists, and that has vouched for nothing.
+SPARE = next(key for key in A_KEYS if key != FIRST["key"])
 # Each code with which a request may end, except those of memory, B7, which no bundle has, and `no words` and `bad words`, since
 # the clients send no such request.
 CODES = {
     *"N1 N2 N3 N4 N5 B1 B2 B3 B4 B5 B6 O1 O2 O3 O4 O5 O6 G1 G3 S1 S2 S3 S4 S5 S6 S7 S8 S9 P4 P5".split(), "bad key",
     "bad moment", "no current bundle", "not accepted", "too many bytes", "too many requests", "words too long",
-    "input too long", "read only", "usage", "no replica", "no reply",
+    "input too long", "read only", "usage", "no known key", "no replica", "no reply",
 }
 
 failures, codes = [], set()
@@ -142,7 +145,8 @@ class Command:
         "parsed": ["bundle", "--format=pem", "--domain"], "explain": ["explain", "--domain"],
         "explain_short": ["explain", "--short", "--domain"], "polls": ["polls"],
         "observe": ["observe", "--domain", "--endpoint", "--key"], "merge": ["merge"], "merge_at_most": ["merge"],
-        "distrust": ["distrust", "--domain", "--key"], "distrust_verbose": ["distrust", "--verbose", "--domain", "--key"],
+        "distrust": ["distrust", "--domain", "--key"], "distrust_unknown": ["distrust", "--unknown-key", "--domain", "--key"],
+        "distrust_verbose": ["distrust", "--verbose", "--domain", "--key"],
         "distrust_dry_run": ["distrust", "--dry-run", "--domain", "--key"], "stop": ["stop"],
         "config": ["config"], "snapshot": ["migrate"], "migrate": ["migrate", "--to"],
         "migrate_records": ["migrate", "--records-only", "--to"], "reseed": ["reseed"], "diff": ["diff", "--with"],
@@ -218,7 +222,7 @@ class Command:
             return receipt(done.stdout.removesuffix(b"\n"))
         if call in ("merge", "merge_at_most"):
             return int(lines[0].removeprefix("new "))
-        if call in ("distrust", "stop"):
+        if call in ("distrust", "distrust_unknown", "stop"):
             return None
         return done.stderr.decode().splitlines() if call == "distrust_verbose" else lines
 
@@ -317,8 +321,9 @@ def refusals(config):
     ]:
         yield code, asked("observe", domain, endpoint, by, Input=based(A_DOCUMENT))
     yield "O5", asked("observe", "a.example", ENDPOINT, key, Input=based(b"["))
-    yield "G1", asked("distrust", "x.example", key)
-    yield "G1", asked("distrust_dry_run", "x.example", key)
+    yield "G1", asked("distrust_unknown", "x.example", key)
+    yield from (("no known key", asked(call, domain, by)) for call in ("distrust", "distrust_verbose", "distrust_dry_run")
+                for domain, by in (("x.example", key), ("a.example", "0" * 64)))
     yield "not accepted", asked("explain", "a.example", Input=based(b'{"keys":[]}'))
     yield "input too long", asked("merge", Spaces=268_435_457)
     yield "too many bytes", asked("merge_at_most", Number=3, Input=based(b"four"))
@@ -381,8 +386,8 @@ def changes(config):
         (observe, {"answer": observed}), (observe, None), (merge, {"answer": 5}), (merge, {"answer": 0}),
         (asked("merge_at_most", Number=1 << 32, Input=merge["Input"]), {"answer": 0}),
         (asked("distrust_verbose", "b.example", b_key), None), (asked("distrust", "b.example", b_key), {"answer": None}),
-        (asked("distrust", "a.example", "0" * 64), {"answer": None}),
-        (asked("distrust_verbose", "a.example", "1" * 64), None),
+        (asked("distrust_unknown", "a.example", "0" * 64), {"answer": None}),
+        (asked("distrust_verbose", "a.example", SPARE), None),
     ]
 
 
@@ -462,7 +467,7 @@ def check_faults(program, programs, above):
         want("a full store is merged", came == {"answer": 65_536}, came)
         came = compare("a full store", observe, askers, places)
         want("a full store", came == refused("O6", 1, "O6 Take G3 Full"), came)
-        came = compare("records are full", asked("distrust", "a.example", "f" * 64), askers, places)
+        came = compare("records are full", asked("distrust_unknown", "a.example", "f" * 64), askers, places)
         want("records are full", came == refused("G3", 1, "G3 Full"), came)
     with Replica(program, above / "small", "--most-request-bytes", "1048576") as replica:
         came = compare("no room", asked("merge", Spaces=2_000_000), askers, [replica.socket] * len(askers))

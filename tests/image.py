@@ -266,7 +266,7 @@ class Load:
         count = 0
         while not self.ended.is_set():
             key = hashlib.sha256(f"{number} {one} {count}".encode()).hexdigest()
-            if ask(self.container, "distrust", "--domain", "a.example", "--key", key).returncode == 0:
+            if ask(self.container, "distrust", "--domain", "a.example", "--key", key, "--unknown-key").returncode == 0:
                 self.noted.append(key)
             count += 1
 

@@ -719,7 +719,7 @@ def domain_removed(world):
     one = world.replica("one")
     with_spire(one)
     key = world.fetch.sha256(b"stolen").hexdigest()
-    one.run(f"fedbundle distrust --at /run/fedbundle/socket --domain c.test --key {key}")
+    one.run(f"fedbundle distrust --at /run/fedbundle/socket --domain c.test --key {key} --unknown-key")
     status, _ = one.run("systemctl start fedbundle-spire.service")
     told = one.run("journalctl -u fedbundle-spire.service -n 3")[1]
     want((status, "c.test: given, sequence 2" in told) == (0, True), "the bundle at SPIRE wanted", told)
@@ -812,7 +812,7 @@ def store_full(world):
     world.follow(one)
     # A record of distrust has room.
     key = world.fetch.sha256(b"another").hexdigest()
-    status, told = one.run(f"fedbundle distrust --at /run/fedbundle/socket --domain b.test --key {key}", by_root=False)
+    status, told = one.run(f"fedbundle distrust --at /run/fedbundle/socket --domain b.test --key {key} --unknown-key", by_root=False)
     want(status == 0, "a record wanted", told)
     world.follow(one)
     switch(world, world.of(SEEDED, -2), one)

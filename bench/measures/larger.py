@@ -289,7 +289,7 @@ def print_size(table, program, folder, kind, count):
         table.times(f"{command[0]} --at", *least(replica, lambda: ask(path, command)))
     print_sessions(table, program, held, replica, address)
     print_load(table, held, replica, path)
-    ask(path, ["distrust", "--domain", DOMAIN, "--key", UNKNOWN_KEY])
+    ask(path, ["distrust", "--domain", DOMAIN, "--key", UNKNOWN_KEY, "--unknown-key"])
     next_event(replica, b"event=distrust")
     table.times("status --at, with a record", *least(replica, lambda: ask(path, ["status"])))
     print_distrust(table, path, replica)

@@ -50,6 +50,8 @@ USAGE = "usage"
 """An argument is not one that a command can have, as a text that cannot be encoded."""
 NO_BUNDLE = "no current bundle"
 """The trust domain has no current bundle."""
+NO_KNOWN_KEY = "no known key"
+"""A key that is to be distrusted is in no bundle of the trust domain, held or configured."""
 NOT_ACCEPTED = "not accepted"
 """The replica does not accept the bundle."""
 READ_ONLY = "read only"
@@ -442,11 +444,16 @@ class Client:
         return _parse_merged(_only_line(self._output(words, snapshot, timeout)))
 
     def distrust(self, domain: str, key: str, *, timeout: Optional[float] = None) -> None:
-        """Distrusts a key in a trust domain. This cannot be taken back."""
+        """Distrusts a key in a trust domain. This cannot be taken back. A key that no bundle lists, held or configured, is
+        refused with NO_KNOWN_KEY, except by a replica up to fedbundle 0.12.0."""
         self._done(["distrust", f"--domain={domain}", f"--key={key}"], timeout=timeout)
 
+    def distrust_unknown(self, domain: str, key: str, *, timeout: Optional[float] = None) -> None:
+        """Does the same, and takes a key that no bundle lists. A replica up to fedbundle 0.12.0 refuses it with USAGE."""
+        self._done(["distrust", f"--domain={domain}", f"--key={key}", "--unknown-key"], timeout=timeout)
+
     def distrust_verbose(self, domain: str, key: str, *, timeout: Optional[float] = None) -> List[str]:
-        """Does the same: what the record changed, as the lines of distrust_dry_run."""
+        """Does what distrust does: what the record changed, as the lines of distrust_dry_run."""
         words = ["distrust", f"--domain={domain}", f"--key={key}", "--verbose"]
         return _lines(self._done(words, timeout=timeout).errors)
 

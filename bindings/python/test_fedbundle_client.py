@@ -124,6 +124,7 @@ class Requests(Case):
             ("observe", ("a.example", "spiffe://x/y", KEY, b"{}"), observed, b"{}"),
             ("merge", (b"snapshot\n",), ["merge"], b"snapshot\n"),
             ("distrust", ("a.example", KEY), distrust, b""),
+            ("distrust_unknown", ("a.example", KEY), [*distrust, "--unknown-key"], b""),
             ("distrust_verbose", ("a.example", KEY), [*distrust, "--verbose"], b""),
             ("distrust_dry_run", ("a.example", KEY), [*distrust, "--dry-run"], b""),
             ("stop", (), ["stop"], b""),

@@ -1,11 +1,12 @@
 #!/usr/bin/env python3
-"""Prints what `fedbundle distrust --dry-run` prints for a configuration, a state file, a domain and a key id.
+"""Prints what `fedbundle distrust --dry-run` prints for a configuration, a state file, a domain and ids of keys, except for the
+lines of the keys that have the public key of a distrusted one.
 
 It is written only from the rules, with Python's own json and hashlib and with canon.py and report.py, and shares
 nothing with the program. It takes files that are well formed, and refuses nothing. A state file that is not there holds
 nothing.
 
-usage: distrust_view.py CONFIG STATE DOMAIN KEY
+usage: distrust_view.py CONFIG STATE DOMAIN KEY..
 """
 import json
 import os
@@ -45,11 +46,11 @@ def key_lines(domain, before, after, distrusted):
         yield f"locked-out {domain}"
 
 
-def distrust_view(config, lines, domain, key):
+def distrust_view(config, lines, domain, *given):
     told = [json.loads(line) for line in lines]
     receipts = [r for r in told if "doc" in r]
     old = {(r["domain"], r["distrust"]) for r in told if "distrust" in r}
-    new = old | {(domain, key)}
+    new = old | {(domain, key) for key in given}
     before, after = by_domain(config, receipts, old), by_domain(config, receipts, new)
     for of in domains_of(config):
         kept = {d.text for d in after[of]}
@@ -59,17 +60,18 @@ def distrust_view(config, lines, domain, key):
             yield f"current {of} before {named(one)} after {named(other)}"
             yield from key_lines(of, one, other, new)
     held = [Document(s["domain"], s["bundle"]) for s in config["seeds"]] + [Document(r["domain"], r["doc"]) for r in receipts]
-    if not any(d.domain == domain and key in d.keys for d in held):
-        yield f"warning: no bundle of {domain} that is held lists the key {key}"
+    for key in given:
+        if not any(d.domain == domain and key in d.keys for d in held):
+            yield f"warning: no bundle of {domain} that is held lists the key {key}"
 
 
 if __name__ == "__main__":
-    configuration_file, state, of_domain, of_key = sys.argv[1:]
+    configuration_file, state, of_domain, *of_keys = sys.argv[1:]
     with open(configuration_file, encoding="utf-8") as file:
         configuration = json.load(file)
     held_lines = []
     if os.path.exists(state):
         with open(state, encoding="utf-8") as file:
             held_lines = file.read().splitlines()[1:-1]
-    for line in distrust_view(configuration, held_lines, of_domain, of_key):
+    for line in distrust_view(configuration, held_lines, of_domain, *of_keys):
         print(line)

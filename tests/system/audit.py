@@ -2,10 +2,10 @@
 """The audit file of `replica --audit`, and the events that say what changed.
 
 - changes: each change of a request has a line in the audit file and an event, with the parts that another program computes;
-  a repeated one has neither. A pull has a line with the counts. No line has a byte that a bundle or a peer spells.
+  a repeated or refused one has neither. A pull has a line with the counts. No line has a byte that a bundle or a peer spells.
 - found: a file that is not an audit file, a link and a folder are refused, and stay. A torn last line, zeros, and lines
-whose
-  changes are not held are cut off, and it is reported how many. A change over the files shows in the next line of a start.
+  whose changes are not held are cut off, and it is reported how many, also if a line names many keys. A change over the
+  files shows in the next line of a start.
 - refused: if the audit file cannot be written, or was replaced, the request is refused, the replica ends with status 3, and
   the journal has nothing of the change.
 - calls: killed by SIGKILL before and behind each call of the system that it makes for an observation, a record and a merge,
@@ -72,7 +72,7 @@ def counts(line):
     if line["event"] == "observe":
         return 1, 0
     if line["event"] == "distrust":
-        return 0, 1
+        return 0, len(line["key"].split(","))
     return line["new"], line["records"]
 
 
@@ -127,13 +127,17 @@ def changes(program, above):
         seed = document_id(program, json.dumps(replicas.CONFIG["seeds"][0]["bundle"]).encode())
         vouched = ["observe", "--domain", DOMAIN, "--endpoint", ENDPOINT, "--key", OTHER_KEY]
         want("another key vouches", one.ask(*vouched, text=bundle(4))[0] == 0, one.said())
-        for _ in range(2):
-            want("a key is distrusted", one.ask("distrust", "--domain", DOMAIN, "--key", OTHER_KEY) == (0, b"", b""))
+        reply = one.ask("distrust", "--domain", DOMAIN, "--key", "cd" * 32)
+        want("an unknown key is refused", reply == (1, b"", b"fedbundle: no known key\n"), reply)
+        for fell in (f"fell {DOMAIN} 1\n".encode(), b""):
+            reply = one.ask("distrust", "--domain", DOMAIN, "--key", OTHER_KEY)
+            want("a key is distrusted", reply == (0, fell, b""), reply)
         other = Replica(program, above / "other")
         with other:
             for sequence in (2, 7, 8):
                 other.observe(sequence)
-            other.ask("distrust", "--domain", DOMAIN, "--key", "ab" * 32)
+            reply = other.ask("distrust", "--domain", DOMAIN, "--key", "ab" * 32, "--unknown-key")
+            want("another key is distrusted", reply == (0, b"", b""), reply)
             other.stop()
         # A merge of itself folds the journal into the state file.
         other.run("merge", text=(other.folder / "state").read_bytes())
@@ -196,9 +200,14 @@ def found(program, above):
     replica.start()
     want("a folder is refused", replica.end() == 3 and audit.is_dir())
     audit.rmdir()
-    unheld = [line for line in good.splitlines(True) if b'"observe"' in line][0]
-    unheld = unheld.replace(unheld.split(b'"last":"')[1][:64], b"ab" * 32)
-    for tail, cut in ((b'{"at":17', 1), (b"{", 1), (bytes(300), 1), (unheld, 1), (unheld * 3 + b'{"at":1', 4)):
+    observed = [line for line in good.splitlines(True) if b'"observe"' in line][0]
+    last, none = observed.split(b'"last":"')[1][:64], b"ab" * 32
+    unheld = observed.replace(last, none)
+    # The line of a distrust of as many keys as records may be held.
+    keys = b",".join(b"%064x" % number for number in range(65_536))
+    many = b'{"at":1764265090,"event":"distrust","domain":"%s","key":"%s","fell":0,"last":"%s"}\n' % (DOMAIN.encode(), keys, last)
+    for tail, cut in ((b'{"at":17', 1), (b"{", 1), (bytes(300), 1), (unheld, 1), (unheld * 3 + b'{"at":1', 4),
+                      (many.replace(last, none), 1), (many[:1_000_000], 1), (many + unheld, 1)):
         audit.write_bytes(good + tail)
         before = replica.said()
         with replica:
@@ -207,13 +216,14 @@ def found(program, above):
         want("what a kill leaves is cut off", audit.read_bytes().startswith(good) and f"event=audit cut={cut}\n" in said,
              tail[-40:], said)
         want("a start follows", [line["event"] for line in audit_lines(replica)][-1] == "start", audit.read_bytes()[-200:])
+        want("what is held stays", not tail.startswith(many) or audit.read_bytes().startswith(good + many), audit.stat().st_size)
     want("a change over the files", replica.run(*OBSERVE, text=bundle(9)).returncode == 0)
     audit.write_bytes(good)
     with replica:
         replica.observe(10)
         replica.stop()
     check(replica, "found", {1})
-    return "14 files"
+    return "17 files"
 
 
 def refused(program, above):
@@ -315,7 +325,7 @@ def calls(program, above):
 def kills(program, above, rounds):
     chance, acknowledged, starts = random.Random(460), 0, 0
     replica = Replica(program, above / "kills", *AUDIT)
-    sequence = iter(range(2, 1_000_000))
+    sequence, refused_ones = iter(range(2, 1_000_000)), []
     for _ in range(rounds):
         replica.start()
         done, ends = [], threading.Event()
@@ -325,7 +335,8 @@ def kills(program, above, rounds):
                 try:
                     reply = replica.observe(next(sequence), os.urandom(8))
                     if number == 0:
-                        replica.ask("distrust", "--domain", DOMAIN, "--key", os.urandom(32).hex())
+                        made = replica.ask("distrust", "--domain", DOMAIN, "--key", os.urandom(32).hex(), "--unknown-key")
+                        refused_ones.extend([made] if made not in (None, (0, b"", b"")) else [])
                 except (OSError, ValueError):
                     return
                 if reply is None or reply[0] != 0:
@@ -347,6 +358,7 @@ def kills(program, above, rounds):
         replica.stop()
         starts = check(replica, "kills")
     want("something was acknowledged", acknowledged > 0, acknowledged)
+    want("no record is refused", not refused_ones, refused_ones[:1])
     return f"{rounds} kills, {acknowledged} bundles acknowledged, {starts} starts"
 
 

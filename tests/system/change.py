@@ -421,7 +421,7 @@ def taught(program, above):
     for domain, sequence in ((PLAIN[2], 2), (PLAIN[0], 5), (FLOORED, 60), (FLOORED, FLOOR + 2), (MOVED, 4), (REMOVED, 4)):
         reply = replica.observe(domain, sequence)
         want(f"observe {domain} {sequence}", reply is not None and reply[0] == 0, reply)
-    reply = replica.ask("distrust", "--domain", PLAIN[3], "--key", "0" * 64)
+    reply = replica.ask("distrust", "--domain", PLAIN[3], "--key", "0" * 64, "--unknown-key")
     want("distrust", reply == (0, b"", b""), reply)
     replica.kill()
     want("a killed replica leaves a journal", len(lines_of(replica.files()["state.journal"])) == 7, replica.files())
@@ -979,7 +979,7 @@ def rolling(program, above):
         fleet.go_over(4, NEW, OLD, True)
         fleet.reaches_all("all have changed")
         key = "ab" * 32
-        reply = fleet.replicas[3].ask("distrust", "--domain", PLAIN[0], "--key", key)
+        reply = fleet.replicas[3].ask("distrust", "--domain", PLAIN[0], "--key", key, "--unknown-key")
         want("a key is distrusted", reply == (0, b"", b""), reply)
         for number in (0, 1):
             fleet.go_over(number, NEW, None, number == 0)

@@ -4,6 +4,8 @@
 - Three replicas that pull from one another once a second: a bundle observed at one is the current bundle of all three,
   as equal bytes, within three seconds, and so is a key distrusted at another.
 - The commands with `--at` print what the same commands over files print, and end with the same status.
+- `distrust` refuses a key that no bundle lists, held or configured, and makes no record of it, unless it is asked with
+  --unknown-key. It prints of which domain how many bundles fell, and with --verbose what it prints with --dry-run.
 - A replica is killed (SIGKILL) at random times while eight clients observe bundles one after another. Started again,
   it holds all that was acknowledged (D-240, D-244).
 - While nothing comes it makes no turns: the process is woken as often as it has something to do, and takes no time.
@@ -32,7 +34,7 @@
 
 It needs python3, cc and nm. The program is the one that ./fedbundle runs, or the one that $FEDBUNDLE names.
 
-usage: replica [KILLS [PART..]]   this many kills, 20 if left out; the parts are three, files, status, beginnings, limits,
+usage: replica [KILLS [PART..]]   this many kills, 20 if left out; the parts are three, files, keys, status, beginnings, limits,
     most, wait, idle, log, mute, descriptors, slow, crowd, signal, fold, pieces, kills, refusals, folds, full, lost, socket, read and
     anywhere, all if left out; the status is 1 if something is wrong
 """
@@ -283,7 +285,9 @@ def as_over_files(program, above):
     files.run("new")
     with Replica(program, above / "at") as at:
         for word, more, text in rows:
-            over, by = files.run(word, *more, text=text), at.run_at(word, *more, text=text)
+            # Only a replica looks for the key, unless it need not know it.
+            unasked = ["--unknown-key"] if word == "distrust" else []
+            over, by = files.run(word, *more, text=text), at.run_at(word, *more, *unasked, text=text)
             seen = [(it.returncode, it.stdout, it.stderr) for it in (over, by)]
             if "--what" in more:
                 seen = [it[0] for it in seen]
@@ -326,7 +330,8 @@ def carry_and_compare(files, at):
     want("a state with a journal", (whole.returncode, whole.stderr) == (3, b"fedbundle: a replica is running\n"), whole)
     with Replica(at.program, at.folder.parent / "another") as other:
         socket_of_other = str(other.socket)
-        want("it holds a record", other.ask("distrust", "--domain", DOMAIN, "--key", "1" * 64)[0] == 0)
+        seen = other.ask("distrust", "--domain", DOMAIN, "--key", "1" * 64, "--unknown-key")
+        want("it holds a record", seen == (0, b"", b""), seen)
         seen = at.run_at("diff", "--with", socket_of_other)
         want("what only the other holds", seen.returncode == 1 and seen.stdout.endswith(
             b"\n+ distrust %s domain %s\n" % (b"1" * 64, DOMAIN.encode())), seen)
@@ -335,6 +340,48 @@ def carry_and_compare(files, at):
         want("a snapshot of it says the same", (over.returncode, over.stdout) == (seen.returncode, seen.stdout), over, seen)
     seen = at.run_at("diff", "--with", socket_of_other)
     want("there is no other", (seen.returncode, seen.stderr) == (3, b"fedbundle: no replica\n"), seen)
+
+
+def known_keys(program, above):
+    """What a replica says of a key that is to be distrusted, and of what falls."""
+    seed, other, unknown = (["distrust", "--domain", DOMAIN, "--key", key]
+                            for key in (KEY, hashlib.sha256(OTHER_DER).hexdigest(), "0" * 64))
+
+    def records():
+        return [line for line in replica.ask("list")[1].decode().splitlines() if line.startswith("distrust ")]
+
+    with Replica(program, above / "keys") as replica:
+        for sequence in (2, 3):
+            want("a bundle with another key", replica.observe(sequence, OTHER_DER)[0] == 0)
+        refused = (1, b"", b"fedbundle: no known key\n")
+        for more in ([], ["--dry-run"], ["--verbose"]):
+            seen = replica.ask(*unknown, *more)
+            want(f"an unknown key {more}", seen == refused, seen)
+            by = replica.run_at(*unknown, *more)
+            want(f"an unknown key {more}, by the command", (by.returncode, by.stdout, by.stderr) == refused, by)
+        seen = replica.ask("distrust", "--domain", "b.example", *unknown[3:])
+        want("a key of a domain that is not configured", seen == refused, seen)
+        for words in (unknown, seed):
+            seen = replica.ask(*words, "--known")
+            want("a flag of files", seen == (2, b"", b"fedbundle: usage\n"), seen)
+        want("no record is made", records() == [], records())
+        shown = replica.ask(*seed, "--dry-run")
+        want("a dry run", shown[0] == 0 and shown[1].count(b"falls ") == 2 and shown[2] == b"", shown)
+        want("a dry run makes no record", records() == [], records())
+        seen = replica.ask(*seed, "--verbose")
+        want("what fell, and what it changed", seen == (0, f"fell {DOMAIN} 2\n".encode(), shown[1]), seen, shown)
+        want("a repeated one says nothing", replica.ask(*seed) == (0, b"", b""))
+        seen = replica.run_at(*other)
+        want("a key that only pending bundles list", (seen.returncode, seen.stdout, seen.stderr) == (0, b"", b""), seen)
+        want("two records", len(records()) == 2, records())
+        seen = replica.run_at(*unknown, "--unknown-key")
+        want("a key that may be unknown", (seen.returncode, seen.stdout, seen.stderr) == (0, b"", b""), seen)
+        want("its record", f"distrust {'0' * 64} domain {DOMAIN}" in records(), records())
+        want("it is known by no bundle all the same", replica.ask(*unknown) == refused)
+        said = [line for line in replica.said().splitlines() if line.startswith("event=distrust ")]
+        wanted = [f"event=distrust domain={DOMAIN} key={words[4]} fell={fell}" for words, fell in
+                  ((seed, 2), (other, 0), (unknown, 0))]
+        want("an event for each record", said == wanted, said)
 
 
 def own_status(program, above):
@@ -1149,7 +1196,7 @@ def different_limits(program, above):
         seen = two.observe(6)
         want("most, it takes no bundle", seen[0] == 1 and seen[2].endswith(b"G3 Full\n"), seen)
         key = hashlib.sha256(OTHER_DER).hexdigest()
-        seen = two.ask("distrust", "--domain", DOMAIN, "--key", key)
+        seen = two.ask("distrust", "--domain", DOMAIN, "--key", key, "--unknown-key")
         want("most, it takes a record", seen == (0, b"", b""), seen)
         shows = within(HANG, lambda: b"\nrecords 1 of 1\n" in three.ask("status")[1])
         want("most, and gives it", shows, three.ask("status"))
@@ -1167,6 +1214,7 @@ def main():
     parts = {
         "three": three_replicas,
         "files": as_over_files,
+        "keys": known_keys,
         "status": own_status,
         "beginnings": refused_beginnings,
         "limits": limits,

@@ -3,19 +3,23 @@
 
 - `new` writes a state that holds nothing, with mode 0600. If a state or a journal is there, or another command has the
   lock, it refuses and changes nothing.
-- `report`, `list`, `graph`, `status`, `diff` and `distrust --dry-run` refuse a state that is not there as `no state`, with status
-  1, and with --new take it for one that holds nothing. A journal alone is a state. `diff` needs both states. `migrate` and
-  `reseed` refuse it in any case.
+- `report`, `list`, `graph`, `status`, `diff`, and `distrust` with --dry-run or --known refuse a state that is not there as `no
+  state`, with status 1, and with --new take it for one that holds nothing. A journal alone is a state. `diff` needs both states.
+  `migrate` and `reseed` refuse it in any case.
+- `distrust --known` refuses a key that no bundle lists as `no known key`, also with --dry-run, and makes no file.
 - `bundle`, `explain`, `polls`, `observe`, `merge` and `distrust` take such a state for one that holds nothing, and say so if
   more is wanted.
-- With --at there is a state, so --new is refused.
+- With --at there is a state, so --new and --known are refused; without it --unknown-key is.
 - `replica` refuses it too.
 
 It needs python3. The program is the one that ./fedbundle runs, or the one that $FEDBUNDLE names.
 
 usage: states   the status is 1 if something is wrong
 """
+import base64
 import fcntl
+import hashlib
+import json
 import os
 import shutil
 import stat
@@ -28,7 +32,7 @@ sys.path.insert(0, str(Path(__file__).resolve().parent.parent / "lib"))
 from harness import HANG, TOP, find_program, shown, temporary  # noqa: E402
 
 KEY = "0" * 64
-MISSING = b"fedbundle: no state\n"
+MISSING, NO_KEY, USAGE = b"fedbundle: no state\n", b"fedbundle: no known key\n", b"fedbundle: usage\n"
 LOOKS = {
     "report": [],
     "list": [],
@@ -76,6 +80,11 @@ class Folder:
         return subprocess.run([self.program, name, "--config", "config", "--state", "state", *words], cwd=self.path, input=text,
                               capture_output=True, timeout=HANG, env=variables)
 
+    def key(self):
+        """The id of the key that the configured bundle of a.example lists."""
+        certificate = next(key["x5c"][0] for key in json.loads(self.bundle)["keys"] if key["use"] == "x509-svid")
+        return hashlib.sha256(base64.b64decode(certificate)).hexdigest()
+
     def names(self):
         return sorted(path.name for path in self.path.iterdir())
 
@@ -119,10 +128,46 @@ def looked_at(folder):
         ended = folder.run(name, *words, "--new")
         want(f"{name} --new", MISSING not in ended.stderr and ended.returncode in (0, 1), ended)
     want("no file was made", folder.names() == ["config"], folder.names())
+    without_a_state(folder)
     for name, words in CARRY.items():
         ended = folder.run(name, *words)
         want(f"{name} without a state", (ended.returncode, ended.stdout, ended.stderr) == (1, b"", MISSING), ended)
         want(f"{name} has no --new", folder.run(name, *words, "--new").returncode == 2)
+
+
+def without_a_state(folder):
+    """`distrust --known` makes no file, also not for a key that is known; the lock is taken before the state is read."""
+    for key in (KEY, folder.key()):
+        words = ["--domain", "a.example", "--key", key, "--known"]
+        ended = folder.run("distrust", *words)
+        want("distrust --known without a state", (ended.returncode, ended.stdout, ended.stderr) == (1, b"", MISSING), ended)
+        want("it makes no state", {*folder.names()} <= {"config", "state.lock"}, folder.names())
+    (folder.path / "state.lock").unlink(missing_ok=True)
+
+
+def known(folder):
+    """A key that a configured bundle lists is known, and another one is not."""
+    folder.run("new")
+    state = folder.path / "state"
+    before = state.read_bytes()
+    of_domain = ["--domain", "a.example", "--key"]
+    for more in (["--known"], ["--known", "--dry-run"], ["--known", "--new"]):
+        ended = folder.run("distrust", *of_domain, KEY, *more)
+        want(f"an unknown key {more}", (ended.returncode, ended.stdout, ended.stderr) == (1, b"", NO_KEY), ended)
+    ended = folder.run("distrust", "--domain", "b.example", "--key", folder.key(), "--known")
+    want("a key of another domain", (ended.returncode, ended.stderr) == (1, NO_KEY), ended)
+    want("the state stays", state.read_bytes() == before)
+    shown = [folder.run("distrust", *of_domain, folder.key(), "--dry-run", *more) for more in ([], ["--known"])]
+    want("a dry run of a known key", shown[0].stdout == shown[1].stdout != b"" and shown[1].returncode == 0, *shown)
+    ended = folder.run("distrust", *of_domain, folder.key(), "--known")
+    want("a known key", (ended.returncode, ended.stdout, ended.stderr) == (0, b"", b""), ended)
+    want("its record", state.read_bytes() != before and folder.key().encode() in state.read_bytes())
+    ended = folder.run("distrust", *of_domain, KEY)
+    want("without --known it need not be", (ended.returncode, ended.stdout, ended.stderr) == (0, b"", b""), ended)
+    held = state.read_bytes()
+    ended = folder.run("distrust", *of_domain, KEY, "--unknown-key")
+    want("--unknown-key over files", (ended.returncode, ended.stdout, ended.stderr) == (2, b"", USAGE), ended)
+    want("it changes nothing", state.read_bytes() == held)
 
 
 def with_one(folder):
@@ -157,8 +202,9 @@ def of_the_format(folder):
 
 
 def others(folder):
-    ended = subprocess.run([folder.program, "status", "--at", "nobody", "--new"], cwd=folder.path, capture_output=True)
-    want("--at --new", (ended.returncode, ended.stderr) == (2, b"fedbundle: usage\n"), ended)
+    for words in (["status", "--new"], ["distrust", *CHANGE["distrust"], "--known"]):
+        ended = subprocess.run([folder.program, *words, "--at", "nobody"], cwd=folder.path, capture_output=True)
+        want(f"--at {words[-1]}", (ended.returncode, ended.stderr) == (2, USAGE), ended)
     before = folder.names()
     ended = folder.run("replica", "--socket", "socket")
     want("a replica without a state", (ended.returncode, ended.stdout, ended.stderr) == (1, b"", MISSING), ended)
@@ -167,7 +213,7 @@ def others(folder):
 
 def main():
     program = find_program()
-    for case in (new, looked_at, with_one, of_the_format, others):
+    for case in (new, looked_at, known, with_one, of_the_format, others):
         with temporary() as above:
             case(Folder(program, Path(above) / "folder"))
     for fault in faults:

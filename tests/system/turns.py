@@ -243,7 +243,8 @@ def sessions(program, above):
         for number in range(5):
             time.sleep(2)
             key = hashlib.sha256(b"key %d" % number).hexdigest()
-            want("a record of a good peer", one.ask("distrust", "--domain", DOMAIN, "--key", key)[0] == 0)
+            seen = one.ask("distrust", "--domain", DOMAIN, "--key", key, "--unknown-key")
+            want("a record of a good peer", seen == (0, b"", b""), seen)
             begun = time.monotonic()
             held = within(3, lambda: key.encode() in two.ask("report")[1])
             took.append(time.monotonic() - begun)
@@ -339,7 +340,8 @@ def readers(program, above):
             size = len(replica.ask("bundle", "--domain", DOMAIN)[1])
             streams = [look(replica, "bundle", "--domain", DOMAIN) for _ in range(64)]
             time.sleep(2)
-            changed = replica.ask("distrust", "--domain", DOMAIN, "--key", hashlib.sha256(b"stolen").hexdigest())
+            stolen = hashlib.sha256(b"stolen").hexdigest()
+            changed = replica.ask("distrust", "--domain", DOMAIN, "--key", stolen, "--unknown-key")
             want(f"a change beside 64 readers, {name}", changed is not None and changed[0] == 0, changed)
             seen = replica.ask("bundle", "--domain", DOMAIN)
             want(f"a bundle at the socket for changes, {name}", seen is not None and seen[0] == 0, seen and seen[2])

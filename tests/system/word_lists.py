@@ -1,16 +1,16 @@
 #!/usr/bin/env python3
-"""Gives some 400 lists of words to the command with --at and to the socket of a running replica: what one refuses the other
+"""Gives some 450 lists of words to the command with --at and to the socket of a running replica: what one refuses the other
 refuses, with the same line and the same exit status.
 
 The lists are made of the options that the help of each subcommand names, each with texts that it may have and may not have, and
 left out, given twice, and given beside others. The command reads what it sends from a file or from standard input; the socket
-is given the same bytes. `distrust` with --public-key is left out, since the command makes several requests of it, and so is what
-ends the replica. A subcommand that has no --at is no request: the socket refuses it.
+is given the same bytes. What ends the replica is left out. A subcommand that has no --at is no request: the socket refuses it.
 
 It needs python3, and takes seconds. The program is the one that ./fedbundle runs, or the one that $FEDBUNDLE names.
 
 usage: word_lists   the exit status is 1 if something is wrong
 """
+import hashlib
 import json
 import re
 import signal
@@ -26,12 +26,14 @@ sys.path.insert(0, str(Path(__file__).resolve().parent.parent / "lib"))
 from harness import HANG, find_program, temporary  # noqa: E402
 
 PROGRAM = find_program()
-KEY = "0" * 64
+# A key that the configured bundle lists, and one that no bundle lists.
+KEY, UNKNOWN = hashlib.sha256(b"abc").hexdigest(), "0" * 64
 # For each option with a text, one that it may have, and others. The files are those of the folder, which the command reads.
 TEXTS = {
     "domain": ["a.test", "", "A.test", "other.test"],
     "endpoint": ["spiffe://a.test/bundle", "", "a.test"],
-    "key": [KEY, "", "abc", KEY.replace("0", "F")],
+    "key": [KEY, UNKNOWN, "", "abc", "F" * 64],
+    "public-key": [UNKNOWN, "", "abc"],
     "format": ["text", "json", "pem", "prometheus", "", "xml"],
     "now": ["0", "", "-1", "x", "9" * 30],
     "wait": ["5", "", "+1", "86401"],
@@ -58,15 +60,19 @@ ALONE = [
 ]
 BESIDE = [
     [], ["--help"], ["--version"], ["lst"], ["help"], ["list", "--help"], ["--domain=a.test"], ["--nothing"],
-    ["distrust", "--domain=a.test", f"--key={KEY}", f"--public-key={KEY}"],
     ["distrust", "--domain=a.test", f"--key={KEY}", f"--public-key={KEY}", "--dry-run"],
+    *(["distrust", "--domain=a.test", f"--public-key={text}", *more] for text in TEXTS["public-key"]
+      for more in ([], ["--dry-run"], ["--unknown-key"], ["--known"], ["--verbose"])),
+    *(["distrust", f"--domain={domain}", f"--key={UNKNOWN}", "--unknown-key", *more] for domain in ("a.test", "other.test")
+      for more in (["--dry-run"], [], ["--known"], ["--verbose"])),
     ["distrust", "--domain=a.test", "--dry-run"], ["stop", "--wait=x"], ["stop", "--new"], ["stop", "more"],
 ]
 
 
 def config():
     relationship = {"domain": "a.test", "endpoint": "spiffe://a.test/bundle", "profile": "https_spiffe", "url": "https://a.test/"}
-    return json.dumps({"relationships": [relationship], "seeds": [{"domain": "a.test", "bundle": {"keys": []}}]})
+    authority = {"e": "AQAB", "kty": "RSA", "n": "AQAB", "use": "x509-svid", "x5c": ["YWJj"]}
+    return json.dumps({"relationships": [relationship], "seeds": [{"domain": "a.test", "bundle": {"keys": [authority]}}]})
 
 
 def run(folder, *words, text=b""):
@@ -94,7 +100,7 @@ def options_of(folder, name):
     """The options that the help of the subcommand names, and which of them have a text."""
     told = run(folder, name, "--help").stdout.decode()
     found = re.findall(r"^ +(?:-\w, )?--([a-z-]+)( <[A-Z_-]+>)?", told.partition("Options:")[2], re.M)
-    return {option: bool(text) for option, text in found if option not in ("at", "help", "verbose", "public-key")}
+    return {option: bool(text) for option, text in found if option not in ("at", "help", "verbose")}
 
 
 def words_of(name, texts):

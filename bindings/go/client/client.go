@@ -204,13 +204,21 @@ func (c *Client) MergeAtMost(ctx context.Context, snapshot []byte, mostBytes uin
 	return parseMerged(text)
 }
 
-// Distrust distrusts a key in a trust domain. This cannot be taken back.
+// Distrust distrusts a key in a trust domain. This cannot be taken back. A key that no bundle lists, held or configured, is
+// refused with NoKnownKey, except by a replica up to fedbundle 0.12.0.
 func (c *Client) Distrust(ctx context.Context, domain, key string) error {
 	_, err := c.output(ctx, nil, "distrust", option("domain", domain), option("key", key))
 	return err
 }
 
-// DistrustVerbose does the same, and returns what the record changed, as the lines of DistrustDryRun.
+// DistrustUnknown does the same, and takes a key that no bundle lists. A replica up to fedbundle 0.12.0 refuses it with
+// Usage.
+func (c *Client) DistrustUnknown(ctx context.Context, domain, key string) error {
+	_, err := c.output(ctx, nil, "distrust", option("domain", domain), option("key", key), "--unknown-key")
+	return err
+}
+
+// DistrustVerbose does what Distrust does, and returns what the record changed, as the lines of DistrustDryRun.
 func (c *Client) DistrustVerbose(ctx context.Context, domain, key string) ([]string, error) {
 	reply, err := c.done(ctx, nil, "distrust", option("domain", domain), option("key", key), "--verbose")
 	if err != nil {

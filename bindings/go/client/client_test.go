@@ -160,6 +160,8 @@ func TestWhatIsSent(t *testing.T) {
 			[]string{"merge", "--most-bytes=7"}, ""},
 		{func(c *Client) error { return c.Distrust(ctx, "a.example", key) },
 			[]string{"distrust", dom, "--key=" + key}, ""},
+		{func(c *Client) error { return c.DistrustUnknown(ctx, "a.example", key) },
+			[]string{"distrust", dom, "--key=" + key, "--unknown-key"}, ""},
 		{func(c *Client) error { _, err := c.DistrustVerbose(ctx, "a.example", key); return err },
 			[]string{"distrust", dom, "--key=" + key, "--verbose"}, ""},
 		{func(c *Client) error { _, err := c.DistrustDryRun(ctx, "a.example", key); return err },

@@ -21,6 +21,8 @@ const (
 	Usage = "usage"
 	// NoBundle: the trust domain has no current bundle.
 	NoBundle = "no current bundle"
+	// NoKnownKey: a key that is to be distrusted is in no bundle of the trust domain, held or configured.
+	NoKnownKey = "no known key"
 	// NotAccepted: the replica does not accept the bundle.
 	NotAccepted = "not accepted"
 	// ReadOnly: a change was asked for at a socket at which nothing can be changed.

@@ -101,6 +101,9 @@ var calls = map[string]call{
 	"distrust": func(ctx context.Context, c *client.Client, l *line) (any, error) {
 		return nil, c.Distrust(ctx, l.Texts[0], l.Texts[1])
 	},
+	"distrust_unknown": func(ctx context.Context, c *client.Client, l *line) (any, error) {
+		return nil, c.DistrustUnknown(ctx, l.Texts[0], l.Texts[1])
+	},
 	"distrust_verbose": func(ctx context.Context, c *client.Client, l *line) (any, error) {
 		return c.DistrustVerbose(ctx, l.Texts[0], l.Texts[1])
 	},

@@ -3,7 +3,7 @@ use Rattle.std.proofs.Common.{◌≡◌, ◌≢◌, ◌≤◌, ◌<◌, ◌+◌,
 use Rattle.std.proofs.Common.{List, [], ◌∷◌, ◌++◌, Option, None, Some, codes, decimal, flat_map, length, inl, inr, refl, sym, ap, ◌∙◌, subst, arith}
 use Rattle.std.proofs.Common.{add-one, append-nil, append_assoc, drop, drop-cons, get_or, map, slice_index, string_bytes}
 use Rattle.std.proofs.lemmas.List.Elements.{All-append, All-cons, All-nil, All-tail}
-use Rattle.std.proofs.lemmas.Bool.{and_parts, cases_lt, cases_eq, eqb-true, true≢false}
+use Rattle.std.proofs.lemmas.Bool.{and_parts, cases_lt, cases_eq, true≢false}
 use Rattle.std.specs.Fmt.{digit_glyph, digits, digits_onto}
 use Rattle.hex.specs.Hex.{encode_lower, encode_with, lower_digits}
 use Rattle.json.specs.Print.{escape, escape_byte, quoted}
@@ -11,12 +11,14 @@ use Rattle.json.proofs.Printed.Strings.{escape_byte_plain}
 use Rattle.sha2.specs.Sha256.{sha256}
 use Rattle.byte_lines.specs.Lines.{HasNoFeed, Lines, lines_of, with_line}
 use Rattle.byte_lines.proofs.StreamFacts.{lines_of-line}
-use Rattle.json_text.specs.JsonText.{digest_member, number_member, string_member, truth_member}
+use Rattle.jwk_set.specs.declared.authority.KeyId.{KeyId}
+use Rattle.json_text.specs.JsonText.{comma_where, digest_member, number_member, parted_texts, string_member, truth_member}
 use Rattle.state_steps.specs.Cuts.{AreUnheld, HeldComeFirst}
-use Rattle.change_view.specs.ChangeTexts.{audit_line, change_members, distrust_members, document_members, new_members, voucher_members}
+use Rattle.change_view.specs.ChangeTexts.{audit_line, change_members, distrust_members, document_members, key_digits, key_list, keys_member}
+use Rattle.change_view.specs.ChangeTexts.{new_members, voucher_members}
 use Rattle.change_view.specs.TurnTexts.{ComesInOrder, HoldsTurn, IsHeldWith, StoppedTurn, audit_at, final_line, final_of, line_of_change, line_of_report}
 use Rattle.change_view.specs.TurnTexts.{AreReportedAt, IsReportedAt, line_at, part_journal, turn_journal}
-use Rattle.change_view.specs.declared.held_change.DistrustedKey.{DistrustedKey}
+use Rattle.change_view.specs.declared.held_change.DistrustedKeys.{DistrustedKeys}
 use Rattle.change_view.specs.declared.held_change.HeldChange.{HeldChange}
 use Rattle.change_view.specs.declared.held_change.HeldChange.TheVariants.{Observe, Distrust, Merge, Pull}
 use Rattle.change_view.specs.declared.held_change.NewEntries.{NewEntries}
@@ -155,11 +157,25 @@ plain_voucher o = two_plain (digest_member (codes ",\"key\":") o.key.0) _ (plain
     (two_plain (digest_member (codes ",\"voucher\":") o.voucher.0) (truth_member (codes ",\"current\":") o.is_current)
     (plain_digest (codes ",\"voucher\":") o.voucher.0 refl) (plain_truth (codes ",\"current\":") o.is_current refl))
 
-plain_distrust : (k : DistrustedKey) → HasNoFeed (distrust_members k)
+plain_comma : (later : Bool) → HasNoFeed (comma_where later)
+plain_comma true = by_look (codes ",") refl
+plain_comma false = none_plain
+
+plain_keys : (later : Bool) (keys : List KeyId) → HasNoFeed (parted_texts key_digits later keys)
+plain_keys later [] = none_plain
+plain_keys later (key ∷ keys) = two_plain (comma_where later) (key_digits key ++ parted_texts key_digits true keys) (plain_comma later)
+    (two_plain (key_digits key) (parted_texts key_digits true keys) (plain_digits key.0) (plain_keys true keys))
+
+plain_keys_member : (keys : List KeyId) → HasNoFeed (keys_member keys)
+unfolding keys_member
+plain_keys_member keys = two_plain (codes ",\"key\":\"") (key_list keys ++ codes "\"") (by_look (codes ",\"key\":\"") refl)
+    (two_plain (key_list keys) (codes "\"") (plain_keys false keys) (by_look (codes "\"") refl))
+
+plain_distrust : (k : DistrustedKeys) → HasNoFeed (distrust_members k)
 plain_distrust k = two_plain (string_member (codes ",\"event\":\"distrust\",\"domain\":") k.domain) _
     (plain_string (codes ",\"event\":\"distrust\",\"domain\":") k.domain refl)
-    (two_plain (digest_member (codes ",\"key\":") k.key.0) (number_member (codes ",\"fell\":") (Some k.fell))
-    (plain_digest (codes ",\"key\":") k.key.0 refl) (plain_number (codes ",\"fell\":") (Some k.fell) refl))
+    (two_plain (keys_member k.keys.items) (number_member (codes ",\"fell\":") (Some k.fell))
+    (plain_keys_member k.keys.items) (plain_number (codes ",\"fell\":") (Some k.fell) refl))
 
 plain_new : (n : NewEntries) → HasNoFeed (new_members n)
 unfolding new_members

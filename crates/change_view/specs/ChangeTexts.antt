@@ -1,10 +1,12 @@
 -- A change as the line of an event, and as a line of the audit file
 use Rattle.std.specs.Prelude.{ℕ, List, ◌++◌, codes, decimal, string_bytes, Bool, true, false}
 use Rattle.std.specs.Prelude.{Some}
+use Rattle.jwk_set.specs.declared.authority.KeyId.{KeyId}
 use Rattle.hex.specs.Hex.{encode_lower}
 use Rattle.text_lines.specs.TextLines.{number_or_none}
-use Rattle.json_text.specs.JsonText.{digest_member, number_member, string_member, truth_member}
-use Rattle.change_view.specs.declared.held_change.DistrustedKey.{DistrustedKey}
+use Rattle.json_text.specs.JsonText.{digest_member, number_member, parted_texts, string_member}
+use Rattle.json_text.specs.JsonText.{truth_member}
+use Rattle.change_view.specs.declared.held_change.DistrustedKeys.{DistrustedKeys}
 use Rattle.change_view.specs.declared.held_change.HeldChange.{HeldChange}
 use Rattle.change_view.specs.declared.held_change.HeldChange.TheVariants.{Observe, Distrust, Merge}
 use Rattle.change_view.specs.declared.held_change.HeldChange.TheVariants.{Pull}
@@ -33,12 +35,19 @@ voucher_pairs o = codes " key="
 abbrev pub observe_event : ObservedBundle → List ℕ
 observe_event o = codes "event=observe domain=" ++ (document_pairs o ++ voucher_pairs o)
 
--- which key it is, and what it did
-unfoldable pub distrust_pairs : DistrustedKey → List ℕ
-distrust_pairs k = k.domain
-    ++ (codes " key=" ++ (encode_lower k.key.0 ++ (codes " fell=" ++ decimal k.fell)))
+abbrev pub key_digits : KeyId → List ℕ
+key_digits key = encode_lower key.0
 
-abbrev pub distrust_event : DistrustedKey → List ℕ
+-- all keys in their order, with a comma between two
+abbrev pub key_list : List KeyId → List ℕ
+key_list keys = parted_texts key_digits false keys
+
+-- which keys they are, and what they did
+unfoldable pub distrust_pairs : DistrustedKeys → List ℕ
+distrust_pairs k = k.domain
+    ++ (codes " key=" ++ (key_list k.keys.items ++ (codes " fell=" ++ decimal k.fell)))
+
+abbrev pub distrust_event : DistrustedKeys → List ℕ
 distrust_event k = codes "event=distrust domain=" ++ distrust_pairs k
 
 unfoldable pub new_entries : NewEntries → List ℕ
@@ -65,10 +74,13 @@ voucher_members o = digest_member (codes ",\"key\":") o.key.0
 abbrev pub observe_members : ObservedBundle → List ℕ
 observe_members o = document_members o ++ voucher_members o
 
-abbrev pub distrust_members : DistrustedKey → List ℕ
+-- one string, whatever the number of keys
+unfoldable pub keys_member : List KeyId → List ℕ
+keys_member keys = codes ",\"key\":\"" ++ (key_list keys ++ codes "\"")
+
+abbrev pub distrust_members : DistrustedKeys → List ℕ
 distrust_members k = string_member (codes ",\"event\":\"distrust\",\"domain\":") k.domain
-    ++ (digest_member (codes ",\"key\":") k.key.0
-    ++ number_member (codes ",\"fell\":") (Some k.fell))
+    ++ (keys_member k.keys.items ++ number_member (codes ",\"fell\":") (Some k.fell))
 
 unfoldable pub new_members : NewEntries → List ℕ
 new_members n = number_member (codes ",\"new\":") (Some n.receipts)

@@ -1,47 +1,27 @@
 -- What is reported of a change, of what is held after it
-use Rattle.std.specs.Prelude.{◌≡◌, ℕ, List, ◌++◌, codes, Bool, false, Option, Some, None}
-use Rattle.bundle_doc.specs.Bundle.{Bundle, doc_id_of, same_text}
+use Rattle.std.specs.Prelude.{◌≡◌, ◌↔◌, List, ℕ, Bool, IsTrue, Option, Some, None}
+use Rattle.bundle_doc.specs.Bundle.{Bundle, doc_id_of}
+use Rattle.bundle_doc.specs.declared.document.DocId.{DocId}
 use Rattle.receipt_core.specs.Acceptance.{Meaning}
-use Rattle.receipt_core.specs.Line.{IsLine, IsRecord}
 use Rattle.receipt_core.specs.Receipt.{Receipt}
-use Rattle.receipt_core.specs.declared.distrust.Distrust.{Distrust}
 use Rattle.bundle_view.specs.Current.{IsCurrent}
-use Rattle.change_view.specs.declared.held_change.DistrustedKey.{DistrustedKey}
 use Rattle.change_view.specs.declared.held_change.ObservedBundle.{ObservedBundle}
 
--- whether the document has the text of the one that is current, if there is one
-abbrev pub is_that_one : Option Bundle → Bundle → Bool
-is_that_one None d = false
-is_that_one (Some c) d = same_text c d
+-- The document is there, and it has this id as one of the domain.
+abbrev pub HasDocumentId : List ℕ → DocId → Option Bundle → Type 0
+HasDocumentId domain id None = ⊥
+HasDocumentId domain id (Some d) = doc_id_of domain d ≡ id.0
 
--- The flag says whether the document is the current one of the domain.
-pub record SaysNow (m : Meaning) (domain : List ℕ) (d : Bundle) (flag : Bool) : Type 0 where
+-- The flag says whether the domain has a current document that has this id. m is what is held.
+pub record SaysNow (m : Meaning) (domain : List ℕ) (id : DocId) (flag : Bool) : Type 0 where
   pub currently : Option Bundle
   pub is : IsCurrent m domain currently
-  pub says : flag ≡ is_that_one currently d
+  pub says : IsTrue flag ↔ HasDocumentId domain id currently
 
--- The parts are those of the receipt, and m is what is held.
-pub record IsObservedBundle (m : Meaning) (r : Receipt) (o : ObservedBundle) : Type 0 where
+-- The parts are those of the receipt, whatever the flag says.
+pub record IsObservedBundle (r : Receipt) (o : ObservedBundle) : Type 0 where
   pub domain : o.domain ≡ r.domain
   pub document : o.document.0 ≡ doc_id_of r.domain r.document
   pub sequence : o.sequence ≡ r.document.rank
   pub key : o.key ≡ r.key
   pub voucher : o.voucher ≡ r.voucher
-  pub now : SaysNow m r.domain r.document o.is_current
-
--- The text is the line of a receipt, with its line feed, and that is reported.
-pub record ReportsObserved (m : Meaning) (text : List ℕ) (o : ObservedBundle) : Type 0 where
-  pub receipt : Receipt
-  pub bytes : List ℕ
-  pub line : IsLine bytes receipt
-  pub spelt : text ≡ bytes ++ codes "\n"
-  pub is : IsObservedBundle m receipt o
-
--- The text is the line of a record, with its line feed, and that is reported.
-pub record ReportsDistrusted (text : List ℕ) (k : DistrustedKey) : Type 0 where
-  pub x : Distrust
-  pub bytes : List ℕ
-  pub line : IsRecord bytes x
-  pub spelt : text ≡ bytes ++ codes "\n"
-  pub domain : k.domain ≡ x.domain
-  pub key : k.key ≡ x.key

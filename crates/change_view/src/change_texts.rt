@@ -3,15 +3,16 @@ ghost use Rattle.std.specs.Prelude.{◌≡◌, ◌++◌, OnOk, Some, codes};
 ghost use Rattle.json_text.specs.JsonText.{string_member};
 ghost use Rattle.change_view.specs.ChangeTexts.{audit_line, change_members, distrust_event};
 ghost use Rattle.change_view.specs.ChangeTexts.{distrust_pairs, document_members, document_pairs};
-ghost use Rattle.change_view.specs.ChangeTexts.{held_members};
+ghost use Rattle.change_view.specs.ChangeTexts.{held_members, key_list, keys_member};
 ghost use Rattle.change_view.specs.ChangeTexts.{voucher_members, voucher_pairs};
 ghost use Rattle.change_view.specs.ChangeTexts.{distrust_members, event_text, new_entries};
 ghost use Rattle.change_view.specs.ChangeTexts.{new_members, observe_event, observe_members};
 ghost use Rattle.change_view.specs.ChangeTexts.{start_line, current_word};
 
-use crate::held_change::{DistrustedKey, HeldChange, NewEntries, ObservedBundle};
+use crate::held_change::{DistrustedKeys, HeldChange, NewEntries, ObservedBundle};
 use byte_lines::{push_digits, push_number};
-use json_text::{push_digest, push_optional, push_string, push_truth};
+use json_text::{push_comma, push_digest, push_optional, push_string, push_truth};
+use jwk_set::KeyId;
 use spiffe_name::TrustDomain;
 use std::alloc::{AllocError, Global};
 use text_lines::push_number_or_none;
@@ -82,7 +83,7 @@ fn push_yes_or_no(out: &mut Vec<u8>, is_so: bool) -> Result<(), AllocError>
     }
 }
 
-fn push_distrusted(out: &mut Vec<u8>, distrusted: &DistrustedKey) -> Result<(), AllocError>
+fn push_distrusted(out: &mut Vec<u8>, distrusted: &DistrustedKeys) -> Result<(), AllocError>
     ensures { OnOk result (out.new.items ≡ out.old.items ++ distrust_event distrusted.now) }
 {
     out.extend_from_slice(b"event=distrust domain=")?;
@@ -91,14 +92,27 @@ fn push_distrusted(out: &mut Vec<u8>, distrusted: &DistrustedKey) -> Result<(), 
 }
 
 #[tactic(auto, unfolding(crate::specs::ChangeTexts::distrust_pairs))]
-fn push_distrust_pairs(out: &mut Vec<u8>, distrusted: &DistrustedKey) -> Result<(), AllocError>
+fn push_distrust_pairs(out: &mut Vec<u8>, distrusted: &DistrustedKeys) -> Result<(), AllocError>
     ensures { OnOk result (out.new.items ≡ out.old.items ++ distrust_pairs distrusted.now) }
 {
     push_domain(out, &distrusted.domain)?;
     out.extend_from_slice(b" key=")?;
-    push_digits(out, &distrusted.key.0)?;
+    push_keys(out, distrusted.keys.as_slice())?;
     out.extend_from_slice(b" fell=")?;
     push_number(out, distrusted.fell)
+}
+
+// Adds the digits of all keys, with a comma between two.
+fn push_keys(out: &mut Vec<u8>, keys: &[KeyId]) -> Result<(), AllocError>
+    ensures { OnOk result (out.new.items ≡ out.old.items ++ key_list keys.now) }
+{
+    let mut later = false;
+    for key in keys {
+        push_comma(out, later)?;
+        push_digits(out, &key.0)?;
+        later = true;
+    }
+    Ok(())
 }
 
 fn push_pulled(out: &mut Vec<u8>, peer: &str, new: NewEntries) -> Result<(), AllocError>
@@ -195,7 +209,7 @@ fn push_voucher_members(out: &mut Vec<u8>, observed: &ObservedBundle) -> Result<
 fn push_distrusted_members(
     alloc: Global,
     out: &mut Vec<u8>,
-    distrusted: &DistrustedKey,
+    distrusted: &DistrustedKeys,
 ) -> Result<(), AllocError>
     ensures { OnOk result (out.new.items ≡ out.old.items ++ distrust_members distrusted.now) }
 {
@@ -205,9 +219,18 @@ fn push_distrusted_members(
         b",\"event\":\"distrust\",\"domain\":",
         distrusted.domain.as_str(),
     )?;
-    push_digest(out, b",\"key\":", &distrusted.key.0)?;
+    push_keys_member(out, distrusted.keys.as_slice())?;
     push_optional(out, b",\"fell\":", Some(distrusted.fell))?;
     Ok(())
+}
+
+#[tactic(auto, unfolding(crate::specs::ChangeTexts::keys_member))]
+fn push_keys_member(out: &mut Vec<u8>, keys: &[KeyId]) -> Result<(), AllocError>
+    ensures { OnOk result (out.new.items ≡ out.old.items ++ keys_member keys.now) }
+{
+    out.extend_from_slice(b",\"key\":\"")?;
+    push_keys(out, keys)?;
+    out.extend_from_slice(b"\"")
 }
 
 fn push_merged_members(out: &mut Vec<u8>, new: NewEntries) -> Result<(), AllocError>

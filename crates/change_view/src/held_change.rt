@@ -9,8 +9,8 @@ use spiffe_name::TrustDomain;
 pub enum HeldChange {
     /// A bundle was observed.
     Observe(ObservedBundle),
-    /// A key was distrusted.
-    Distrust(DistrustedKey),
+    /// Keys of a trust domain were distrusted.
+    Distrust(DistrustedKeys),
     /// A snapshot was merged.
     Merge(NewEntries),
     /// A peer, whose configured address this is, answered.
@@ -43,13 +43,13 @@ pub struct ObservedBundle {
     pub is_current: bool,
 }
 
-/// A key that was distrusted, and was not before.
+/// Keys that were distrusted, and were not before.
 #[derive(Debug, Drop)]
-pub struct DistrustedKey {
+pub struct DistrustedKeys {
     /// The trust domain.
     pub domain: TrustDomain,
-    /// The key.
-    pub key: KeyId,
+    /// The keys, each with a record of its own.
+    pub keys: Vec<KeyId>,
     /// How many documents are not accepted any more.
     pub fell: u64,
 }

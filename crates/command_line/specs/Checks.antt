@@ -1,6 +1,7 @@
 -- What reading arguments gives: a call whose options agree, or why they are refused.
 use Rattle.std.specs.Prelude.{◌≡◌, ◌&&◌, ◌||◌, Bool, true, false, not, List, [], ◌∷◌, map, find}
 use Rattle.std.specs.Prelude.{Option, Some, None, is_some, option_map, codes, Result, MatchResult}
+use Rattle.std.specs.Prelude.{if◌then◌else◌}
 use Rattle.std.specs.Str.{bytes_eq}
 use Rattle.clap.specs.Words.{IsAmong, Text, fault_of, kind_of}
 use Rattle.command_line.specs.Words.{CallsFrom, IsNoCall, the_command}
@@ -12,7 +13,8 @@ use Rattle.command_line.specs.declared.command_name.OptionName.TheVariants.{Conf
 use Rattle.command_line.specs.declared.command_name.OptionName.TheVariants.{To, With, At, Socket}
 use Rattle.command_line.specs.declared.command_name.OptionName.TheVariants.{ReadSocket, Polls}
 use Rattle.command_line.specs.declared.command_name.OptionName.TheVariants.{Audit, New, OptionalKey}
-use Rattle.command_line.specs.declared.command_name.OptionName.TheVariants.{PublicKey}
+use Rattle.command_line.specs.declared.command_name.OptionName.TheVariants.{PublicKey, UnknownKey}
+use Rattle.command_line.specs.declared.command_name.OptionName.TheVariants.{Known}
 use Rattle.command_line.specs.declared.option_error.OptionError.{OptionError}
 use Rattle.command_line.specs.declared.option_error.OptionError.TheVariants as unread
 use Rattle.command_line.specs.declared.words.Call.{Call}
@@ -53,20 +55,25 @@ abbrev pub asks_running : WordsPlace → CommandName → List (Option Text) → 
 asks_running CommandLine name texts = is_some (option_said name texts At)
 asks_running Request name texts = true
 
--- A running replica, which has a state, is asked as if there may be none.
-abbrev pub asks_for_new : WordsPlace → CommandName → List (Option Text) → Bool
-asks_for_new place name texts =
-    asks_running place name texts && is_text (option_said name texts New) (codes "true")
+-- the arguments have the flag
+abbrev pub has_flag : CommandName → List (Option Text) → OptionName → Bool
+has_flag name texts flag = is_text (option_said name texts flag) (codes "true")
+
+-- A flag is given that has no meaning there. A running replica has a state, and looks for a key
+-- unless a flag says not to; the command over files does so only if a flag says so.
+abbrev pub has_stray_flag : WordsPlace → CommandName → List (Option Text) → Bool
+has_stray_flag place name texts = if asks_running place name texts
+    then (has_flag name texts New || has_flag name texts Known) else has_flag name texts UnknownKey
 
 abbrev pub flaw_by : Option OptionName → (is_misused : Bool) → Option OptionError
 flaw_by (Some path) is_misused = Some (unread.EmptyPath path)
 flaw_by None true = Some unread.Usage
 flaw_by None false = None
 
--- What a call is refused for: a file without a name; or its key, or `--new`.
+-- What a call is refused for: a file without a name; or its key, or a flag.
 abbrev pub flaw_of : WordsPlace → CommandName → List (Option Text) → Option OptionError
 flaw_of place name texts =
-    flaw_by (empty_path name texts) (lacks_key name texts || asks_for_new place name texts)
+    flaw_by (empty_path name texts) (lacks_key name texts || has_stray_flag place name texts)
 
 -- the same for a request to a running replica
 abbrev pub flaw_in_request : CommandName → List (Option Text) → Option OptionError

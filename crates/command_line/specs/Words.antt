@@ -28,6 +28,7 @@ use Rattle.command_line.specs.declared.command_name.OptionName.TheVariants.{File
 use Rattle.command_line.specs.declared.command_name.OptionName.TheVariants.{ListenAnywhere}
 use Rattle.command_line.specs.declared.command_name.OptionName.TheVariants.{Keys, OptionalKey}
 use Rattle.command_line.specs.declared.command_name.OptionName.TheVariants.{PublicKey, Polls}
+use Rattle.command_line.specs.declared.command_name.OptionName.TheVariants.{UnknownKey, Known}
 use Rattle.command_line.specs.declared.command_name.OptionName.TheVariants.{OptionalNow, Health}
 use Rattle.command_line.specs.declared.command_name.OptionName.TheVariants.{HealthHost}
 use Rattle.command_line.specs.declared.command_name.OptionName.TheVariants.{ExpiresWithin, Audit}
@@ -72,6 +73,8 @@ option_text ListenAnywhere = codes "listen-anywhere"
 option_text Keys = codes "keys"
 option_text OptionalKey = codes "key"
 option_text PublicKey = codes "public-key"
+option_text UnknownKey = codes "unknown-key"
+option_text Known = codes "known"
 option_text OptionalNow = codes "now"
 option_text ExpiresWithin = codes "expires-within"
 option_text PeerQuiet = codes "peer-quiet"
@@ -94,6 +97,8 @@ is_flag Short = true
 is_flag New = true
 is_flag ListenAnywhere = true
 is_flag Keys = true
+is_flag UnknownKey = true
+is_flag Known = true
 is_flag Sums = true
 is_flag option = false
 
@@ -190,8 +195,8 @@ options_of command.Reseed = Config ∷ State ∷ Allow ∷ Floors ∷ Wait ∷ M
     ∷ Verbose ∷ At ∷ []
 options_of command.Polls = Config ∷ State ∷ Now ∷ Format ∷ Wait ∷ MostReceipts ∷ MostRecords
     ∷ Verbose ∷ At ∷ []
-options_of command.Distrust = Config ∷ State ∷ Domain ∷ OptionalKey ∷ PublicKey ∷ DryRun ∷ New
-    ∷ Wait ∷ MostReceipts ∷ MostRecords ∷ Verbose ∷ At ∷ []
+options_of command.Distrust = Config ∷ State ∷ Domain ∷ OptionalKey ∷ PublicKey ∷ UnknownKey ∷ Known
+    ∷ DryRun ∷ New ∷ Wait ∷ MostReceipts ∷ MostRecords ∷ Verbose ∷ At ∷ []
 options_of command.Serve = Config ∷ State ∷ Listen ∷ Sessions ∷ MostReceipts ∷ MostRecords ∷ Verbose
     ∷ []
 options_of command.Pull = Config ∷ State ∷ Peer ∷ Sums ∷ Wait ∷ MostBytes ∷ MostReceipts

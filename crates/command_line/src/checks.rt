@@ -1,8 +1,8 @@
 //! What a call is refused for, once its arguments are read: what its options say of each other and
 //! of the place of the arguments, before a file or a replica is looked at.
 ghost use Rattle.std.specs.Prelude.{◌≡◌, is_some, map, option_map};
-ghost use Rattle.command_line.specs.Checks.{asks_for_new, asks_running, empty_path, flaw_of};
-ghost use Rattle.command_line.specs.Checks.{is_one_given, is_text, lacks_key};
+ghost use Rattle.command_line.specs.Checks.{asks_running, empty_path, flaw_of, has_flag};
+ghost use Rattle.command_line.specs.Checks.{has_stray_flag, is_one_given, is_text, lacks_key};
 
 use crate::command_name::{CommandName, OptionName};
 use crate::option_error::OptionError;
@@ -30,7 +30,7 @@ pub(crate) fn flaw_of(call: &Call<'_>, place: WordsPlace) -> Option<OptionError>
 {
     match empty_path(call) {
         Some(option) => Some(OptionError::EmptyPath(option)),
-        None if lacks_key(call) || asks_for_new(call, place) => Some(OptionError::Usage),
+        None if lacks_key(call) || has_stray_flag(call, place) => Some(OptionError::Usage),
         None => None,
     }
 }
@@ -74,12 +74,24 @@ fn is_one_given(one: Option<&str>, other: Option<&str>) -> bool
     }
 }
 
-// A running replica has a state, so it is not asked as if there may be none.
-fn asks_for_new(call: &Call<'_>, place: WordsPlace) -> bool
-    ensures { result ≡ asks_for_new place call.now.name
+// A running replica has a state, so it is not asked as if there may be none. It looks for a key
+// that is to be distrusted unless a flag says not to; the command over files only if one says so.
+fn has_stray_flag(call: &Call<'_>, place: WordsPlace) -> bool
+    ensures { result ≡ has_stray_flag place call.now.name
         (map (option_map (λ t. t.now)) call.now.texts.items) }
 {
-    asks_running(call, place) && is_text(given(call, OptionName::New), "true")
+    if asks_running(call, place) {
+        has_flag(call, OptionName::New) || has_flag(call, OptionName::Known)
+    } else {
+        has_flag(call, OptionName::UnknownKey)
+    }
+}
+
+fn has_flag(call: &Call<'_>, flag: OptionName) -> bool
+    ensures { result ≡ has_flag call.now.name
+        (map (option_map (λ t. t.now)) call.now.texts.items) flag }
+{
+    is_text(given(call, flag), "true")
 }
 
 // Whether a running replica is asked.

@@ -48,6 +48,10 @@ pub enum OptionName {
     /// The key of a command that also works without one.
     OptionalKey,
     PublicKey,
+    /// A running replica takes a key that it does not know.
+    UnknownKey,
+    /// The command over files refuses a key that is not known.
+    Known,
     /// The present time of a command that also works without one.
     OptionalNow,
     ExpiresWithin,
@@ -175,6 +179,8 @@ impl OptionName {
             OptionName::Keys => "keys",
             OptionName::OptionalKey => "key",
             OptionName::PublicKey => "public-key",
+            OptionName::UnknownKey => "unknown-key",
+            OptionName::Known => "known",
             OptionName::OptionalNow => "now",
             OptionName::ExpiresWithin => "expires-within",
             OptionName::PeerQuiet => "peer-quiet",
@@ -203,6 +209,8 @@ impl OptionName {
                 | OptionName::New
                 | OptionName::ListenAnywhere
                 | OptionName::Keys
+                | OptionName::UnknownKey
+                | OptionName::Known
                 | OptionName::Sums
         )
     }
@@ -436,12 +444,14 @@ static POLLS: [OptionName; 9] = [
     OptionName::At,
 ];
 
-static DISTRUST: [OptionName; 12] = [
+static DISTRUST: [OptionName; 14] = [
     OptionName::Config,
     OptionName::State,
     OptionName::Domain,
     OptionName::OptionalKey,
     OptionName::PublicKey,
+    OptionName::UnknownKey,
+    OptionName::Known,
     OptionName::DryRun,
     OptionName::New,
     OptionName::Wait,

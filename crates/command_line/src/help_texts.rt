@@ -61,8 +61,9 @@ Reads the configuration, and nothing from standard input.
 
 Writes the state file of a replica that holds nothing, by way of FILE.new and under the
 lock of FILE.lock. Run it once, before a replica runs for the first time: `replica`,
-`report`, `list`, `diff`, `graph`, `status`, `migrate`, `reseed` and `distrust --dry-run`
-refuse a missing state. So a disk that was not mounted is noticed. It prints nothing.
+`report`, `list`, `diff`, `graph`, `status`, `migrate`, `reseed`, and `distrust` with
+--dry-run or --known refuse a missing state. So a disk that was not mounted is noticed. It
+prints nothing.
 
 Ends with 0; with 1 if the configuration is refused, or if a state file or a journal is
 there already, which stays as it is; with 3 if the state is locked.";
@@ -287,10 +288,18 @@ that the key vouches for nothing in the domain any more; at most 4,096 records a
 the number of --most-records, and none is ever taken back. It prints nothing; with
 --verbose it first writes to standard error what the record changes.
 
+With --at a running replica makes the record. It refuses a key that none of the domain's
+bundles lists, held or configured, unless --unknown-key is given; and it prints a line for
+each domain of which documents are not accepted any more, with how many:
+  fell DOMAIN N
+With --known the command over files refuses such a key, too, and a missing state without
+--new.
+
 A key id is that of one certificate. With --public-key in place of --key it makes a record
 for each key of the domain that is known now and whose certificate has this public key, as
-`list --keys` prints it, and prints a line `distrusted KEY_ID` for each. A certificate that
-is issued later for that public key is not refused: `status` warns of it as `same-key`.
+`list --keys` prints it, and prints a line `distrusted KEY_ID` for each. All of them are
+made or none. A certificate that is issued later for that public key is not refused:
+`status` warns of it as `same-key`.
 
 With --dry-run it writes no file, refuses a missing state without --new, and
 writes to standard output what the record would change, domain by domain:
@@ -310,8 +319,9 @@ example since its certificate was issued again; it can still vouch:
   same public key: KEY_ID of DOMAIN in ID
 
 Ends with 0, even if the record was held; with 1 if the domain is not one of the
-configuration, if no known key has the public key, or if anything read is refused. Then
-the state file is as it was.";
+configuration, if the key is not known where it has to be, if no known key has the public
+key, or if anything read is refused. Then no record is made, and the state file is as it
+was.";
 
 const SERVE_NOTES: &str = "\
 Reads the configuration and the state file once, and writes no file. It waits at the
@@ -441,6 +451,8 @@ impl OptionName {
             OptionName::Keys => "",
             OptionName::OptionalKey => "KEY_ID",
             OptionName::PublicKey => "DIGEST",
+            OptionName::UnknownKey => "",
+            OptionName::Known => "",
             OptionName::OptionalNow => "SECONDS",
             OptionName::ExpiresWithin => "DAYS",
             OptionName::PeerQuiet => "SECONDS",
@@ -512,6 +524,9 @@ impl OptionName {
                 "The SHA-256 of an authority's certificate, 64 digits of 0-9 and a-f",
             OptionName::PublicKey =>
                 "The SHA-256 of the public key in certificates, 64 digits of 0-9 and a-f",
+            OptionName::UnknownKey => "Takes a key that no bundle held there lists",
+            OptionName::Known =>
+                "Refuses a key that no bundle held here lists, and a missing state",
             OptionName::OptionalNow =>
                 "The present time, in Unix seconds; a negative one as --now=-5 [that of the clock]",
             OptionName::ExpiresWithin =>
@@ -670,10 +685,10 @@ impl CommandName {
             }
             CommandName::Distrust => {
                 "fedbundle distrust --config <FILE> --state <FILE> --domain <DOMAIN> \
-                --key <KEY_ID> [--dry-run] [--new] [--wait <SECONDS>] [--most-receipts <COUNT>] \
-                [--most-records <COUNT>] [--verbose]\n       \
-                fedbundle distrust --at <PATH> --domain <DOMAIN> --key <KEY_ID> [--dry-run] \
-                [--wait <SECONDS>] [--verbose]\n       \
+                --key <KEY_ID> [--known] [--dry-run] [--new] [--wait <SECONDS>] \
+                [--most-receipts <COUNT>] [--most-records <COUNT>] [--verbose]\n       \
+                fedbundle distrust --at <PATH> --domain <DOMAIN> --key <KEY_ID> [--unknown-key] \
+                [--dry-run] [--wait <SECONDS>] [--verbose]\n       \
                 fedbundle distrust .. --domain <DOMAIN> --public-key <DIGEST> [--wait <SECONDS>] \
                 [--verbose]"
             }

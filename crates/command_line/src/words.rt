@@ -63,7 +63,8 @@ pub(crate) enum WordsPlace {
 /// - [`WordsError::Usage`]: `clap` takes the arguments, and the subcommand or an option that it
 ///   wants is missing, or `--at` is given with one that a running replica has itself,
 /// - [`WordsError::Flawed`]: the path of a file or of a socket is empty, `distrust` has neither a
-///   key nor a public key or has both, or `--at` is given with `--new`,
+///   key nor a public key or has both, `--new` or `--known` is given with `--at`, or
+///   `--unknown-key` without it,
 /// - [`WordsError::NoMemory`]: memory ran out.
 pub fn read_words<'a>(alloc: Global, words: &'a [&'a str]) -> Result<Call<'a>, WordsError<'a>>
     ensures { ReadsWords CommandLine (map (λ w. w.now) words.now) result }
@@ -77,7 +78,7 @@ pub fn read_words<'a>(alloc: Global, words: &'a [&'a str]) -> Result<Call<'a>, W
 ///
 /// # Errors
 /// Those of [`read_words`]; [`WordsError::Usage`] if one of these five is given, and
-/// [`WordsError::Flawed`] if `--new` is, since the replica has a state.
+/// [`WordsError::Flawed`] if `--new` or `--known` is, which are about files.
 pub fn read_request<'a>(alloc: Global, words: &'a [&'a str]) -> Result<Call<'a>, WordsError<'a>>
     ensures { ReadsWords Request (map (λ w. w.now) words.now) result }
 {

@@ -14,14 +14,14 @@ use closure_core::Closure;
 use config_view::write_config_difference;
 use fed_config::Config;
 use fedbundle::{
-    Call, CommandError, CommandName, OptionName, OutputForm, RunError, WordsError, given,
-    is_flag_given, read_output_form, read_sessions, read_status_format, read_words, run_bundle,
-    run_bundle_pem, run_distrust, run_merge, run_migrate, run_observe, run_pull, run_report,
-    run_report_into, run_report_with, run_serve, show_distrust, status, write_fault, write_served,
+    Call, CommandError, CommandName, GivenKeys, OptionName, OutputForm, RunError, WordsError,
+    given, is_flag_given, read_output_form, read_sessions, read_status_format, read_words,
+    run_bundle, run_bundle_pem, run_distrust, run_merge, run_migrate, run_observe, run_pull,
+    run_report, run_report_into, run_report_with, run_serve, show_distrust, status, write_fault,
+    write_served,
 };
 use jwk_set::KeyId;
 use migration::Choice;
-use receipt_core::Distrust;
 use replica_sync::{read_snapshot, write_snapshot};
 use replica_view::write_held_difference;
 use reseeding::{FloorChoice, Reseeded, reseed};
@@ -487,20 +487,20 @@ fn distrust<C: Closure>(
     closure: &mut C,
     devices: &mut Devices,
 ) -> Result<(), CommandError> {
-    let record = record_of(case.alloc, call)?;
+    let keys = keys_of(case.alloc, call)?;
     match shown_of(call) {
         ShownDistrust::Only => {
-            return show_distrust(case.alloc, closure, &record, &mut devices.output);
+            return show_distrust(case.alloc, closure, &keys, &mut devices.output);
         }
         ShownDistrust::Before => {
-            let _ = show_distrust(case.alloc, closure, &record, &mut devices.errors);
+            let _ = show_distrust(case.alloc, closure, &keys, &mut devices.errors);
         }
         ShownDistrust::Not => {}
     }
-    run_distrust(closure, &record.domain, record.key)
+    run_distrust(case.alloc, closure, &keys)
 }
 
-// Whether it is shown what a record changes.
+// Whether it is shown what the record changes.
 #[derive(Clone, Copy)]
 enum ShownDistrust {
     Only,
@@ -518,12 +518,12 @@ fn shown_of(call: &Call<'_>) -> ShownDistrust {
     }
 }
 
-fn record_of(alloc: Global, call: &Call<'_>) -> Result<Distrust, CommandError> {
-    let domain = text_of(call, OptionName::Domain)?;
-    let key = text_of(call, OptionName::Key)?;
-    Ok(Distrust {
-        domain: TrustDomain::read(alloc, domain)?,
-        key: key_of(key),
+fn keys_of(alloc: Global, call: &Call<'_>) -> Result<GivenKeys, CommandError> {
+    let domain = TrustDomain::read(alloc, text_of(call, OptionName::Domain)?)?;
+    let key = key_of(text_of(call, OptionName::Key)?);
+    Ok(GivenKeys {
+        domain,
+        keys: Vec::from_slice(alloc, &[key])?,
     })
 }
 

@@ -3,7 +3,7 @@
 //! The head of the script says what rows there are. A row with the arguments of a command is run
 //! over both closures, with the input in pieces of several sizes, and its lines are printed once if
 //! they are the same each time. Arguments that a running replica answers too are sent to one as a
-//! request, and must have the same outcome.
+//! request, and must have the same outcome, except for the lines that say what fell.
 #![tactic(auto)]
 
 mod commands;

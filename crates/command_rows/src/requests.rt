@@ -127,7 +127,7 @@ fn ask_replica<C: Closure>(
     let before = snapshot(running.alloc, closure)?;
     let line = line_of(running.alloc, call)?;
     let reply = reply_of(running, closure, line.as_str(), input)?;
-    show_reply(&reply, devices)?;
+    show_reply(call, &reply, devices)?;
     let read_back: C = with_journal(running, &reply)?;
     write_snapshot(running.alloc, &read_back, &mut devices.state)?;
     let is_kept = reply.status == 0 && changes(call);
@@ -173,22 +173,42 @@ pub(crate) fn changes(call: &Call<'_>) -> bool {
     }
 }
 
-// A running replica has a state, so it is not asked as if there may be none.
+// A running replica has a state, so it is not asked as if there may be none. A key that is to be
+// distrusted may be unknown to it, as it may be over files.
 fn line_of(alloc: Global, call: &Call<'_>) -> Result<String, AllocError> {
     let words = request_words(alloc, call)?;
-    let texts: Vec<&str> = words
+    let mut texts: Vec<&str> = words
         .iter()
         .map(|word| word.as_str())
         .filter(|word| *word != "--new")
         .collect(alloc)?;
+    if call.name == CommandName::Distrust {
+        texts.push("--unknown-key")?;
+    }
     write_request_words(alloc, texts.as_slice())
 }
 
-fn show_reply(reply: &Reply, devices: &mut Devices) -> Result<(), CommandError> {
-    write_all(&mut devices.output, reply.output.as_slice())?;
+fn show_reply(call: &Call<'_>, reply: &Reply, devices: &mut Devices) -> Result<(), CommandError> {
+    let output = match call.name {
+        CommandName::Distrust => behind_fallen(reply.output.as_slice()),
+        _ => reply.output.as_slice(),
+    };
+    write_all(&mut devices.output, output)?;
     write_all(&mut devices.errors, reply.errors.as_slice())?;
     devices.status = reply.status;
     Ok(())
+}
+
+// Only a running replica says of which domains documents fell, in lines before all others.
+fn behind_fallen(output: &[u8]) -> &[u8] {
+    let mut rest = output;
+    for _ in 0..output.len() {
+        match rest.iter().position(|byte| *byte == b'\n') {
+            Some(feed) if rest.starts_with(b"fell ") => rest = &rest[feed + 1..],
+            _ => break,
+        }
+    }
+    rest
 }
 
 // What the state and the journal say together.

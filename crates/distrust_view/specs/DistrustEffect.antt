@@ -1,4 +1,4 @@
--- What a record of distrust changes, as lines that an operator reads
+-- What records of distrust change, as lines that an operator reads
 use Rattle.std.specs.Prelude.{◌≡◌, ◌↔◌, ℕ, ◌||◌, ◌&&◌, not, Bool, true, false, cond, Contains}
 use Rattle.std.specs.Prelude.{List, [], ◌++◌, map, filter, flat_map, codes, Option, Some, None}
 use Rattle.std.specs.Str.{bytes_eq}
@@ -17,14 +17,15 @@ use Rattle.closure_core.specs.AcceptedList.{document_cmp, document_of}
 use Rattle.bundle_view.specs.Current.{IsCurrent}
 use Rattle.bundle_view.specs.Report.{records_of}
 use Rattle.text_lines.specs.TextLines.{number_or_none}
+use Rattle.distrust_view.specs.declared.given_keys.GivenKeys.{GivenKeys}
 
--- what is held before and after a record is made, and the record
+-- what is held before and after keys are distrusted, and the keys
 pub record DistrustChange : Type 0 where
   pub old : Meaning
   pub new : Meaning
-  pub given : Distrust
+  pub given : GivenKeys
 
-abbrev pub distrust_change : Meaning → Meaning → Distrust → DistrustChange
+abbrev pub distrust_change : Meaning → Meaning → GivenKeys → DistrustChange
 distrust_change old new given = record { old = old; new = new; given = given }
 
 -- ---- documents that fall
@@ -119,8 +120,8 @@ pub record IsDomainEffect (change : DistrustChange) (e : DomainEffect) : Type 0 
   pub after : IsCurrent change.new e.domain e.after
   pub fallen : AreFallen change.old change.new e.domain e.fallen
 
--- it is the record's, or its current document changes
-abbrev pub is_concerned : Distrust → List ℕ → Option Bundle → Option Bundle → Bool
+-- it is that of the keys, or its current document changes
+abbrev pub is_concerned : GivenKeys → List ℕ → Option Bundle → Option Bundle → Bool
 is_concerned given domain before after =
     bytes_eq given.domain domain || not (is_same_current before after)
 
@@ -144,27 +145,28 @@ is_key_of (Some own) key = same_key own key
 abbrev pub lists_key : List Authority → KeyId → Bool
 lists_key authorities key = list_any (λ a. is_key_of (key_id_of a) key) authorities
 
--- the document is of the record's domain and lists its key
-abbrev pub is_about : Distrust → Pair → Bool
-is_about given p =
-    bytes_eq p.domain given.domain && lists_key p.document.authorities given.key
+-- the document is of the domain and lists the key
+abbrev pub is_about : List ℕ → KeyId → Pair → Bool
+is_about domain key p = bytes_eq p.domain domain && lists_key p.document.authorities key
 
--- a configured document, or that of a held receipt, is of the record's domain and lists its key
-abbrev pub is_listed : Meaning → Distrust → Bool
-is_listed m given = list_any (λ s. is_about given (pair_of_seed s)) m.config.seeds
-    || list_any (λ r. is_about given (pair_of r)) m.held
+-- a configured document, or that of a held receipt, is of the domain and lists the key
+abbrev pub is_listed : Meaning → List ℕ → KeyId → Bool
+is_listed m domain key = list_any (λ s. is_about domain key (pair_of_seed s)) m.config.seeds
+    || list_any (λ r. is_about domain key (pair_of r)) m.held
 
-abbrev pub unknown_key_line : Distrust → List ℕ
-unknown_key_line given = codes "warning: no bundle of "
-    ++ (given.domain
-    ++ (codes " that is held lists the key " ++ (encode_lower given.key.0 ++ codes "\n")))
+abbrev pub unknown_key_line : List ℕ → KeyId → List ℕ
+unknown_key_line domain key = codes "warning: no bundle of "
+    ++ (domain ++ (codes " that is held lists the key " ++ (encode_lower key.0 ++ codes "\n")))
 
-abbrev pub warning_text : Meaning → Distrust → List ℕ
-warning_text m given = cond (is_listed m given) [] (unknown_key_line given)
+abbrev pub key_warning : Meaning → List ℕ → KeyId → List ℕ
+key_warning m domain key = cond (is_listed m domain key) [] (unknown_key_line domain key)
+
+abbrev pub warning_text : Meaning → GivenKeys → List ℕ
+warning_text m given = flat_map (key_warning m given.domain) given.keys.items
 
 -- ---- the whole
 
--- what is so of each domain of the configuration, sorted, and then the warning, if there is one
+-- what is so of each domain of the configuration, sorted, and then the warnings, if there are any
 pub record IsEffectText (change : DistrustChange) (text : List ℕ) : Type 0 where
   pub effects : List DomainEffect
   pub domains : AreDomains change.old.config (map (λ e. e.domain) effects)

@@ -1,80 +1,51 @@
 //! What changes, domain after domain.
-ghost use Rattle.std.specs.Prelude.{◌≡◌, ◌++◌, ◌||◌, true, Err, IfOk, OnOk, option_copied};
-ghost use Rattle.byte_lines.specs.Device.{is_source_fault};
-ghost use Rattle.byte_lines.specs.declared.error.DeviceError.TheVariants.{Io, NoMemory};
-ghost use Rattle.text_lines.specs.TextLines.{BeginsSome, WritesSome};
+ghost use Rattle.std.specs.Prelude.{◌≡◌, ◌++◌, IfOk, OnOk, option_copied};
 ghost use Rattle.distrust_view.specs.DistrustEffect.{IsEffectText, change_line, distrust_change};
 ghost use Rattle.distrust_view.specs.DistrustEffect.{document_or_none, is_concerned};
 ghost use Rattle.distrust_view.specs.DistrustEffect.{is_same_current};
 ghost use Rattle.distrust_view.specs.Inside.Effects.{AddsEffect, HasAllEffects};
 
 use crate::fallen::{push_fallen, push_named};
+use crate::given_keys::GivenKeys;
 use crate::keys::push_keys;
-use crate::warning::push_warning;
+use crate::warning::push_warnings;
 use bundle_doc::Document;
 use bundle_view::current;
-use byte_lines::{DeviceError, Sink, write_all};
 use closure_core::Closure;
-use receipt_core::Distrust;
 use spiffe_name::TrustDomain;
 use std::alloc::{AllocError, Global};
 
-/// Writes what a record of distrust changes, from what is held before it is made and after. For
-/// each domain of the configuration, sorted, these lines:
+/// What the records of distrust for these keys change, from what is held before they are
+/// made and after. For each domain of the configuration, sorted, these lines:
 ///
 /// | Line | When |
 /// |---|---|
 /// | `falls <domain> document <id> sequence <n>` | the document is accepted before and not after |
 /// | `current <domain> before <id> sequence <n> after <id> sequence <n>` | the current document
-/// changes, or the domain is the record's; `none` for no document |
+/// changes, or the domain is that of the keys; `none` for no document |
 /// | `gains <domain> key <key id>` | the later current document has the key, the earlier has not |
 /// | `loses <domain> key <key id>` | the other way |
 /// | `lists <domain> key <key id>` | the later one has the key, which is distrusted in the domain |
 /// | `locked-out <domain>` | none of the later one's keys can vouch, or there is no current one |
 ///
 /// The last four come only if the second does. Documents and keys are sorted. At the end comes a
-/// line `warning` if no document of the record's domain that is held, configured or received, has
-/// the record's key. All keys are those of X.509 authorities.
-///
-/// All memory is taken before the first byte is written.
+/// line `warning` for each given key that no document of the domain that is held, configured or
+/// received, has. All keys are those of X.509 authorities.
 ///
 /// # Errors
-/// - [`DeviceError::Io`]: the sink failed, and holds a beginning of the text.
-/// - [`DeviceError::NoMemory`]: memory ran out. Nothing was written.
-pub fn write_distrust_effect<C: Closure, W: Sink>(
+/// Memory ran out.
+pub fn distrust_effect_text<C: Closure>(
     alloc: Global,
     before: &C,
     after: &C,
-    given: &Distrust,
-    sink: &mut W,
-) -> Result<(), DeviceError>
-    ensures ok { OnOk result (WritesSome (IsEffectText
-        (distrust_change (C.state before.now).meaning (C.state after.now).meaning given.now))
-        (W.contents sink.old) (W.contents sink.new)) }
-    ensures io { result ≡ Err Io → (W.has_failed sink.new ≡ true)
-        × BeginsSome (IsEffectText
-        (distrust_change (C.state before.now).meaning (C.state after.now).meaning given.now))
-        (W.contents sink.old) (W.contents sink.new) }
-    ensures memory { result ≡ Err NoMemory → sink.new ≡ sink.old }
-    ensures fault { W.has_failed sink.new ≡ (is_source_fault result || W.has_failed sink.old) }
-{
-    let text = render(alloc, before, after, given)?;
-    write_all(sink, text.as_slice())?;
-    Ok(())
-}
-
-fn render<C: Closure>(
-    alloc: Global,
-    before: &C,
-    after: &C,
-    given: &Distrust,
+    given: &GivenKeys,
 ) -> Result<Vec<u8>, AllocError>
     ensures { IfOk result (λ text. IsEffectText
         (distrust_change (C.state before.now).meaning (C.state after.now).meaning given.now)
         text.items) }
 {
     let mut out = effects_text(alloc, before, after, given)?;
-    push_warning(&mut out, before, given)?;
+    push_warnings(&mut out, before, given)?;
     Ok(out)
 }
 
@@ -82,7 +53,7 @@ fn effects_text<C: Closure>(
     alloc: Global,
     before: &C,
     after: &C,
-    given: &Distrust,
+    given: &GivenKeys,
 ) -> Result<Vec<u8>, AllocError>
     ensures { IfOk result (λ text. HasAllEffects
         (distrust_change (C.state before.now).meaning (C.state after.now).meaning given.now)
@@ -100,7 +71,7 @@ fn push_effect<C: Closure>(
     out: &mut Vec<u8>,
     before: &C,
     after: &C,
-    given: &Distrust,
+    given: &GivenKeys,
     domain: &TrustDomain,
 ) -> Result<(), AllocError>
     ensures { OnOk result (AddsEffect
@@ -118,7 +89,7 @@ fn push_effect<C: Closure>(
 }
 
 fn is_concerned(
-    given: &Distrust,
+    given: &GivenKeys,
     domain: &TrustDomain,
     before: Option<&Document>,
     after: Option<&Document>,

@@ -16,6 +16,7 @@ pub mod Report
 pub mod SameSets
 pub mod Serve
 pub mod Stream
+pub mod SaidKeys
 pub mod SaidValues
 pub mod Shown
 pub mod ShownCommands

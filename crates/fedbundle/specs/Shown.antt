@@ -4,7 +4,6 @@ use Rattle.std.specs.Prelude.{◌≡◌, ◌⊎◌, ℕ, ℤ, List, [], Bool, tr
 use Rattle.std.specs.Prelude.{Result, Ok, Err, IfOk, if◌then◌else◌, option_map}
 use Rattle.spiffe_name.specs.TrustDomain.{IsDomainText, RefusesDomain}
 use Rattle.receipt_core.specs.Acceptance.{Meaning}
-use Rattle.receipt_core.specs.declared.distrust.Distrust.{Distrust}
 use Rattle.bundle_view.specs.Report.{IsReport}
 use Rattle.json_reports.specs.ReportJson.{IsReportJson}
 use Rattle.key_view.specs.KeysText.{IsKeysText}
@@ -39,8 +38,8 @@ use Rattle.command_line.specs.OptionTexts.{SaysFlag, SaysNoOutputForm, SaysNumbe
 use Rattle.fedbundle.specs.OptionValues.{SaysBadMoment, SaysMoment, SaysNoStatusFormat}
 use Rattle.fedbundle.specs.OptionValues.{SaysStatusFormat}
 use Rattle.fedbundle.specs.Polls.{ReadsLog, RefusesLines, RefusesLog, RunsPollsIn, polls_call}
-use Rattle.fedbundle.specs.SaidValues.{EndsAtDomain, EndsAtName, EndsWithout, SaysNoRecord}
-use Rattle.fedbundle.specs.SaidValues.{SaysRecord, texts_of_call}
+use Rattle.fedbundle.specs.SaidKeys.{KeysCall, SaysKeys, SaysNoKeys}
+use Rattle.fedbundle.specs.SaidValues.{EndsAtDomain, EndsAtName, EndsWithout, texts_of_call}
 use Rattle.command_line.specs.declared.option_texts.ExplanationForm.{ExplanationForm}
 use Rattle.command_line.specs.declared.command_name.CommandName.{CommandName}
 use Rattle.command_line.specs.declared.command_name.CommandName.TheVariants as command
@@ -60,6 +59,9 @@ use Rattle.command_line.specs.declared.option_texts.BundleFormat.{BundleFormat}
 use Rattle.command_line.specs.declared.option_texts.BundleFormat.TheVariants.{Json, Pem}
 use Rattle.command_line.specs.declared.option_texts.OutputForm.{OutputForm}
 use Rattle.command_line.specs.declared.option_texts.OutputForm.TheVariants as output
+use Rattle.distrust_view.specs.declared.given_keys.GivenKeys.{GivenKeys}
+use Rattle.fedbundle.specs.declared.said_keys.Keeper.{Keeper}
+use Rattle.fedbundle.specs.declared.said_keys.Keeper.TheVariants.{Files, Replica}
 use Rattle.fedbundle.specs.declared.shown.Shown.{Shown}
 use Rattle.fedbundle.specs.declared.shown_status.StatusLook.{StatusLook}
 
@@ -385,13 +387,26 @@ pub record ShowsStatusSaid (call : ShownCall) (run : CommandRun)
   pub is_limits : SaysLimits call.moment call.name call.texts limits
   pub shows : ShowsSight (shown_said call Polls) (sight_of_call call limits format) run result
 
--- what the record that they say would change
+-- A running replica says something of itself.
+abbrev pub keeper_of : Option RunningStatus → Keeper
+keeper_of None = Files
+keeper_of (Some running) = Replica
+
+abbrev pub keys_shown : ShownCall → KeysCall
+keys_shown call = record {
+  name = call.name;
+  texts = call.texts;
+  keeper = keeper_of call.running;
+  meaning = call.meaning;
+}
+
+-- what would change if the keys that they say were distrusted
 pub record ShowsEffectSaid (call : ShownCall) (sink : DeviceRun)
     (result : Result ℕ Exit) : Type 0 where
-  pub x : Distrust
-  pub says : SaysRecord call.name call.texts x
+  pub given : GivenKeys
+  pub says : SaysKeys (keys_shown call) given
   pub answer : Result (Unit {0}) CommandError
-  pub runs : ShowsDistrust call.meaning x sink answer
+  pub runs : ShowsDistrust call.meaning given sink answer
   pub is : result ≡ exit_if_done answer
 
 -- ---- each command
@@ -425,7 +440,7 @@ ShowsStatus call run result = RefusesUnread (EndsAtStatus call) run result
     ⊎ ShowsStatusSaid call run result
 
 abbrev pub ShowsEffect : ShownCall → DeviceRun → Result ℕ Exit → Type 0
-ShowsEffect call sink result = RefusesUnwritten (SaysNoRecord call.name call.texts) sink result
+ShowsEffect call sink result = RefusesUnwritten (SaysNoKeys (keys_shown call)) sink result
     ⊎ ShowsEffectSaid call sink result
 
 -- The same by the command, of those that write on one sink. Only `explain`, `polls` and `status`

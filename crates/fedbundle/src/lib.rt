@@ -19,6 +19,7 @@ mod option_values;
 mod polls;
 mod pull;
 mod report;
+mod said_keys;
 mod said_values;
 mod serve;
 mod shown;
@@ -42,7 +43,8 @@ pub use command_line::{
     read_request, read_sessions, read_words, wanted,
 };
 pub use counts::write_counted;
-pub use distrust::{run_distrust, show_distrust};
+pub use distrust::{distrusted_text, run_distrust, show_distrust};
+pub use distrust_view::GivenKeys;
 pub use explain::run_explain;
 pub use merge::{run_merge, take_other};
 pub use migrate::run_migrate;
@@ -51,7 +53,8 @@ pub use option_values::{read_moment, read_status_format};
 pub use polls::run_polls_in;
 pub use pull::run_pull;
 pub use report::{run_report, run_report_into, run_report_with};
-pub use said_values::{read_domain, read_record, read_verdict};
+pub use said_keys::{Keeper, read_given_keys};
+pub use said_values::{read_domain, read_verdict};
 pub use serve::{run_serve, write_served};
 pub use shown::{Shown, run_shown};
 pub use shown_config::run_config;

@@ -56,13 +56,8 @@ pub fn read_verdict(alloc: Global, call: &Call<'_>) -> Result<Verdict, Exit>
     Ok(Verdict { endpoint, key })
 }
 
-/// The record of distrust, by `--domain` and `--key`, which are read in this order.
-///
-/// # Errors
-/// - [`Exit::Usage`]: one of them is missing,
-/// - [`Exit::Refused`] with `Name`: `--domain` is not a domain's name, or memory ran out,
-/// - [`Exit::BadKey`]: `--key` is not a key id.
-pub fn read_record(alloc: Global, call: &Call<'_>) -> Result<Distrust, Exit>
+// The record of distrust, by `--domain` and `--key`, which are read in this order.
+pub(crate) fn read_record(alloc: Global, call: &Call<'_>) -> Result<Distrust, Exit>
     ensures says { IfOk result (SaysRecord call.now.name (texts_of_call call.now)) }
     ensures ends { IfErr result (SaysNoRecord call.now.name (texts_of_call call.now)) }
 {

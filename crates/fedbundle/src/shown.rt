@@ -1,7 +1,7 @@
 //! The commands that show what is held or its configuration, by what their arguments say: `config`,
 //! `report`, `list`, `diff`, `graph`, `bundle`, `explain`, `migrate`, `reseed`, `polls`, `status`,
-//! and `distrust` if it only shows what a record would change.
-ghost use Rattle.std.specs.Prelude.{◌≡◌, Ok};
+//! and `distrust` if it only shows what would change.
+ghost use Rattle.std.specs.Prelude.{◌≡◌, Ok, option_map};
 ghost use Rattle.json_reports.specs.ReportJson.{IsReportJson};
 ghost use Rattle.bundle_view.specs.Report.{IsReport};
 ghost use Rattle.fedbundle.specs.CommandRun.{run_of};
@@ -9,7 +9,7 @@ ghost use Rattle.command_exits.specs.DeviceRuns.{device_run};
 ghost use Rattle.fedbundle.specs.CurrentBundle.{RunsBundle, RunsBundlePem};
 ghost use Rattle.fedbundle.specs.Shown.{IsReportIn, RunsWriter, ShowsBy};
 ghost use Rattle.fedbundle.specs.Shown.{ShowsBundle, ShowsEffect, ShowsExplanation, ShowsPolls};
-ghost use Rattle.fedbundle.specs.Shown.{ShowsReport, exit_if_written, polls_form};
+ghost use Rattle.fedbundle.specs.Shown.{ShowsReport, exit_if_written, keeper_of, polls_form};
 ghost use Rattle.fedbundle.specs.Shown.{shown_call};
 ghost use Rattle.fedbundle.specs.ShownCommands.{RunsShown};
 ghost use Rattle.command_line.specs.declared.option_texts.BundleFormat.TheVariants.{Json, Pem};
@@ -19,7 +19,8 @@ use crate::distrust::show_distrust;
 use crate::explain::run_explain;
 use crate::option_values::read_moment;
 use crate::polls::run_polls_in;
-use crate::said_values::{read_domain, read_record};
+use crate::said_keys::{Keeper, read_given_keys};
+use crate::said_values::read_domain;
 use crate::shown_config::run_config;
 use crate::shown_difference::diff;
 use crate::shown_held::{graph, list};
@@ -60,15 +61,16 @@ pub struct Shown<'call, 'words, 'a> {
 /// `explain` and `polls`, and `status` with `--polls`, read the source, to its end or as far as
 /// [`run_explain`] and [`run_polls_in`] say. It has the other configuration for `config` with
 /// `--with` and `migrate` with `--to`, and a snapshot of the other side for `diff`, which all read
-/// it to its end. The others leave it. `distrust` only shows what the record would change, whether
-/// or not the arguments have `--dry-run`.
+/// it to its end. The others leave it. `distrust` only shows what would change, as
+/// [`crate::show_distrust`] does, whether or not the arguments have `--dry-run`.
 ///
 /// # Errors
 /// If the arguments are refused, no device was touched.
 /// - [`Exit::Usage`]: an option is missing or has no form that the command has, or the command is
 ///   another one,
-/// - [`Exit::BadKey`], [`Exit::BadMoment`], [`Exit::BadNumber`]: the text of `--key`, of `--now`,
-///   or of `--expires-within` or `--peer-quiet` is not one,
+/// - [`Exit::BadKey`], [`Exit::BadMoment`], [`Exit::BadNumber`]: the text of `--key` or
+///   `--public-key`, of `--now`, or of `--expires-within` or `--peer-quiet` is not one,
+/// - [`Exit::NoKnownKey`]: `distrust`, as [`crate::read_given_keys`] says,
 /// - [`Exit::NoBundle`]: `bundle`, of a domain that has no current document. Nothing was written.
 /// - [`Exit::NotAccepted`]: `explain`, of a document that is not accepted. Nothing was written.
 /// - [`Exit::Refused`]: `--domain` is not a domain's name, or the error of the command's function.
@@ -270,7 +272,17 @@ fn distrust_effect<C: Closure, W: Sink>(
     ensures { ShowsEffect (shown_call shown.entry (C.state closure.now).meaning)
         (device_run W.contents W.has_failed sink.old sink.new) result }
 {
-    let record = read_record(alloc, shown.call)?;
-    show_distrust(alloc, closure, &record, sink)?;
+    let given = read_given_keys(alloc, closure, shown.call, keeper_of(shown.running))?;
+    show_distrust(alloc, closure, &given, sink)?;
     Ok(0)
+}
+
+// A running replica says something of itself.
+fn keeper_of(running: Option<&RunningStatus<'_>>) -> Keeper
+    ensures { result ≡ keeper_of (option_map (λ r. r.now) running.entry) }
+{
+    match running {
+        Some(_) => Keeper::Replica,
+        None => Keeper::Files,
+    }
 }

@@ -6,7 +6,7 @@ use command_faults::{end_without_call, status_of};
 use command_line::{Call, CommandName, OptionName, WordsError, given, manner_of, read_words};
 use command_streams::options::config_of;
 use command_streams::{print_clap, texts_of, words_of_process};
-use replica_client::{ask_distrust, ask_running};
+use replica_client::ask_running;
 use subcommands::carry_out_here;
 
 /// What the arguments ask for, done: the exit status 0, or 1 if an input was refused and the rest
@@ -33,17 +33,10 @@ fn end_by_words(rt: &HostRuntime, words: &[&str], error: &WordsError<'_>) -> Res
 fn carry_out(rt: &HostRuntime, call: &Call<'_>) -> Result<u8, Exit> {
     let manner = manner_of(call)?;
     if let Some(path) = given(call, OptionName::At) {
-        return ask_at(rt, call, path, manner.wait_seconds);
+        return ask_running(rt, call, path, manner.wait_seconds);
     }
     match call.name {
         CommandName::Replica => replica_settings::run(rt, config_of(rt, call)?, call),
         _ => carry_out_here(rt, call),
-    }
-}
-
-fn ask_at(rt: &HostRuntime, call: &Call<'_>, path: &str, seconds: u64) -> Result<u8, Exit> {
-    match call.name {
-        CommandName::Distrust => ask_distrust(rt, call, path, seconds),
-        _ => ask_running(rt, call, path, seconds),
     }
 }

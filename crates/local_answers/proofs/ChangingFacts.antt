@@ -4,14 +4,14 @@ use Rattle.std.proofs.Common.{inl, inr, Option, Some, Result, Ok, Err, IfErr, If
 use Rattle.std.proofs.Common.{arith}
 use Rattle.std.proofs.lemmas.Bool.{both_ways, cases_lt}
 use Rattle.std.proofs.lemmas.Result.{IfErr-weaker}
-use Rattle.std.specs.Prelude.{◌≢◌, ◌↔◌, ◌≤◌, IsTrue}
+use Rattle.std.specs.Prelude.{◌≢◌, ◌↔◌, ◌≤◌, IsTrue, is_some}
 use Rattle.clap.specs.Words.{IsAmong, fault_of, kind_of}
 use Rattle.clap.specs.declared.error.Error.{Error}
 use Rattle.clap.specs.declared.error.kind.ErrorKind.{ErrorKind}
 use Rattle.clap.specs.declared.error.kind.ErrorKind.TheVariants.{DisplayHelp, DisplayVersion}
 use Rattle.std.specs.declared.alloc.AllocError.{AllocError}
 use Rattle.spiffe_name.specs.TrustDomain.{IsDomainText}
-use Rattle.receipt_core.specs.declared.distrust.Distrust.{Distrust}
+use Rattle.distrust_view.specs.declared.given_keys.GivenKeys.{GivenKeys}
 use Rattle.closure_core.specs.Changes.{HeldAndRoom}
 use Rattle.bundle_view.specs.declared.observation.Verdict.{Verdict}
 use Rattle.replica_core.specs.declared.error.SyncError.{SyncError}
@@ -29,22 +29,25 @@ use Rattle.command_line.specs.declared.words.Call.{Call}
 use Rattle.command_line.specs.declared.words.WordsError.{WordsError}
 use Rattle.command_line.specs.declared.words.WordsError.TheVariants as no_call
 use Rattle.command_line.specs.declared.command_name.CommandName.TheVariants as command
-use Rattle.command_line.specs.declared.command_name.OptionName.TheVariants.{Domain, DryRun, Verbose}
+use Rattle.command_line.specs.declared.command_name.OptionName.TheVariants.{Domain, DryRun, PublicKey, Verbose}
 use Rattle.command_exits.specs.declared.error.CommandError.{CommandError}
 use Rattle.command_exits.specs.declared.error.CommandError.TheVariants.{NoMemory, Observe, Sync, Take}
 use Rattle.command_exits.specs.declared.exits.Exit.{Exit}
 use Rattle.command_exits.specs.declared.exits.Exit.TheVariants.{Refused, Usage}
 use Rattle.request_lines.specs.RequestLines.{SaysWords}
 use Rattle.request_lines.specs.declared.request_error.RequestError.TheVariants as line_error
-use Rattle.local_answers.specs.Journalling.{JournalsChange}
+use Rattle.command_exits.specs.Exits.{exit_of_option, exit_status_of}
+use Rattle.fedbundle.specs.SaidKeys.{SaysKeys}
+use Rattle.local_answers.specs.Journalling.{IsSilent, RepliesChange, ReportsLines}
+use Rattle.local_answers.specs.declared.changing_replies.Sayings.{Sayings}
 use Rattle.local_answers.specs.Replies.{RefusesWordsLine}
-use Rattle.fedbundle.specs.SaidValues.{SaysRecord, SaysVerdict}
+use Rattle.fedbundle.specs.SaidValues.{SaysVerdict}
 use Rattle.local_answers.specs.RequestRun.{Answers, AnswersObserve, AnswersShown, CallRun, ChangeRun, Ends, EndsDistrust, EndsMerge, EndsMergeCall, EndsOver}
 use Rattle.local_answers.specs.RequestRun.{AnswersMerge, IsWithinRoom, exit_of_unread}
 use Rattle.local_answers.specs.RequestRun.{EndsObserve, LeavesRoom}
 use Rattle.local_answers.specs.RequestRun.{HasStreams, IsFlawedRequest, IsNoRequest, IsWith, RepliesByKind, RepliesTo, RepliesToCall, RepliesToError}
 use Rattle.local_answers.specs.RequestRun.{SaysOfWords, is_help}
-use Rattle.local_answers.specs.RequestRun.{SaysDistrusted, SaysFetched, change_run, memory_exit, said}
+use Rattle.local_answers.specs.RequestRun.{SaysDistrusted, SaysFetched, change_run, keys_asked, memory_exit, said}
 use Rattle.local_answers.specs.declared.reply.Reply.{Reply}
 use Rattle.local_answers.specs.declared.request_fault.RequestFault.{RequestFault}
 use Rattle.local_answers.specs.declared.request_fault.RequestFault.TheVariants as request_fault
@@ -53,14 +56,14 @@ use Rattle.local_answers.proofs.RequestFacts.{observe_unmade, same_journalled}
 -- ---- the reply
 
 -- without an output
-pub silent : (reply : Reply) (output errors : List ℕ) (status : ℕ) → output ≡ [] → IsWith reply output errors status → IsWith reply [] errors status
-silent reply output errors status nothing with = subst (λ l. IsWith reply l errors status) nothing with
+pub without_output : (reply : Reply) (output errors : List ℕ) (status : ℕ) → output ≡ [] → IsWith reply output errors status → IsWith reply [] errors status
+without_output reply output errors status nothing with = subst (λ l. IsWith reply l errors status) nothing with
 
 -- an error text, and no output
 pub line_errors_named : (output errors : List ℕ) (result : Result Reply AllocError) → output ≡ [] → IfOk result (λ reply. IsWith reply output errors 2)
     → IfOk result (RepliesByKind false)
 line_errors_named output errors (Ok reply) nothing with =
-    subst (λ l. IsWith reply [] l 2) (sym with.errors) (silent reply output errors 2 nothing with)
+    subst (λ l. IsWith reply [] l 2) (sym with.errors) (without_output reply output errors 2 nothing with)
 line_errors_named output errors (Err e) nothing with = tt
 
 -- an output, and no error text
@@ -108,17 +111,21 @@ pub helps : (kind : ErrorKind) (stated : Bool) → stated ≡ false → (IsTrue 
     → is_help kind ≡ true
 helps kind stated is both = some_help kind (λ neither. both_ways stated is (both.1 neither))
 
--- nothing is journalled for what clap shows
-by_kind_unjournalled : (helps : Bool) (reply : Reply) → RepliesByKind helps reply → reply.journal.items ≡ []
-by_kind_unjournalled true reply with = with.unjournalled
-by_kind_unjournalled false reply with = with.unjournalled
+-- a reply of streams says nothing of a change
+pub silent_with : (reply : Reply) (output errors : List ℕ) (status : ℕ) → IsWith reply output errors status → IsSilent reply
+silent_with reply output errors status with = record { unjournalled = with.unjournalled; unreported = with.unreported }
 
--- nor for arguments that are not a call
-pub error_unjournalled : (error : WordsError) (reply : Reply) → RepliesToError error reply → reply.journal.items ≡ []
-error_unjournalled (no_call.Words e) reply replied = by_kind_unjournalled (is_help (kind_of e)) reply replied
-error_unjournalled no_call.Usage reply ended = ended.2.unjournalled
-error_unjournalled (no_call.Flawed call flaw) reply ended = ended.2.unjournalled
-error_unjournalled no_call.NoMemory reply replied = absurd replied
+-- nor does what clap shows
+by_kind_silent : (helps : Bool) (reply : Reply) → RepliesByKind helps reply → IsSilent reply
+by_kind_silent true reply with = silent_with reply reply.output.items [] 0 with
+by_kind_silent false reply with = silent_with reply [] reply.errors.items 2 with
+
+-- nor what is said to arguments that are not a call
+pub error_silent : (error : WordsError) (reply : Reply) → RepliesToError error reply → IsSilent reply
+error_silent (no_call.Words e) reply replied = by_kind_silent (is_help (kind_of e)) reply replied
+error_silent no_call.Usage reply ended = silent_with reply [] ended.0 (exit_status_of Usage) ended.2
+error_silent (no_call.Flawed call flaw) reply ended = silent_with reply [] ended.0 (exit_status_of (exit_of_option flaw)) ended.2
+error_silent no_call.NoMemory reply replied = absurd replied
 
 -- ---- `observe`
 
@@ -163,17 +170,18 @@ exit_of_sync e other = refl
 
 -- ---- `distrust`
 
--- a record that is refused
-pub distrust_refused : (old new : HeldAndRoom) (x : Distrust) (e : CommandError) → RunsDistrust old.meaning x new.meaning (Err e)
-    → EndsDistrust (state_run old new) x (Refused e)
-distrust_refused old new x (Take why) runs = runs
-distrust_refused old new x e runs = absurd runs
+-- records that are refused
+pub distrust_refused : (old new : HeldAndRoom) (given : GivenKeys) (e : CommandError) → RunsDistrust old.meaning given new.meaning (Err e)
+    → EndsDistrust (state_run old new) given (Refused e)
+distrust_refused old new given (Take why) runs = runs
+distrust_refused old new given NoMemory runs = runs
+distrust_refused old new given e runs = absurd runs
 
 -- however it ends, nothing has changed
-pub distrust_unchanged : (state : StateRun) (x : Distrust) (exit : Exit) → EndsDistrust state x exit → IsAsHeld state
-distrust_unchanged state x (Refused (Take e)) ends = ends.meaning
-distrust_unchanged state x (Refused NoMemory) ends = ends
-distrust_unchanged state x exit ends = absurd ends
+pub distrust_unchanged : (state : StateRun) (given : GivenKeys) (exit : Exit) → EndsDistrust state given exit → IsAsHeld state
+distrust_unchanged state given (Refused (Take e)) ends = ends.same
+distrust_unchanged state given (Refused NoMemory) ends = ends
+distrust_unchanged state given exit ends = absurd ends
 
 -- what a flag's text says
 pub flag_said : (text stated : Option (List ℕ)) (flag value : Bool) → text ≡ stated → SaysFlag text flag → flag ≡ value → SaysFlag stated value
@@ -239,28 +247,34 @@ dry_run_ends run (Err exit) dry (inl anyhow) = inl anyhow
 dry_run_ends run (Err exit) dry (inr ends) = inr (record { dry = true; is_dry = dry; ends = ends })
 
 -- what `distrust` answers, as the answer of its call
-pub distrust_called : (run : CallRun) (x : Distrust) (verbose : Bool) (result : Result Reply Exit) → SaysRecord run.name run.texts x
-    → SaysFlag (said run DryRun) false → SaysFlag (said run Verbose) verbose
-    → IfOk result (λ reply. SaysDistrusted run.change.state x verbose reply) → IfOk result (Answers command.Distrust run)
-distrust_called run x verbose (Ok reply) says lasting flag held = record {
+pub distrust_called : (run : CallRun) (given : GivenKeys) (sayings : Sayings) (result : Result Reply Exit) → SaysKeys (keys_asked run) given
+    → SaysFlag (said run DryRun) false → SaysFlag (said run Verbose) sayings.is_verbose → sayings.names_keys ≡ is_some (said run PublicKey)
+    → IfOk result (λ reply. SaysDistrusted run.change.state given sayings reply) → IfOk result (Answers command.Distrust run)
+distrust_called run given sayings (Ok reply) says lasting flag names held = record {
   dry = false;
   is_dry = lasting;
-  answers = record { x = x; says = says; verbose = verbose; is_verbose = flag; held = held };
+  answers = record { given = given; says = says; sayings = sayings; is_verbose = flag; names_keys = names; held = held };
 }
-distrust_called run x verbose (Err exit) says lasting flag held = tt
+distrust_called run given sayings (Err exit) says lasting flag names held = tt
 
 -- the same for how it ends
-pub distrust_call_ends : (run : CallRun) (x : Distrust) (result : Result Reply Exit) → SaysRecord run.name run.texts x
-    → SaysFlag (said run DryRun) false → IfErr result (EndsDistrust run.change.state x) → IfErr result (Ends command.Distrust run)
-distrust_call_ends run x (Ok reply) says lasting ends = tt
-distrust_call_ends run x (Err exit) says lasting ends =
-    inr (record { dry = false; is_dry = lasting; ends = inr (record { x = x; says = says; ends = ends }) })
+pub distrust_call_ends : (run : CallRun) (given : GivenKeys) (result : Result Reply Exit) → SaysKeys (keys_asked run) given
+    → SaysFlag (said run DryRun) false → IfErr result (EndsDistrust run.change.state given) → IfErr result (Ends command.Distrust run)
+distrust_call_ends run given (Ok reply) says lasting ends = tt
+distrust_call_ends run given (Err exit) says lasting ends =
+    inr (record { dry = false; is_dry = lasting; ends = inr (record { given = given; says = says; ends = ends }) })
 
--- if nothing is journalled and nothing has changed
-pub none_journalled : (state : HeldAndRoom) (result : Result Reply Exit) → IfOk result (λ reply. reply.journal.items ≡ [])
-    → IfOk result (λ reply. JournalsChange reply.journal.items (state_run state state))
-none_journalled state (Ok reply) none = same_journalled state state reply.journal.items none refl
-none_journalled state (Err exit) none = tt
+-- a reply that is silent, if nothing has changed
+pub silent_change : (old new : HeldAndRoom) (reply : Reply) → IsSilent reply → new.meaning ≡ old.meaning → RepliesChange reply (state_run old new)
+silent_change old new reply silent same = record {
+  journals = same_journalled old new reply.journal.items silent.unjournalled same;
+  reports = subst (ReportsLines (state_run old new) reply.journal.items) (sym silent.unreported) silent.unjournalled;
+}
+
+pub none_changed : (state : HeldAndRoom) (result : Result Reply Exit) → IfOk result IsSilent
+    → IfOk result (λ reply. RepliesChange reply (state_run state state))
+none_changed state (Ok reply) silent = silent_change state state reply silent refl
+none_changed state (Err exit) silent = tt
 
 -- ---- requests
 

@@ -1,6 +1,8 @@
 mod PartFacts
 mod NewLineFacts
 mod RequestFacts
+mod ReportFacts
+mod FallenFacts
 mod ShownFacts
 mod CallWordFacts
 mod ChangingFacts

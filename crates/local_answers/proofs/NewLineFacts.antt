@@ -1,6 +1,7 @@
 -- The lines of what is new: which items of another set are not in this one, and what they make with
 -- it.
 use Rattle.std.proofs.Common.{◌≡◌, ℕ, ◌+◌, ◌≤◌, inl, inr, List, [], ◌∷◌, ◌++◌, length, map, flat_map, refl, sym, ap, ◌∙◌, subst, arith}
+use Rattle.std.proofs.Common.{◌<◌, drop, drop-cons, add-one, get_or}
 use Rattle.std.proofs.Common.{append_assoc, append-nil}
 use Rattle.std.specs.declared.cmp.Ordering.{Ordering}
 use Rattle.std.specs.declared.cmp.Ordering.TheVariants.{Less}
@@ -23,8 +24,14 @@ use Rattle.replica_core.specs.declared.entry.Entry.TheVariants.{Record, Receipt 
 use Rattle.replica_texts.specs.Entries.{entry_line}
 use Rattle.replica_texts.specs.SoleLines.{IsWellFormed}
 use Rattle.replica_journal.specs.Journal.{entry_text}
-use Rattle.local_answers.specs.Journalling.{AreLinesOfOther, HoldsEntry, IsLineIfNew}
-use Rattle.local_answers.specs.Inside.NewLineSteps.{AreReceiptLines, AreRecordLines, IsSifted, SiftsReceipts, SiftsRecords}
+use Rattle.jwk_set.specs.declared.authority.KeyId.{KeyId}
+use Rattle.distrust_view.specs.declared.given_keys.GivenKeys.{GivenKeys}
+use Rattle.fedbundle.specs.Distrust.{records_for}
+use Rattle.std.proofs.Common.{Result, Ok, Err, IfOk}
+use Rattle.std.specs.declared.alloc.AllocError.{AllocError}
+use Rattle.local_answers.specs.declared.new_lines.NewKeys.{NewKeys}
+use Rattle.local_answers.specs.Journalling.{AreLinesOfKeys, AreLinesOfOther, HoldsEntry, IsLineIfNew}
+use Rattle.local_answers.specs.Inside.NewLineSteps.{AreReceiptLines, AreRecordLines, IsSifted, SiftsKeys, SiftsReceipts, SiftsRecords, keys_left}
 use Rattle.receipt_core.specs.Limits.{most_receipts}
 use Rattle.receipt_core.proofs.LimitFacts.{receipt_limit-most}
 
@@ -262,6 +269,7 @@ other_lines m other front back text count rs xs e = record {
 pub line_new : (m : Meaning) (entry : Entry) (text : List ℕ) → IsWellFormed entry → (HoldsEntry m entry → ⊥) → text ≡ entry_text entry
     → IsLineIfNew m entry text
 line_new m entry text form lacks is = record {
+  whole = inr is;
   entries = entry ∷ [];
   lines = record { each = (form, tt); fresh = (lacks, tt); spelt = is ∙ sym (append-nil (entry_text entry)) };
   meaning = refl;
@@ -270,11 +278,13 @@ line_new m entry text form lacks is = record {
 -- none, if it is held
 pub line_held : (m : Meaning) (entry : Entry) (text : List ℕ) → IsMeaning m → HoldsEntry m entry → text ≡ [] → IsLineIfNew m entry text
 line_held m (AReceipt r) text is has none = record {
+  whole = inl none;
   entries = [];
   lines = record { each = tt; fresh = tt; spelt = none };
   meaning = sym (ap (λ l. record m { held = l }) (receipt_sets.present r m.held is.rising has));
 }
 line_held m (Record x) text is has none = record {
+  whole = inl none;
   entries = [];
   lines = record { each = tt; fresh = tt; spelt = none };
   meaning = sym (ap (λ l. record m { records = l }) (record_sets.present x m.records is.records_rising has));
@@ -289,3 +299,48 @@ some_bytes (b ∷ line) rest e = cc
 pub no_entries : (entries : List Entry) → [] ≡ flat_map entry_text entries → entries ≡ []
 no_entries [] e = refl
 no_entries (entry ∷ entries) e = absurd (some_bytes (entry_line entry) (flat_map entry_text entries) e)
+
+-- ---- the records for keys
+
+-- the rest of a list begins with the next item
+pub next_left : {X : Type 0} (xs : List X) (k : ℕ) (x : X) → k < length xs → x ≡ get_or xs k x → drop k xs ≡ x ∷ drop (k + 1) xs
+next_left xs k x low is = drop-cons xs k x low ∙ (λ i. sym is i ∷ drop (sym (add-one k) i) xs)
+
+-- a key that is distrusted has no line
+pub key_held : (m : Meaning) (domain : List ℕ) (all rest later : List KeyId) (key : KeyId) (text : List ℕ) (new : List KeyId)
+    → IsMeaning m → rest ≡ key ∷ later → Contains m.records (record { domain = domain; key = key })
+    → SiftsKeys m (keys_left domain all rest) text new → SiftsKeys m (keys_left domain all later) text new
+key_held m domain all rest later key text new is e has so_far =
+    let x : Distrust = record { domain = domain; key = key } in
+    let front = records_for domain new in
+    let kept : Contains (with_items distrust_cmp front m.records) x = with_items_keeps record_sets.total front m.records x has in
+    let same : with_item distrust_cmp x (with_items distrust_cmp front m.records) ≡ with_items distrust_cmp front m.records =
+    record_sets.present x (with_items distrust_cmp front m.records) (record_sets.all_rise front m.records is.records_rising) kept in
+    let split : (ks : List KeyId) → with_items distrust_cmp (records_for domain (new ++ ks)) m.records
+    ≡ with_items distrust_cmp (records_for domain ks) (with_items distrust_cmp front m.records) =
+    λ ks. ap (λ l. with_items distrust_cmp l m.records) (map-append (λ (k : KeyId). record { domain = domain; key = k }) new ks)
+    ∙ with_items_append distrust_cmp front (records_for domain ks) m.records in
+    record {
+      joined = split later ∙ sym (ap (with_items distrust_cmp (records_for domain later)) same) ∙ sym (split (key ∷ later))
+          ∙ sym (ap (λ (ks : List KeyId). with_items distrust_cmp (records_for domain (new ++ ks)) m.records) e) ∙ so_far.joined;
+      lines = so_far.lines;
+    }
+
+-- when nothing is left
+keys_end : (m : Meaning) (given : GivenKeys) (text : List ℕ) (new : List KeyId)
+    → SiftsKeys m (keys_left given.domain given.keys.items []) text new → AreLinesOfKeys m given text new
+keys_end m given text new so_far = record {
+  lines = so_far.lines;
+  all = entries_records (records_for given.domain new) m
+      ∙ ap (λ (l : List Distrust). record m { records = l }) (
+      sym (ap (λ (ks : List KeyId). with_items distrust_cmp (records_for given.domain ks) m.records) (append-nil new)) ∙ so_far.joined
+      );
+}
+
+-- the same for what a call gives
+pub lines_ended : (m : Meaning) (given : GivenKeys) (all : List KeyId) (result : Result NewKeys AllocError) → all ≡ given.keys.items
+    → IfOk result (λ new. SiftsKeys m (keys_left given.domain all []) new.text.items new.keys.items)
+    → IfOk result (λ new. AreLinesOfKeys m given new.text.items new.keys.items)
+lines_ended m given all (Ok new) is so_far = keys_end m given new.text.items new.keys.items
+    (subst (λ (ks : List KeyId). SiftsKeys m (keys_left given.domain ks []) new.text.items new.keys.items) is so_far)
+lines_ended m given all (Err e) is so_far = tt

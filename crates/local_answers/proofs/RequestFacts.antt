@@ -1,24 +1,19 @@
 -- What a command's function answers over memory, as what is replied.
-use Rattle.std.proofs.Common.{◌≡◌, ℕ, inl, inr, List, [], ◌∷◌, refl, sym, ap, ◌∙◌, arith, false, Some}
-use Rattle.std.specs.List.{Contains}
+use Rattle.std.proofs.Common.{◌≡◌, ℕ, List, [], ◌∷◌, refl, sym, ap, ◌∙◌, arith, false, Some}
 use Rattle.std.specs.Io.KnownBytes.{IsAtEnd}
-use Rattle.receipt_core.specs.Acceptance.{Meaning, IsMeaning}
-use Rattle.receipt_core.specs.declared.distrust.Distrust.{Distrust}
+use Rattle.receipt_core.specs.Acceptance.{Meaning}
 use Rattle.receipt_core.specs.Receipt.{Receipt}
 use Rattle.closure_core.specs.Changes.{HeldAndRoom, HasMergedInRoom, HasRefusedMerge, IsUnchanged}
 use Rattle.closure_core.specs.declared.error.TakeError.{TakeError}
-use Rattle.closure_core.proofs.UnionFacts.{record_sets}
 use Rattle.bundle_view.specs.Observe.{HasNotObserved, HasObserved}
 use Rattle.bundle_view.specs.declared.observe_error.ObserveError.{ObserveError}
 use Rattle.replica_core.specs.Absorbing.{with_entries}
 use Rattle.replica_core.specs.declared.entry.Entry.{Entry}
-use Rattle.replica_core.specs.declared.entry.Entry.TheVariants.{Record}
 use Rattle.replica_core.specs.declared.error.SyncError.{SyncError}
 use Rattle.replica_core.specs.declared.error.SyncError.TheVariants.{Io as StreamFailed}
 use Rattle.replica_texts.specs.Snapshots.{IsSnapshot, RefusesSnapshot}
 use Rattle.fedbundle.specs.CommandRun.{run_of, state_run}
 use Rattle.command_exits.specs.DeviceRuns.{DeviceRun, HasFailed}
-use Rattle.fedbundle.specs.Distrust.{HoldsRecord}
 use Rattle.fedbundle.specs.Explain.{receipt_line}
 use Rattle.fedbundle.specs.Merge.{count_text}
 use Rattle.fedbundle.specs.Observe.{Fetched, MakesReceipt, RefusesToMake, fetched_bundle}
@@ -44,17 +39,6 @@ merge_journals old new other text receipts count lines merged =
 -- the same, if what is held is the same
 pub same_journalled : (old new : HeldAndRoom) (text : List ℕ) → text ≡ [] → new.meaning ≡ old.meaning → JournalsChange text (state_run old new)
 same_journalled old new text none same = record { entries = []; lines = record { each = tt; fresh = tt; spelt = none }; meaning = same }
-
--- a record that is held, as an entry, changes nothing
-present_record : (m : Meaning) (x : Distrust) → IsMeaning m → Contains m.records x → with_entries (Record x ∷ []) m ≡ m
-present_record m x is has = ap (λ l. record m { records = l }) (record_sets.present x m.records is.records_rising has)
-
--- the line of a record that is held now
-pub distrust_journals : (old new : HeldAndRoom) (x : Distrust) (text : List ℕ) → IsMeaning old.meaning → IsLineIfNew old.meaning (Record x) text
-    → HoldsRecord old.meaning x new.meaning → JournalsChange text (state_run old new)
-distrust_journals old new x text is line (inl made) = entry_journals old new (Record x) text line made.1.meaning
-distrust_journals old new x text is line (inr already) =
-    entry_journals old new (Record x) text line (already.meaning ∙ sym (present_record old.meaning x is already.held))
 
 -- ---- commands that change what is held
 

@@ -2,7 +2,7 @@
 use Rattle.std.proofs.Common.{◌≡◌, inl, inr, ℕ, ℤ, Bool, List, [], ◌++◌, length, Option, Some, None, Ok, Err, Result, IfErr, IfOk}
 use Rattle.std.proofs.Common.{true, false, refl, sym, ap, ◌∙◌, subst}
 use Rattle.receipt_core.specs.Acceptance.{Meaning}
-use Rattle.receipt_core.specs.declared.distrust.Distrust.{Distrust}
+use Rattle.distrust_view.specs.declared.given_keys.GivenKeys.{GivenKeys}
 use Rattle.fedbundle.specs.CommandRun.{CommandRun, WritesNothing}
 use Rattle.command_exits.specs.DeviceRuns.{DeviceRun}
 use Rattle.fedbundle.specs.CurrentBundle.{RunsBundle, RunsBundlePem}
@@ -107,14 +107,14 @@ moments_unwritten form m now run (Err NoMemory) exit runs is sound = runs
 moments_unwritten form m now run (Err (Poll why)) exit runs is sound = runs.unwritten
 moments_unwritten form m now run (Err e) exit runs is sound = absurd runs
 
--- of what a record would change
-effect_unwritten : (m : Meaning) (x : Distrust) (sink : DeviceRun) (answer : Result (Unit {0}) CommandError) (exit : Exit)
-    → ShowsDistrust m x sink answer → Err exit ≡ exit_if_done answer → (exit ≡ Refused Io → ⊥) → WritesNothing sink
-effect_unwritten m x sink (Ok v) exit runs is sound = let no : ⊥ = cc in absurd no
-effect_unwritten m x sink (Err Io) exit runs is sound = let same : exit ≡ Refused Io = cc in absurd (sound same)
-effect_unwritten m x sink (Err NoMemory) exit runs is sound = runs
-effect_unwritten m x sink (Err (Take why)) exit runs is sound = runs.unwritten
-effect_unwritten m x sink (Err e) exit runs is sound = absurd runs
+-- of what distrusted keys would change
+effect_unwritten : (m : Meaning) (given : GivenKeys) (sink : DeviceRun) (answer : Result (Unit {0}) CommandError) (exit : Exit)
+    → ShowsDistrust m given sink answer → Err exit ≡ exit_if_done answer → (exit ≡ Refused Io → ⊥) → WritesNothing sink
+effect_unwritten m given sink (Ok v) exit runs is sound = let no : ⊥ = cc in absurd no
+effect_unwritten m given sink (Err Io) exit runs is sound = let same : exit ≡ Refused Io = cc in absurd (sound same)
+effect_unwritten m given sink (Err NoMemory) exit runs is sound = runs
+effect_unwritten m given sink (Err (Take why)) exit runs is sound = runs.unwritten
+effect_unwritten m given sink (Err e) exit runs is sound = absurd runs
 
 -- of a command, whether its arguments are refused or its function ends
 report_unwritten : (call : ShownCall) (sink : DeviceRun) (exit : Exit) → ShowsReport call sink (Err exit) → (exit ≡ Refused Io → ⊥) → WritesNothing sink
@@ -164,7 +164,7 @@ effect_call_unwritten : (call : ShownCall) (sink : DeviceRun) (exit : Exit) → 
     → WritesNothing sink
 effect_call_unwritten call sink exit (inl refused) sound = refused.unwritten.0
 effect_call_unwritten call sink exit (inr shows) sound =
-    effect_unwritten call.meaning shows.x sink shows.answer exit shows.runs shows.is sound
+    effect_unwritten call.meaning shows.given sink shows.answer exit shows.runs shows.is sound
 
 -- of `polls`
 polls_unwritten : (call : ShownCall) (run : CommandRun) (exit : Exit) → ShowsPolls call run (Err exit) → (exit ≡ Refused Io → ⊥)

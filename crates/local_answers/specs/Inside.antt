@@ -1,2 +1,3 @@
 pub mod AskedRun
 pub mod NewLineSteps
+pub mod ReplySteps

@@ -3,6 +3,7 @@ pub mod RequestBytes
 pub mod RequestWords
 pub mod Replies
 pub mod Sending
+pub mod Fallen
 pub mod Journalling
 pub mod ChangeEvents
 pub mod RequestRun

@@ -1,21 +1,24 @@
 -- What comes of a request, in terms of the command's function over files: its source has the input,
 -- and its sink, which held nothing, holds the output.
-use Rattle.std.specs.Prelude.{◌≡◌, ◌⊎◌, ℕ, List, [], Bool, true, false, Option, Some}
-use Rattle.std.specs.Prelude.{Result, Ok, Err, ◌+◌, ◌-◌, ◌^◌, ◌<◌, ◌≤◌, length, codes, min}
+use Rattle.std.specs.Prelude.{◌≡◌, ◌⊎◌, ℕ, List, [], ◌++◌, Bool, true, false, Option, None, Some}
+use Rattle.std.specs.Prelude.{is_some}
+use Rattle.std.specs.Prelude.{Ok, Err, ◌+◌, ◌-◌, ◌^◌, ◌<◌, ◌≤◌, length, codes, min}
 use Rattle.clap.specs.Words.{IsAmong, fault_of, kind_of}
 use Rattle.clap.specs.declared.error.kind.ErrorKind.{ErrorKind}
 use Rattle.clap.specs.declared.error.kind.ErrorKind.TheVariants.{DisplayHelp, DisplayVersion}
 use Rattle.spiffe_name.specs.TrustDomain.{IsDomainText}
 use Rattle.receipt_core.specs.Acceptance.{Meaning}
-use Rattle.receipt_core.specs.declared.distrust.Distrust.{Distrust}
+use Rattle.distrust_view.specs.declared.given_keys.GivenKeys.{GivenKeys}
 use Rattle.fedbundle.specs.CommandRun.{CommandRun, StateRun}
 use Rattle.command_exits.specs.DeviceRuns.{DeviceRun}
-use Rattle.fedbundle.specs.Distrust.{HoldsRecord, RunsDistrust, ShowsDistrust}
+use Rattle.fedbundle.specs.Distrust.{RunsDistrust, ShowsDistrust, given_key_lines}
+use Rattle.fedbundle.specs.Distrust.{with_distrusted}
+use Rattle.fedbundle.specs.SaidKeys.{KeysCall, SaysKeys, SaysNoKeys}
+use Rattle.fedbundle.specs.declared.said_keys.Keeper.TheVariants.{Replica}
 use Rattle.fedbundle.specs.Merge.{RunsMerge}
 use Rattle.fedbundle.specs.Observe.{Fetched, IsAsHeld, RunsObserve}
 use Rattle.command_line.specs.OptionTexts.{SaysFlag, SaysManner, SaysNoManner, option_said}
-use Rattle.fedbundle.specs.SaidValues.{EndsAtDomain, SaysNoRecord, SaysNoVerdict, SaysRecord}
-use Rattle.fedbundle.specs.SaidValues.{SaysVerdict}
+use Rattle.fedbundle.specs.SaidValues.{EndsAtDomain, SaysNoVerdict, SaysVerdict}
 use Rattle.fedbundle.specs.Shown.{ShownCall}
 use Rattle.fedbundle.specs.ShownCommands.{RunsShown}
 use Rattle.command_exits.specs.Exits.{IsExitLine, exit_of_option, exit_status_of}
@@ -25,6 +28,7 @@ use Rattle.command_line.specs.declared.command_name.CommandName.{CommandName}
 use Rattle.command_line.specs.declared.command_name.CommandName.TheVariants as command
 use Rattle.command_line.specs.declared.command_name.OptionName.{OptionName}
 use Rattle.command_line.specs.declared.command_name.OptionName.TheVariants.{Domain, DryRun, Verbose}
+use Rattle.command_line.specs.declared.command_name.OptionName.TheVariants.{PublicKey}
 use Rattle.command_line.specs.declared.option_error.OptionError.{OptionError}
 use Rattle.command_line.specs.declared.option_error.OptionError.TheVariants as unread
 use Rattle.command_line.specs.declared.option_texts.Manner.{Manner}
@@ -40,7 +44,10 @@ use Rattle.command_exits.specs.declared.exits.Exit.TheVariants.{BadNumber, Refus
 use Rattle.command_exits.specs.declared.exits.Exit.TheVariants.{Usage}
 use Rattle.request_lines.specs.RequestLines.{SaysWords}
 use Rattle.status_view.specs.declared.running.RunningStatus.{RunningStatus}
+use Rattle.local_answers.specs.Fallen.{AreAcceptedCounts, SaysFell}
 use Rattle.local_answers.specs.Replies.{first_line}
+use Rattle.local_answers.specs.declared.fallen_counts.DomainCount.{DomainCount}
+use Rattle.local_answers.specs.declared.changing_replies.Sayings.{Sayings}
 use Rattle.local_answers.specs.declared.reply.Reply.{Reply}
 
 -- ---- memory as devices
@@ -123,12 +130,12 @@ abbrev pub exit_of_unread : SyncError → Exit
 exit_of_unread StreamFailed = Refused NoMemory
 exit_of_unread why = Refused (Sync why)
 
--- The record is refused.
-abbrev pub EndsDistrust : StateRun → Distrust → Exit → Type 0
-EndsDistrust state x (Refused (Take e)) =
-    RunsDistrust state.old.meaning x state.new.meaning (Err (Take e))
-EndsDistrust state x (Refused NoMemory) = IsAsHeld state
-EndsDistrust state x exit = ⊥
+-- The records are refused.
+abbrev pub EndsDistrust : StateRun → GivenKeys → Exit → Type 0
+EndsDistrust state given (Refused (Take e)) =
+    RunsDistrust state.old.meaning given state.new.meaning (Err (Take e))
+EndsDistrust state given (Refused NoMemory) = IsAsHeld state
+EndsDistrust state given exit = ⊥
 
 -- ---- the reply
 
@@ -140,6 +147,7 @@ pub record IsWith (reply : Reply) (text with_it : List ℕ) (exit : ℕ) : Type 
   pub errors : reply.errors.items ≡ with_it
   pub status : reply.status ≡ exit
   pub unjournalled : reply.journal.items ≡ []
+  pub unreported : reply.change ≡ None
   pub continues : reply.ends ≡ false
 
 -- The command is done: its output, and what is on standard error.
@@ -160,24 +168,46 @@ pub record HasStreams (Answers : List ℕ → Type 0) (reply : Reply) : Type 0 w
 abbrev pub unsaid_line : List ℕ
 unsaid_line = codes "fedbundle: no memory to say what changes\n"
 
--- What a record of distrust changes, if that is asked for: all of it, or that there is no memory
+-- What distrusting the keys changes, if that is asked for: all of it, or that there is no memory
 -- to say it.
-abbrev pub SaysEffect : Meaning → Distrust → Bool → List ℕ → Type 0
-SaysEffect m x true errors = GivesInto (λ sink. ShowsDistrust m x sink (Ok tt)) errors
+abbrev pub SaysEffect : Meaning → GivenKeys → Bool → List ℕ → Type 0
+SaysEffect m given true errors = GivesInto (λ sink. ShowsDistrust m given sink (Ok tt)) errors
     ⊎ (errors ≡ unsaid_line)
-SaysEffect m x false errors = errors ≡ []
+SaysEffect m given false errors = errors ≡ []
 
--- The record is held, nothing is on standard output, and what was asked for is on standard error.
-pub record SaysDistrusted (state : StateRun) (x : Distrust) (is_verbose : Bool)
-    (reply : Reply) : Type 0 where
-  pub errors : List ℕ
-  pub said : SaysEffect state.old.meaning x is_verbose errors
-  pub held : HoldsRecord state.old.meaning x state.new.meaning
-  pub head : reply.head.items ≡ first_line [] errors 0
-  pub output : reply.output.items ≡ []
+-- These streams and the status 0, whatever is journalled; the replica continues.
+pub record HasBoth (reply : Reply) (output errors : List ℕ) : Type 0 where
+  pub head : reply.head.items ≡ first_line output errors 0
+  pub is_output : reply.output.items ≡ output
   pub is_errors : reply.errors.items ≡ errors
   pub status : reply.status ≡ 0
   pub continues : reply.ends ≡ false
+
+-- what is said if there is no memory to say what fell
+abbrev pub unsaid_fall : List ℕ
+unsaid_fall = codes "fedbundle: no memory to say what fell\n"
+
+-- the keys, if that is to be said
+abbrev pub named_keys : GivenKeys → (names_keys : Bool) → List ℕ
+named_keys given true = given_key_lines given
+named_keys given false = []
+
+-- Which keys they are and what they change, as far as that was asked for, and what fell.
+pub record SaysAll (state : StateRun) (given : GivenKeys) (sayings : Sayings)
+    (reply : Reply) : Type 0 where
+  pub errors : List ℕ
+  pub said : SaysEffect state.old.meaning given sayings.is_verbose errors
+  pub before : List DomainCount
+  pub counted : AreAcceptedCounts state.old.meaning before
+  pub fell : List ℕ
+  pub is_fell : SaysFell state.new.meaning before fell
+  pub has : HasBoth reply (named_keys given sayings.names_keys ++ fell) errors
+
+-- The keys are distrusted, and that is said, or only that there is no memory to say it.
+pub record SaysDistrusted (state : StateRun) (given : GivenKeys) (sayings : Sayings)
+    (reply : Reply) : Type 0 where
+  pub held : state.new.meaning ≡ with_distrusted given state.old.meaning
+  pub says : SaysAll state given sayings reply ⊎ HasBoth reply [] unsaid_fall
 
 -- The command ended so: nothing but the line that says why.
 abbrev pub IsEnded : Reply → Exit → Type 0
@@ -271,16 +301,26 @@ pub record AnswersMergeCall (run : CallRun) (reply : Reply) : Type 0 where
   pub within : IsWithinRoom run
   pub answers : HasStreams (AnswersMerge run.change) reply
 
--- The record that the arguments say is held, and what it changes is on standard error if they have
--- `--verbose`.
-pub record HoldsAsSaid (run : CallRun) (reply : Reply) : Type 0 where
-  pub x : Distrust
-  pub says : SaysRecord run.name run.texts x
-  pub verbose : Bool
-  pub is_verbose : SaysFlag (said run Verbose) verbose
-  pub held : SaysDistrusted run.change.state x verbose reply
+-- the arguments of a call at a replica
+abbrev pub keys_asked : CallRun → KeysCall
+keys_asked run = record {
+  name = run.name;
+  texts = run.texts;
+  keeper = Replica;
+  meaning = run.change.state.old.meaning;
+}
 
--- What a record would change if the arguments have `--dry-run`; otherwise it is held.
+-- The keys that the arguments say are distrusted, and what that changes is on standard error if
+-- they have `--verbose`.
+pub record HoldsAsSaid (run : CallRun) (reply : Reply) : Type 0 where
+  pub given : GivenKeys
+  pub says : SaysKeys (keys_asked run) given
+  pub sayings : Sayings
+  pub is_verbose : SaysFlag (said run Verbose) sayings.is_verbose
+  pub names_keys : sayings.names_keys ≡ is_some (said run PublicKey)
+  pub held : SaysDistrusted run.change.state given sayings reply
+
+-- What would change if the arguments have `--dry-run`; otherwise the keys are distrusted.
 abbrev pub AnswersRecord : (is_dry : Bool) → CallRun → Reply → Type 0
 AnswersRecord true run reply = AnswersShown run reply
 AnswersRecord false run reply = HoldsAsSaid run reply
@@ -339,16 +379,16 @@ pub record EndsObserveCall (run : CallRun) (exit : Exit) : Type 0 where
   pub says : SaysFetched run fetched
   pub ends : EndsObserve run.change fetched exit
 
--- The record that the arguments say is refused.
+-- The records for the keys that the arguments say are refused.
 pub record EndsLasting (run : CallRun) (exit : Exit) : Type 0 where
-  pub x : Distrust
-  pub says : SaysRecord run.name run.texts x
-  pub ends : EndsDistrust run.change.state x exit
+  pub given : GivenKeys
+  pub says : SaysKeys (keys_asked run) given
+  pub ends : EndsDistrust run.change.state given exit
 
--- They say none, or it is refused; nothing has changed.
+-- They say none, or they are refused; nothing has changed.
 abbrev pub EndsRecord : (is_dry : Bool) → CallRun → Exit → Type 0
 EndsRecord true run exit = EndsShown run exit
-EndsRecord false run exit = SaysNoRecord run.name run.texts exit ⊎ EndsLasting run exit
+EndsRecord false run exit = SaysNoKeys (keys_asked run) exit ⊎ EndsLasting run exit
 
 -- `distrust` ends, and nothing has changed
 pub record EndsDistrustCall (run : CallRun) (exit : Exit) : Type 0 where

@@ -3,7 +3,7 @@ ghost use Rattle.std.specs.Prelude.{◌≡◌, IfErr, IfOk, OnErr, map, string_b
 ghost use Rattle.fedbundle.specs.CommandRun.{state_run};
 ghost use Rattle.command_exits.specs.Exits.{exit_of_option};
 ghost use Rattle.local_answers.specs.Inside.AskedRun.{run_of_asked};
-ghost use Rattle.local_answers.specs.Journalling.{JournalsChange};
+ghost use Rattle.local_answers.specs.Journalling.{RepliesChange};
 ghost use Rattle.local_answers.specs.Replies.{RefusesWordsLine};
 ghost use Rattle.local_answers.specs.RequestRun.{Answers, Ends, IsEnded, RepliesTo, RepliesToCall};
 ghost use Rattle.local_answers.specs.RequestRun.{RepliesByKind, RepliesToError, bytes_of_files};
@@ -44,7 +44,7 @@ pub fn answer_request<C: Closure>(
 ) -> Result<Reply, RequestFault>
     ensures answers { IfOk result (RepliesTo words.now running.now
         (change_run (state_run (C.state closure.old) (C.state closure.new)) input.now)) }
-    ensures journals { IfOk result (λ reply. JournalsChange reply.journal.items
+    ensures journals { IfOk result (λ reply. RepliesChange reply
         (state_run (C.state closure.old) (C.state closure.new))) }
     ensures fault { IfErr result (RefusesWordsLine words.now) }
     ensures unchanged { OnErr result
@@ -112,7 +112,7 @@ fn answer_call<C: Closure>(
 ) -> Result<Reply, RequestFault>
     ensures answers { IfOk result (RepliesToCall
         (run_of_asked asked.entry (state_run (C.state closure.old) (C.state closure.new)))) }
-    ensures journals { IfOk result (λ reply. JournalsChange reply.journal.items
+    ensures journals { IfOk result (λ reply. RepliesChange reply
         (state_run (C.state closure.old) (C.state closure.new))) }
     ensures memory { IfErr result (λ fault. fault ≡ NoMemory) }
     ensures unchanged { OnErr result
@@ -133,7 +133,7 @@ fn carry_out<C: Closure>(
         (run_of_asked asked.entry (state_run (C.state closure.old) (C.state closure.new)))) }
     ensures ends { IfErr result (Ends asked.entry.call.now.name
         (run_of_asked asked.entry (state_run (C.state closure.old) (C.state closure.new)))) }
-    ensures journals { IfOk result (λ reply. JournalsChange reply.journal.items
+    ensures journals { IfOk result (λ reply. RepliesChange reply
         (state_run (C.state closure.old) (C.state closure.new))) }
     ensures unchanged { OnErr result
         ((C.state closure.new).meaning ≡ (C.state closure.old).meaning) }

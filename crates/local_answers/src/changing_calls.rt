@@ -3,18 +3,18 @@ ghost use Rattle.std.specs.Prelude.{◌≡◌, ◌↔◌, ◌≤◌, IfErr, IfOk
 ghost use Rattle.fedbundle.specs.CommandRun.{state_run};
 ghost use Rattle.command_line.specs.declared.command_name.CommandName.TheVariants as command;
 ghost use Rattle.local_answers.specs.Inside.AskedRun.{run_of_asked};
-ghost use Rattle.local_answers.specs.Journalling.{JournalsChange};
+ghost use Rattle.local_answers.specs.Journalling.{RepliesChange};
 ghost use Rattle.fedbundle.specs.SaidValues.{texts_of_call};
 ghost use Rattle.local_answers.specs.RequestRun.{Answers, Ends, LeavesRoom};
 
 use crate::asked::Asked;
-use crate::changing_replies;
+use crate::changing_replies::{self, Sayings};
 use crate::reply::Reply;
 use crate::shown_calls::shown;
 use closure_core::Closure;
 use command_exits::Exit;
 use command_line::{OptionName, given, is_flag_given, wanted};
-use fedbundle::{read_domain, read_record, read_verdict};
+use fedbundle::{Keeper, read_domain, read_given_keys, read_verdict};
 use std::alloc::Global;
 
 pub(crate) fn observe<C: Closure>(
@@ -26,7 +26,7 @@ pub(crate) fn observe<C: Closure>(
         (run_of_asked asked.entry (state_run (C.state closure.old) (C.state closure.new)))) }
     ensures ends { IfErr result (Ends command.Observe
         (run_of_asked asked.entry (state_run (C.state closure.old) (C.state closure.new)))) }
-    ensures journals { IfOk result (λ reply. JournalsChange reply.journal.items
+    ensures journals { IfOk result (λ reply. RepliesChange reply
         (state_run (C.state closure.old) (C.state closure.new))) }
     ensures unchanged { OnErr result
         ((C.state closure.new).meaning ≡ (C.state closure.old).meaning) }
@@ -49,7 +49,7 @@ pub(crate) fn merge<C: Closure>(
         (run_of_asked asked.entry (state_run (C.state closure.old) (C.state closure.new)))) }
     ensures ends { IfErr result (Ends command.Merge
         (run_of_asked asked.entry (state_run (C.state closure.old) (C.state closure.new)))) }
-    ensures journals { IfOk result (λ reply. JournalsChange reply.journal.items
+    ensures journals { IfOk result (λ reply. RepliesChange reply
         (state_run (C.state closure.old) (C.state closure.new))) }
     ensures unchanged { OnErr result
         ((C.state closure.new).meaning ≡ (C.state closure.old).meaning) }
@@ -76,7 +76,7 @@ pub(crate) fn distrust<C: Closure>(
         (run_of_asked asked.entry (state_run (C.state closure.old) (C.state closure.new)))) }
     ensures ends { IfErr result (Ends command.Distrust
         (run_of_asked asked.entry (state_run (C.state closure.old) (C.state closure.new)))) }
-    ensures journals { IfOk result (λ reply. JournalsChange reply.journal.items
+    ensures journals { IfOk result (λ reply. RepliesChange reply
         (state_run (C.state closure.old) (C.state closure.new))) }
     ensures unchanged { OnErr result
         ((C.state closure.new).meaning ≡ (C.state closure.old).meaning) }
@@ -84,8 +84,11 @@ pub(crate) fn distrust<C: Closure>(
     if is_flag_given(given(asked.call, OptionName::DryRun)) {
         shown(alloc, closure, asked)
     } else {
-        let record = read_record(alloc, asked.call)?;
-        let is_verbose = is_flag_given(given(asked.call, OptionName::Verbose));
-        changing_replies::distrust(alloc, closure, &record, is_verbose)
+        let keys = read_given_keys(alloc, closure, asked.call, Keeper::Replica)?;
+        let sayings = Sayings {
+            is_verbose: is_flag_given(given(asked.call, OptionName::Verbose)),
+            names_keys: given(asked.call, OptionName::PublicKey).is_some(),
+        };
+        changing_replies::distrust(alloc, closure, keys, sayings)
     }
 }

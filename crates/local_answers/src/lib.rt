@@ -17,6 +17,7 @@ mod call_words;
 mod carrying_out;
 mod changing_calls;
 mod changing_replies;
+mod fallen_counts;
 pub mod laws;
 mod looking;
 mod new_lines;

@@ -1,12 +1,14 @@
 //! The lines of what is not held yet, as a journal has them.
-ghost use Rattle.std.specs.Prelude.{◌≡◌, ◌++◌, IfOk, OnOk};
+ghost use Rattle.std.specs.Prelude.{◌≡◌, ◌++◌, [], IfOk, OnOk};
 ghost use Rattle.receipt_core.specs.Receipt.{IsDigest, distrust_line};
-ghost use Rattle.replica_core.specs.declared.entry.Entry.TheVariants.{Record, Receipt as AReceipt};
+ghost use Rattle.replica_core.specs.declared.entry.Entry.TheVariants.{Receipt as AReceipt};
 ghost use Rattle.replica_texts.specs.Snapshots.{ended};
-ghost use Rattle.local_answers.specs.Journalling.{AreLinesOfOther, IsLineIfNew};
+ghost use Rattle.local_answers.specs.Journalling.{AreLinesOfKeys, AreLinesOfOther, IsLineIfNew};
 ghost use Rattle.local_answers.specs.Inside.NewLineSteps.{AreReceiptLines, AreRecordLines};
+ghost use Rattle.local_answers.specs.Inside.NewLineSteps.{SiftsKeys, keys_left};
 
 use closure_core::Closure;
+use fedbundle::GivenKeys;
 use jwk_set::KeyId;
 use receipt_core::{Distrust, Receipt};
 use spiffe_name::TrustDomain;
@@ -18,6 +20,13 @@ pub(crate) struct NewLines {
     pub(crate) text: Vec<u8>,
     /// How many are lines of receipts.
     pub(crate) receipts: u64,
+}
+
+/// The lines of records that are not held, and the keys that they distrust.
+#[derive(Drop)]
+pub(crate) struct NewKeys {
+    pub(crate) text: Vec<u8>,
+    pub(crate) keys: Vec<KeyId>,
 }
 
 // The line of a receipt, if it is not held.
@@ -39,25 +48,41 @@ pub(crate) fn line_of_receipt<C: Closure>(
     Ok(line)
 }
 
-// The line of a record, if it is not held.
-pub(crate) fn line_of_record<C: Closure>(
+// The lines of the records for those of the keys that are not distrusted.
+pub(crate) fn lines_of_keys<C: Closure>(
     alloc: Global,
     closure: &C,
-    record: &Distrust,
-) -> Result<Vec<u8>, AllocError>
-    ensures { IfOk result (λ text.
-        IsLineIfNew (C.state closure.now).meaning (Record record.now) text.items) }
+    given: &GivenKeys,
+) -> Result<NewKeys, AllocError>
+    ensures { IfOk result (λ new. AreLinesOfKeys (C.state closure.now).meaning given.now
+        new.text.items new.keys.items) }
 {
-    // What these lend shows the form of the record and of what is held.
-    let key = record.key;
-    let _form = key_of(&key.0);
-    let _domain = record.domain.as_str();
+    new_keys_of(alloc, closure, &given.domain, given.keys.as_slice())
+}
+
+fn new_keys_of<C: Closure>(
+    alloc: Global,
+    closure: &C,
+    of: &TrustDomain,
+    given: &[KeyId],
+) -> Result<NewKeys, AllocError>
+    ensures { IfOk result (λ new. SiftsKeys (C.state closure.now).meaning
+        (keys_left of.now given.now []) new.text.items new.keys.items) }
+{
+    // What these lend shows the form of the domain and of what is held.
+    let _domain = of.as_str();
     let _config = closure.config();
-    if closure.is_distrusted(&record.domain, key) {
-        return Ok(Vec::new(alloc));
+    let mut text = Vec::new(alloc);
+    let mut keys = Vec::new(alloc);
+    for key in given {
+        if closure.is_distrusted(of, *key) {
+            continue;
+        }
+        let _form = key_of(&key.0);
+        push_line(&mut text, record_line(alloc, of, *key)?)?;
+        keys.push(*key)?;
     }
-    let line = end_line(record.write_line(alloc)?)?;
-    Ok(line)
+    Ok(NewKeys { text, keys })
 }
 
 // What is read of a key shows its form.

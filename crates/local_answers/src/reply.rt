@@ -4,6 +4,7 @@ ghost use Rattle.request_lines.specs.RequestLines.{reply_line};
 ghost use Rattle.replica_texts.specs.Snapshots.{ended};
 
 use byte_lines::FromWrite;
+use change_view::HeldChange;
 use command_exits::{Exit, exit_status, write_exit};
 use request_lines::{ReplyHead, write_reply_head};
 use std::alloc::{AllocError, Global};
@@ -23,6 +24,8 @@ pub struct Reply {
     /// The lines of all receipts and records that are held now and were not before, as the journal
     /// has them.
     pub journal: Vec<u8>,
+    /// What is reported of these lines, exactly if there are any.
+    pub change: Option<HeldChange>,
     /// Whether the replica is to end, once this is sent.
     pub ends: bool,
 }
@@ -70,6 +73,7 @@ impl Reply {
             errors,
             status,
             journal: Vec::new(alloc),
+            change: None,
             ends: false,
         })
     }

@@ -1,11 +1,12 @@
 //! The commands that show what is held, over memory: their source has the input, and their sinks
 //! are texts, whose growth is all that can fail. With them is `stop`, which does nothing but end.
-ghost use Rattle.std.specs.Prelude.{◌≡◌, [], IfErr, IfOk};
+ghost use Rattle.std.specs.Prelude.{◌≡◌, IfErr, IfOk};
 ghost use Rattle.fedbundle.specs.CommandRun.{state_run};
 ghost use Rattle.command_line.specs.declared.command_name.CommandName.TheVariants as command;
 ghost use Rattle.local_answers.specs.Inside.AskedRun.{run_of_asked};
 ghost use Rattle.local_answers.specs.RequestRun.{Answers, AnswersShown, Ends, EndsOver};
 ghost use Rattle.local_answers.specs.RequestRun.{exit_over_memory, memory_exit};
+ghost use Rattle.local_answers.specs.Journalling.{IsSilent};
 
 use crate::asked::Asked;
 use crate::reply::Reply;
@@ -24,7 +25,7 @@ pub(crate) fn shown<C: Closure>(
         (run_of_asked asked.entry (state_run (C.state closure.now) (C.state closure.now)))) }
     ensures ends { IfErr result (EndsOver
         (run_of_asked asked.entry (state_run (C.state closure.now) (C.state closure.now)))) }
-    ensures unjournalled { IfOk result (λ reply. reply.journal.items ≡ []) }
+    ensures silent { IfOk result IsSilent }
 {
     let shown = Shown {
         call: asked.call,
@@ -80,7 +81,7 @@ pub(crate) fn stop<C: Closure>(
         (run_of_asked asked.entry (state_run (C.state closure.now) (C.state closure.now)))) }
     ensures ends { IfErr result (Ends command.Stop
         (run_of_asked asked.entry (state_run (C.state closure.now) (C.state closure.now)))) }
-    ensures unjournalled { IfOk result (λ reply. reply.journal.items ≡ []) }
+    ensures silent { IfOk result IsSilent }
 {
     let _held = closure;
     let _name = asked.call.name;

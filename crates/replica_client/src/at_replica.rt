@@ -1,13 +1,11 @@
 //! The commands with `--at`: a running replica carries them out.
 use crate::client::{AskFault, LocalRequest, ask_replica};
-use crate::distrust_at::ask_with;
 use byte_lines::{Source, read_up_to};
 use command_exits::{CommandError, Exit, Step};
 use command_line::{Call, CommandName, OptionName, given};
 use command_streams::{input, options};
 use local_answers::{MOST_INPUT, request_words};
 use state_files::{has_journal, state_bytes};
-use std::alloc::{AllocError, Global};
 use std::fs;
 use std::io::Write;
 use std::os::unix::fs::FileTypeExt;
@@ -42,9 +40,9 @@ pub fn ask_running(
     ask_for(rt, &request, &mut rt.stdout())
 }
 
-/// Hands the request to the replica, and writes the two streams of its reply: the output there, and
-/// the errors on standard error.
-pub(crate) fn ask_for<W: Write>(
+// Hands the request to the replica, and writes the two streams of its reply: the output there, and
+// the errors on standard error.
+fn ask_for<W: Write>(
     rt: &HostRuntime,
     request: &LocalRequest<'_>,
     output: &mut W,
@@ -116,16 +114,16 @@ fn is_socket(rt: &HostRuntime, path: &str) -> bool {
 
 // What the other replica carries over to its own configuration.
 fn snapshot_at(rt: &HostRuntime, path: &str, wait_seconds: u64) -> Result<AskInput, Exit> {
-    let words = migrate_words(rt.alloc())?;
+    let words = Vec::from_elem(rt.alloc(), CommandName::Migrate.text(), 1)?;
+    let request = LocalRequest {
+        path,
+        words: words.as_slice(),
+        input: b"".as_slice(),
+        wait_seconds,
+    };
     let mut snapshot = Vec::new(rt.alloc());
-    match ask_with(rt, words.as_slice(), path, wait_seconds, &mut snapshot)? {
+    match ask_for(rt, &request, &mut snapshot)? {
         0 => Ok(AskInput::Bytes(snapshot)),
         status => Ok(AskInput::Ended(status)),
     }
-}
-
-fn migrate_words(alloc: Global) -> Result<Vec<String>, AllocError> {
-    let mut words = Vec::new(alloc);
-    words.push(String::from_str(alloc, CommandName::Migrate.text())?)?;
-    Ok(words)
 }

@@ -1,13 +1,11 @@
 //! The commands with `--at`: a running replica carries them out.
 //!
 //! `client` is the other side of a local request: it sends the arguments and the input, and gets
-//! the reply. `at_replica` makes the request of a command, and `distrust_at` the several requests
-//! of `distrust`. No clause says anything of the system's sockets: only safety is proved here.
+//! the reply. `at_replica` makes the request of a command. No clause says anything of the system's
+//! sockets: only safety is proved here.
 #![tactic(auto)]
 
 mod at_replica;
 mod client;
-mod distrust_at;
 
 pub use at_replica::ask_running;
-pub use distrust_at::ask_distrust;

@@ -1,5 +1,4 @@
 //! A connection of this machine, on which one request comes and one reply goes.
-use crate::change_notes::ComingChange;
 use crate::request_work::work_of;
 use change_view::{HeldChange, TurnLines};
 use closure_core::Closure;
@@ -156,39 +155,13 @@ impl LocalTalk {
             self.refuse(alloc, RequestFault::TooManyRequests);
             return;
         }
-        let coming = self.coming(alloc, &held.sides.next);
         match self.carry_out(alloc, held, around) {
-            Ok(reply) => {
-                self.note(alloc, &held.sides.next, coming, &reply);
-                self.reply_within(alloc, reply, around.room);
-            }
+            Ok(reply) => self.reply_within(alloc, reply, around.room),
             Err(fault) => self.refuse(alloc, fault),
         }
     }
 
-    // The request as one that may change something. Only its lines of the journal say whether it
-    // does, whatever it waited for.
-    fn coming<C: Closure>(&self, alloc: Global, closure: &C) -> Option<ComingChange> {
-        let request = self.parts.whole().ok()?;
-        Some(ComingChange::of(alloc, closure, request.words))
-    }
-
-    // Keeps what is reported of it once it is on the disk.
-    fn note<C: Closure>(
-        &mut self,
-        alloc: Global,
-        closure: &C,
-        coming: Option<ComingChange>,
-        reply: &Reply,
-    ) {
-        if let Some(coming) = coming
-            && let Ok(change) = coming.made(alloc, closure, reply.journal.as_slice())
-        {
-            self.change = change;
-        }
-    }
-
-    /// What it changed that is not on the disk yet, unless memory ran out for it.
+    /// What it changed that is not on the disk yet.
     pub fn change(&self) -> Option<&HeldChange> {
         self.change.as_ref()
     }
@@ -199,12 +172,13 @@ impl LocalTalk {
     }
 
     // If there is no room for the reply, and nothing was changed, it is refused.
-    fn reply_within(&mut self, alloc: Global, reply: Reply, mut room: ByteRoom) {
+    fn reply_within(&mut self, alloc: Global, mut reply: Reply, mut room: ByteRoom) {
         let bytes = bytes_of(&reply);
         let shows_only = reply.journal.is_empty() && !reply.ends;
         if shows_only && !room.take(self.room_user(), bytes) {
             self.refuse(alloc, RequestFault::TooManyRequests);
         } else {
+            self.change = reply.change.take();
             self.reply_with(alloc, LocalAnswer::Whole(Sending::new(reply)));
             self.held = bytes;
         }

@@ -14,8 +14,9 @@ const STANDARD_ERROR: RawFd = 2;
 
 /// How long a line may be. A pipe or a socket that takes bytes takes at least this many without a
 /// wait, and they go out in one write, with the line of what was left out before them. No event has
-/// more than 600: the longest has a domain of 255 bytes and three digests.
-const MOST_LINE_BYTES: usize = 900;
+/// more than 600, for a domain of 255 bytes and three digests, except that of a distrust of many
+/// keys: with more than 50 it may be longer than a line, and the audit file has it.
+const MOST_LINE_BYTES: usize = 4_000;
 
 /// Standard error, and what was not written on it.
 #[derive(Drop)]

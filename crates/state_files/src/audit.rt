@@ -9,6 +9,7 @@ use change_view::{
 };
 use closure_core::Closure;
 use command_exits::FileFault;
+use receipt_core::MOST_RECORDS;
 use replica_core::SyncError;
 use side_by_side::Sides;
 use state_steps::{
@@ -18,8 +19,12 @@ use std::alloc::{AllocError, Global};
 use std::fs::{File, Files};
 use std::os::unix::fs::FileExt;
 
-/// How many bytes of the end of the file are read at a time. A line has fewer.
+/// How many bytes of the end of the file are read at first. Few lines have more.
 const READ_BYTES: usize = 65_536;
+
+/// How many are read if the line has more: no line has more than these. That of a distrust has 64
+/// digits and a comma for each key, and fewer than `READ_BYTES` bytes of all else.
+const MOST_LINE_BYTES: usize = READ_BYTES + 65 * MOST_RECORDS;
 
 /// The audit file, to which lines are appended.
 #[derive(Drop)]
@@ -36,6 +41,8 @@ struct FoundLine {
     bytes: Vec<u8>,
     // Whether it has its line feed, which is not among the bytes.
     is_whole: bool,
+    // Whether it may begin before the bytes that were read.
+    may_be_cut: bool,
 }
 
 impl AuditFile {
@@ -216,29 +223,39 @@ fn is_held<C: Closure>(
 // The last line of the first `bytes` bytes of the file. One that is longer than any of an audit
 // file comes without its beginning.
 fn last_line(alloc: Global, file: &File, bytes: u64) -> Result<Option<FoundLine>, FileFault> {
-    if bytes == 0 {
-        return Ok(None);
+    let found = line_among(alloc, file, bytes, READ_BYTES)?;
+    match &found {
+        Some(line) if line.may_be_cut => line_among(alloc, file, bytes, MOST_LINE_BYTES),
+        _ => Ok(found),
     }
-    let from = bytes.saturating_sub(READ_BYTES as u64);
-    let mut buffer = Vec::from_elem(alloc, 0, READ_BYTES)?;
-    let room = usize::try_from(bytes - from)
-        .unwrap_or(READ_BYTES)
-        .min(READ_BYTES);
-    read_whole(file, &mut buffer[..room], from)?;
-    let Some(end) = end_line(&buffer[..room]) else {
+}
+
+// The last line of the first `bytes` bytes of the file, of which at most the last `most` are read.
+fn line_among(
+    alloc: Global,
+    file: &File,
+    bytes: u64,
+    most: usize,
+) -> Result<Option<FoundLine>, FileFault> {
+    let from = bytes.saturating_sub(most as u64);
+    let room = usize::try_from(bytes - from).unwrap_or(most).min(most);
+    let mut buffer = Vec::from_elem(alloc, 0, room)?;
+    read_whole(file, buffer.as_mut_slice(), from)?;
+    let Some(end) = end_line(buffer.as_slice()) else {
         return Ok(None);
     };
     Ok(Some(FoundLine {
         begin: from.saturating_add(end.begin as u64),
         bytes: Vec::from_slice(alloc, end.line)?,
         is_whole: end.is_whole,
+        may_be_cut: from > 0 && end.begin == 0,
     }))
 }
 
 // Reads until the buffer is full.
 fn read_whole(file: &File, buffer: &mut [u8], from: u64) -> Result<(), FileFault> {
     let mut read = 0usize;
-    for _ in 0..READ_BYTES {
+    for _ in 0..buffer.len() {
         if read >= buffer.len() {
             return Ok(());
         }

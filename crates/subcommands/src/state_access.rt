@@ -61,11 +61,14 @@ fn missing_of(call: &Call<'_>) -> MissingState {
         | CommandName::Status
         | CommandName::Migrate
         | CommandName::Reseed => MissingState::Refused,
-        CommandName::Distrust if is_flag_given(given(call, OptionName::DryRun)) => {
-            MissingState::Refused
-        }
+        CommandName::Distrust if looks_first(call) => MissingState::Refused,
         _ => MissingState::HoldsNothing,
     }
+}
+
+// Whether a distrust is only shown, or looks for the key before it is made.
+fn looks_first(call: &Call<'_>) -> bool {
+    is_flag_given(given(call, OptionName::DryRun)) || is_flag_given(given(call, OptionName::Known))
 }
 
 /// Whether there is a state file, or a journal of one.

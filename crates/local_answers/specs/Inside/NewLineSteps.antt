@@ -1,5 +1,6 @@
 -- The lines of what another replica holds, receipts and records apart
 use Rattle.std.specs.Prelude.{◌≡◌, ℕ, ◌+◌, ◌≤◌, List, ◌++◌, length, flat_map, Contains}
+use Rattle.jwk_set.specs.declared.authority.KeyId.{KeyId}
 use Rattle.std.specs.declared.cmp.Ordering.{Ordering}
 use Rattle.std.specs.List.{AllByRecursion}
 use Rattle.std.specs.List.Sorted.{IsStrictlySortedBy}
@@ -10,6 +11,8 @@ use Rattle.receipt_core.specs.Rising.{with_items}
 use Rattle.closure_core.specs.Refusals.{all_receipts, all_records}
 use Rattle.replica_core.specs.Absorbing.{of_receipts, of_records}
 use Rattle.replica_journal.specs.Journal.{entry_text}
+use Rattle.fedbundle.specs.Distrust.{records_for}
+use Rattle.local_answers.specs.Journalling.{AreNewLines}
 use Rattle.receipt_core.specs.Limits.{most_receipts}
 
 -- From all items, these are new to the set, and the rest is still to be looked at.
@@ -51,3 +54,19 @@ pub record AreRecordLines (m other : Meaning) (text : List ℕ) : Type 0 where
   pub fresh : AllByRecursion (λ x. Contains m.records x → ⊥) new
   pub spelt : text ≡ flat_map entry_text (of_records new)
   pub all : with_items distrust_cmp new m.records ≡ all_records m other
+
+-- keys of a domain, and those of them that are still to be looked at
+pub record KeysLeft : Type 0 where
+  pub domain : List ℕ
+  pub all : List KeyId
+  pub rest : List KeyId
+
+abbrev pub keys_left : List ℕ → List KeyId → List KeyId → KeysLeft
+keys_left domain all rest = record { domain = domain; all = all; rest = rest }
+
+-- The text is the lines of the records for the keys so far that are not distrusted, which are new.
+pub record SiftsKeys (m : Meaning) (left : KeysLeft) (text : List ℕ) (new : List KeyId)
+    : Type 0 where
+  pub joined : with_items distrust_cmp (records_for left.domain (new ++ left.rest)) m.records
+      ≡ with_items distrust_cmp (records_for left.domain left.all) m.records
+  pub lines : AreNewLines m (of_records (records_for left.domain new)) text

@@ -1,6 +1,6 @@
 //! The subcommands that show what a state file holds, and write no file: they take no lock. The
 //! replica is made and given back in one place, and each command only borrows it.
-use crate::commands::{diff, distrust};
+use crate::commands::diff;
 use crate::state_access::{leave, load, state_access_of};
 use byte_lines::{FromWrite, Source};
 use closure_core::Closure;
@@ -32,7 +32,6 @@ fn show_of<C: Closure>(
 ) -> Result<u8, Exit> {
     match call.name {
         CommandName::Diff => diff::run(rt, config, closure, call),
-        CommandName::Distrust => distrust::show(rt, closure, call),
         _ => show_as_replica(rt, closure, call),
     }
 }

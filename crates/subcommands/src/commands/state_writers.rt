@@ -3,10 +3,11 @@
 //! options. The replica is made and given back in one place, and each command only borrows it.
 use crate::commands::{distrust, observe};
 use crate::state_access::{leave, load, lock, save, state_access_of};
+use byte_lines::write_all;
 use closure_core::Closure;
 use command_exits::{CommandError, Exit};
 use command_line::Call;
-use command_streams::output_line;
+use command_streams::{output, output_line};
 use fed_config::Config;
 use fedbundle::take_other;
 
@@ -18,7 +19,7 @@ pub(crate) enum Coming<'a, C> {
     /// What another replica holds, or why that is not known.
     Replica(&'a Result<C, Exit>),
     /// Records of distrust, which the options say.
-    Record,
+    Records,
 }
 
 /// Takes what comes, with the lock of the state, and writes the state.
@@ -43,27 +44,26 @@ fn take_and_save<C: Closure>(
     call: &Call<'_>,
     coming: &Coming<'_, C>,
 ) -> Result<u8, Exit> {
-    take(rt, closure, call, coming)?;
+    let text = take(rt, closure, call, coming)?;
     save(rt, closure, path)?;
-    if let Coming::Record = coming {
-        distrust::print_out(rt, closure, call)?;
-    }
+    write_all(&mut output(rt), text.as_slice()).map_err(|_| CommandError::Io)?;
     Ok(0)
 }
 
+// Takes it, and returns what is to be printed once the state is saved.
 fn take<C: Closure>(
     rt: &HostRuntime,
     closure: &mut C,
     call: &Call<'_>,
     coming: &Coming<'_, C>,
-) -> Result<(), Exit> {
+) -> Result<Vec<u8>, Exit> {
     match coming {
-        Coming::Bundle(bytes) => observe::take_bundle(rt, closure, call, bytes),
+        Coming::Bundle(bytes) => observe::take_bundle(rt, closure, call, bytes)?,
         Coming::Replica(Ok(other)) => {
             take_other(closure, other, &mut output_line(rt))?;
-            Ok(())
         }
-        Coming::Replica(Err(exit)) => Err(*exit),
-        Coming::Record => distrust::make(rt, closure, call),
+        Coming::Replica(Err(exit)) => return Err(*exit),
+        Coming::Records => return distrust::make(rt, closure, call),
     }
+    Ok(Vec::new(rt.alloc()))
 }

@@ -1,4 +1,4 @@
-use Rattle.std.proofs.Common.{◌≡◌, ◌∙◌, ◌++◌, ◌∷◌, List, [], ap, append-nil, Bor, map, sym, subst, ℕ}
+use Rattle.std.proofs.Common.{◌∙◌, ◌++◌, ◌∷◌, List, [], ap, append-nil, Bor, map, sym, subst, ℕ}
 use Rattle.std.proofs.lemmas.List.{drop_all, map-append}
 use Rattle.byte_lines.specs.Lines.{lines_of}
 use Rattle.change_view.specs.TurnTexts.{AreReportedAt, ComesInOrder, audit_at, part_journal}

@@ -5,5 +5,5 @@ use Rattle.distrust_view.specs.DistrustEffect.{is_about}
 use Rattle.distrust_view.proofs.warning.is_in_receipt.Given as goal
 
 abbrev pub invariant-loop-receipt : goal.invariant-loop-receipt
-invariant-loop-receipt g l = list_any (λ (r : Receipt). is_about l.given (pair_of r)) l.receipt-iterator
-    ≡ list_any (λ (r : Receipt). is_about l.given (pair_of r)) l.initial.receipt-iterator
+invariant-loop-receipt g l = list_any (λ (r : Receipt). is_about l.domain l.key (pair_of r)) l.receipt-iterator
+    ≡ list_any (λ (r : Receipt). is_about l.domain l.key (pair_of r)) l.initial.receipt-iterator

@@ -3,17 +3,17 @@ use Rattle.std.proofs.lemmas.Result.{err_from_is_err_and}
 use Rattle.fedbundle.proofs.ShownCallFacts.{refused_words}
 use Rattle.fedbundle.proofs.shown.distrust_effect.Goals as goal
 
-pub returns-in_err-record : goal.returns-in_err-record
-returns-in_err-record g c =
+pub returns-in_err-given : goal.returns-in_err-given
+returns-in_err-given g c =
     let exit = err_from_is_err_and c.from_residual.result c.from_residual.ensures.1 in
-    rw (exit.1, exit.2) (inl (refused_words _ _ _ c.in_err-record.ensures.ends (refl, refl)))
+    rw (exit.1, exit.2) (inl (refused_words _ _ _ (rw (c.keeper_of.ensures) at c.in_err-given.ensures.ends) (refl, refl)))
 
 pub returns-in_err-show_distrust : goal.returns-in_err-show_distrust
 returns-in_err-show_distrust g c =
     let exit = err_from_is_err_and c.from_residual-in_err-show_distrust.result c.from_residual-in_err-show_distrust.ensures.1 in
     rw (exit.1, exit.2) (inr (record {
-      x = c.in_ok-record.record;
-      says = c.in_ok-record.ensures.says;
+      given = c.in_ok-given.given;
+      says = rw (c.keeper_of.ensures) at c.in_ok-given.ensures.says;
       answer = Err c.in_err-show_distrust.field-0.0;
       runs = c.in_err-show_distrust.ensures.shows;
       is = refl;
@@ -21,8 +21,8 @@ returns-in_err-show_distrust g c =
 
 pub returns : goal.returns
 returns g c = inr (record {
-  x = c.in_ok-record.record;
-  says = c.in_ok-record.ensures.says;
+  given = c.in_ok-given.given;
+  says = rw (c.keeper_of.ensures) at c.in_ok-given.ensures.says;
   answer = Ok tt;
   runs = c.in_ok-show_distrust.ensures.shows;
   is = refl;

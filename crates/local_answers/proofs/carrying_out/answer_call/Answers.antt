@@ -1,5 +1,5 @@
 use Rattle.std.proofs.Common.{inl, inr}
-use Rattle.local_answers.proofs.RequestFacts.{same_journalled}
+use Rattle.local_answers.proofs.ChangingFacts.{silent_change, silent_with}
 use Rattle.local_answers.proofs.carrying_out.answer_call.Goals as goal
 
 pub returns-in-Ok-clause-answers : goal.returns-in-Ok-clause-answers
@@ -15,5 +15,5 @@ returns-in_ok-ended-in-Err-clause-answers g c = inr (record {
 
 pub returns-in_ok-ended-in-Err-clause-journals : goal.returns-in_ok-ended-in-Err-clause-journals
 returns-in_ok-ended-in-Err-clause-journals g c =
-    same_journalled (g.C.Closure.state c.args.closure.now) (g.C.Closure.state c.carry_out.new.closure) _ c.in_ok-ended-in-Err.ensures.2.unjournalled
-    c.in-Err.ensures.unchanged
+    silent_change (g.C.Closure.state c.args.closure.now) (g.C.Closure.state c.carry_out.new.closure) _
+    (silent_with _ _ _ _ c.in_ok-ended-in-Err.ensures.2) c.in-Err.ensures.unchanged

@@ -5,8 +5,7 @@ use Rattle.fedbundle.specs.CommandRun.{state_run}
 use Rattle.command_line.specs.Checks.{IsSoundRequest, RefusesWords}
 use Rattle.fedbundle.specs.SaidValues.{texts_of_call}
 use Rattle.local_answers.specs.RequestRun.{CallRun, call_run, change_run}
-use Rattle.local_answers.proofs.ChangingFacts.{error_unjournalled, lacks_memory, line_called, result_lacks_memory, said_of_words}
-use Rattle.local_answers.proofs.RequestFacts.{same_journalled}
+use Rattle.local_answers.proofs.ChangingFacts.{error_silent, lacks_memory, line_called, result_lacks_memory, said_of_words, silent_change}
 use Rattle.local_answers.proofs.carrying_out.answer_request.Goals as goal
 
 pub returns-in_err-words-clause-fault : goal.returns-in_err-words-clause-fault
@@ -58,4 +57,4 @@ returns-clause-answers g c =
 pub returns-clause-journals : goal.returns-clause-journals
 returns-clause-journals g c =
     let state = g.C.Closure.state c.args.closure.now in
-    same_journalled state state _ (error_unjournalled _ _ c.in_ok-reply_by_words-in-Err.ensures) refl
+    silent_change state state _ (error_silent _ _ c.in_ok-reply_by_words-in-Err.ensures) refl

@@ -7,7 +7,7 @@ use Rattle.command_exits.specs.declared.exits.Exit.TheVariants.{BadNumber}
 use Rattle.fedbundle.specs.CommandRun.{state_run}
 use Rattle.local_answers.specs.Inside.AskedRun.{run_of_asked}
 use Rattle.local_answers.specs.RequestRun.{CallRun}
-use Rattle.local_answers.proofs.ChangingFacts.{none_journalled}
+use Rattle.local_answers.proofs.ChangingFacts.{none_changed}
 use Rattle.local_answers.proofs.ShownFacts.{answers_as, answers_shown, anyhow, ends_as, ends_shown}
 use Rattle.local_answers.proofs.carrying_out.carry_out.Goals as goal
 
@@ -53,7 +53,7 @@ returns-in-Stop-clause-ends g c =
     ends_as _ _ run _ c.in-Stop.is c.stop.ensures.ends
 
 pub returns-in-Stop-clause-journals : goal.returns-in-Stop-clause-journals
-returns-in-Stop-clause-journals g c = none_journalled (g.C.Closure.state c.args.closure.now) c.stop.result c.stop.ensures.unjournalled
+returns-in-Stop-clause-journals g c = none_changed (g.C.Closure.state c.args.closure.now) c.stop.result c.stop.ensures.silent
 
 pub returns-in_default-clause-answers : goal.returns-in_default-clause-answers
 returns-in_default-clause-answers g c =
@@ -66,4 +66,4 @@ returns-in_default-clause-ends g c =
     ends_shown _ run _ c.in_default.not-Observe c.in_default.not-Merge c.in_default.not-Distrust c.in_default.not-Stop c.shown.ensures.ends
 
 pub returns-in_default-clause-journals : goal.returns-in_default-clause-journals
-returns-in_default-clause-journals g c = none_journalled (g.C.Closure.state c.args.closure.now) c.shown.result c.shown.ensures.unjournalled
+returns-in_default-clause-journals g c = none_changed (g.C.Closure.state c.args.closure.now) c.shown.result c.shown.ensures.silent

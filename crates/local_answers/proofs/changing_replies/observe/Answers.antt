@@ -1,9 +1,11 @@
-use Rattle.std.proofs.Common.{◌≡◌, Some, ap}
+use Rattle.std.proofs.Common.{◌≡◌, [], Some, ap, subst}
+use Rattle.std.specs.Prelude.{◌↔◌, IsNone}
 use Rattle.replica_core.specs.declared.entry.Entry.TheVariants.{Receipt as AReceipt}
 use Rattle.command_exits.specs.DeviceRuns.{DeviceRun}
 use Rattle.fedbundle.specs.Observe.{Fetched}
 use Rattle.local_answers.proofs.ChangingFacts.{observe_prevented}
 use Rattle.local_answers.proofs.RequestFacts.{entry_journals, observe_taken, observe_untaken}
+use Rattle.local_answers.proofs.ReportFacts.{observe_reports}
 use Rattle.local_answers.proofs.changing_replies.observe.Goals as goal
 
 pub returns-in-Err-clause-ends : goal.returns-in-Err-clause-ends
@@ -35,9 +37,14 @@ returns-in-Ok-take_observed-clause-answers g c =
     }
 
 pub returns-in-Ok-take_observed-clause-journals : goal.returns-in-Ok-take_observed-clause-journals
-returns-in-Ok-take_observed-clause-journals g c =
-    entry_journals _ _ (AReceipt c.in-Ok.observed.receipt) _ c.in_ok-journal.ensures
-    (c.in-Ok-take_observed.ensures _ c.in-Ok.ensures.receipt.observation).meaning
+returns-in-Ok-take_observed-clause-journals g c = record {
+  journals = entry_journals _ _ (AReceipt c.in-Ok.observed.receipt) _ c.in_ok-journal.ensures
+      (c.in-Ok-take_observed.ensures _ c.in-Ok.ensures.receipt.observation).meaning;
+  reports = observe_reports (g.C.Closure.state c.args.closure.now) (g.C.Closure.state c.take_observed.new.closure) c.in-Ok.observed.receipt _
+      c.in_ok-made.made _ c.in_ok-journal.ensures c.in_ok-made.ensures.parts
+      (subst (λ l. IsNone c.observed_change.result ↔ (l ≡ [])) c.as_slice.ensures.value c.observed_change.ensures.none)
+      c.observed_change.ensures.made;
+}
 
 pub returns-in-Err-take_observed-clause-ends : goal.returns-in-Err-take_observed-clause-ends
 returns-in-Err-take_observed-clause-ends g c =

@@ -4,10 +4,10 @@ use Rattle.local_answers.proofs.changing_replies.said_of.Goals as goal
 
 pub returns-then-is_verbose : goal.returns-then-is_verbose
 returns-then-is_verbose g c =
-    subst (λ (b : Bool). IfOk c.effect_of.result (λ errors. SaysEffect (g.C.Closure.state c.args.closure.now).meaning c.args.record.now b errors.items))
+    subst (λ (b : Bool). IfOk c.effect_of.result (λ errors. SaysEffect (g.C.Closure.state c.args.closure.now).meaning c.args.given.now b errors.items))
     (sym c.if-is_verbose.true) c.effect_of.ensures
 
 pub returns-else-is_verbose : goal.returns-else-is_verbose
 returns-else-is_verbose g c =
-    subst (λ (b : Bool). SaysEffect (g.C.Closure.state c.args.closure.now).meaning c.args.record.now b c.new.result.items)
+    subst (λ (b : Bool). SaysEffect (g.C.Closure.state c.args.closure.now).meaning c.args.given.now b c.new.result.items)
     (sym c.if-is_verbose.false) c.new.ensures.items
