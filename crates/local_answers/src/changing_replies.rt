@@ -1,5 +1,6 @@
-//! The commands that change what is held. All memory for the reply and for the lines of the journal
-//! is taken before the change: if any is refused, nothing has changed.
+//! The commands that change what is held. All memory for a reply and for the lines of the journal
+//! is taken before the change: if any is refused, nothing has changed. Only what a distrust says
+//! fell needs more after it: if that is refused, another reply says so.
 ghost use Rattle.std.specs.Prelude.{◌≡◌, ◌↔◌, [], length, true, IfErr, IfOk, IfSome, IsNone};
 ghost use Rattle.fedbundle.specs.CommandRun.{state_run};
 ghost use Rattle.fedbundle.specs.Merge.{count_text};
@@ -98,7 +99,7 @@ pub(crate) fn merge<C: Closure>(alloc: Global, closure: &mut C, input: &[u8]) ->
     };
     let new = lines_of_other(alloc, closure, &other)?;
     let records = record_count(closure);
-    let mut reply = Reply::done(alloc, fell_line(alloc, new.receipts)?)?;
+    let mut reply = Reply::done(alloc, count_line(alloc, new.receipts)?)?;
     match closure.merge(&other) {
         Ok(_) => {
             let entries = NewEntries {
@@ -123,7 +124,7 @@ fn unread(why: SyncError) -> Exit
     }
 }
 
-fn fell_line(alloc: Global, count: u64) -> Result<Vec<u8>, AllocError>
+fn count_line(alloc: Global, count: u64) -> Result<Vec<u8>, AllocError>
     ensures { IfOk result (λ line. line.items ≡ count_text count) }
 {
     let mut line = FromWrite::new(Vec::new(alloc));

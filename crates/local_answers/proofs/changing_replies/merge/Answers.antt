@@ -37,10 +37,10 @@ returns-in-Ok-merge-clause-answers g c =
     let old = g.C.Closure.state c.args.closure.now in
     let other = (g.C.Closure.state c.in-Ok.other).meaning in
     record {
-      output = c.in_ok-fell_line.field-0.items;
+      output = c.in_ok-count_line.field-0.items;
       answers = merge_taken old (g.C.Closure.state c.merge.new.self) source c.args.input.now other _ _ _ _ (ap Some before)
           (subst (λ (k : Configuration). IsSnapshot k source.before other) c.config.ensures.config c.in-Ok.ensures.ok)
-          c.in-Ok.ensures.ends c.in_ok-new.ensures c.in-Ok-merge.ensures c.in_ok-fell_line.ensures;
+          c.in-Ok.ensures.ends c.in_ok-new.ensures c.in-Ok-merge.ensures c.in_ok-count_line.ensures;
       head = c.in_ok-reply.ensures.head;
       is_output = c.in_ok-reply.ensures.output;
       errors = c.in_ok-reply.ensures.errors;
