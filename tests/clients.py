@@ -5,6 +5,9 @@
 - The same requests are made by the command with `--at`, by the client in Go and by that in Python, each at a replica of its
   own over the bundles of examples/. What the clients return is what the command prints, and each code with which a
   replica refuses comes. So it is at the socket of --read-socket.
+- Many requests come on one connection, at once, in pieces that are cut anywhere, and in both forms. A bad one ends it, one that
+  is cut is not carried out, and one that is kept gives its place away, and is closed after half a minute. The clients keep
+  theirs, and are answered by a replica that began again.
 - A replica that is stopped by a signal, one whose store is full, one without room for a request, and one whose disk is full:
   the clients and the command end in the same way.
 - Both examples of Watch give the current bundles, say that the replica was killed, and give the bundle that is observed
@@ -455,6 +458,156 @@ def within(seconds, holds):
     return True
 
 
+# ---- several requests on one connection
+
+IDLE_SECONDS = 30
+# How many connections of the machine a replica has at both sockets, and at the one at which nothing can be changed.
+MOST_LOCAL, MOST_LOOKING = 64, 48
+
+
+def counted(*words, data=b""):
+    """A request that says how many bytes of input it has."""
+    return b'{"input":%d,"words":%s}\n' % (len(data), json.dumps(words).encode()) + data
+
+
+def joined(path):
+    stream = socket.socket(socket.AF_UNIX)
+    stream.settimeout(HANG)
+    stream.connect(path)
+    return stream
+
+
+def reply_on(stream, text=b""):
+    """The next reply, and none if the connection ends before it."""
+    if text:
+        stream.sendall(text)
+    head = b""
+    while not head.endswith(b"\n"):
+        byte = stream.recv(1)
+        if not byte:
+            return head or None
+        head += byte
+    said, body = json.loads(head), b""
+    length = said["output"] + said["errors"]
+    # Not a byte of the next reply is read.
+    while len(body) < length and (piece := stream.recv(length - len(body))):
+        body += piece
+    return head + body
+
+
+def replies_to(path, pieces, count):
+    """That many replies to what comes in these pieces, and what follows the last one once nothing more is sent."""
+    with joined(path) as stream:
+        for piece in pieces:
+            stream.sendall(piece)
+        came = [reply_on(stream) for _ in range(count)]
+        stream.shutdown(socket.SHUT_WR)
+        return came, all_of(stream)
+
+
+def check_connections(program, programs, above):
+    with Replica(program, above / "connections") as replica:
+        check_order(replica)
+        check_refused(replica)
+        check_places(replica)
+        check_restarted(replica, parties(program, programs)[1:])
+    check_idle(program, above)
+
+
+def check_order(replica):
+    """The same replies as to requests on connections of their own, wherever the bytes are cut."""
+    config, document = counted("config"), A_DOCUMENT
+    explain = ["explain", "--domain=a.example"]
+    alone = [replies_to(replica.socket, [one], 1)[0][0]
+             for one in (config, counted(*explain, data=document), counted("bundle", "--domain=c.example"))]
+    want("replies alone", len(set(alone)) == 3 and None not in alone, alone)
+    three = config + counted(*explain, data=document) + counted("bundle", "--domain=c.example")
+    with joined(replica.socket) as stream:
+        came = [reply_on(stream, one) for one in [config] * 300]
+        want("300 requests on a connection", came == [alone[0]] * 300, set(came) - {alone[0]})
+    came = replies_to(replica.socket, [three], 3)
+    want("three requests at once", came == (alone, b""), came)
+    for place in range(1, len(three), 37):
+        came = replies_to(replica.socket, [three[:place], three[place:]], 3)
+        want(f"cut at {place}", came == (alone, b""), came)
+    small = config + counted("bundle", "--domain=c.example")
+    came = replies_to(replica.socket, [small[place:place + 1] for place in range(len(small))], 2)
+    want("a byte at a time", came == ([alone[0], alone[2]], b""), came)
+    # The form whose input ends with the stream comes last.
+    last = json.dumps(explain).encode() + b"\n" + document
+    came = replies_to(replica.socket, [three + last], 3)
+    want("both forms", came == (alone, alone[1]), came)
+    observe = ["observe", "--domain=a.example", f"--endpoint={ENDPOINT}", f"--key={FIRST['key']}"]
+    data = json.dumps(FIRST["doc"]).encode()
+    came = replies_to(replica.socket, [counted(*observe, data=data) * 5 + counted("status", "--format=json")], 6)
+    # The first receipt is vouched for by the configured bundle, and the others by what was observed.
+    want("changes in their order", len(set(came[0][1:5])) == 1 and b'"receipts":2,' in came[0][5], came)
+
+
+def check_refused(replica):
+    """What is refused ends the connection, and what follows it is not carried out."""
+    good = replies_to(replica.socket, [counted("config")], 1)[0][0]
+    texts = [(b'{"input":0,"words":[1]}\n', b"bad words"), (b'{"words":["config"],"input":0}\n', b"bad words"),
+             (b'{"input":00,"words":[]}\n', b"bad words"), (b'{"input":-1,"words":[]}\n', b"bad words"),
+             (b'{"input":1e1,"words":[]}\n', b"bad words"), (b"{}\n", b"bad words"), (b"{" * 65_537, b"words too long"),
+             (b'{"input":268435457,"words":[]}\n', b"input too long"),
+             (b'{"input":99999999999999999999,"words":[]}\n', b"bad words")]
+    for text, why in texts:
+        with joined(replica.socket) as stream:
+            first, second = reply_on(stream, counted("config")), reply_on(stream, text + counted("stop"))
+            want(f"after a good one, {why}", first == good and second.endswith(b"fedbundle: " + why + b"\n"), text[:60], second)
+            want(f"it ends the connection, {why}", reply_on(stream) is None, text[:60])
+    for cut in (counted("merge", data=b"12")[:-1], counted("stop")[:-1], b"{"):
+        came = replies_to(replica.socket, [counted("config") + cut], 1)
+        want("a request that is cut", came[0] == [good] and came[1].endswith(b"fedbundle: no words\n"), cut, came)
+    came = replies_to(replica.socket, [counted("config"), b'["config"]'], 1)
+    want("a line that is cut", came[1].endswith(b"no words\n"), came)
+    want("nothing was stopped", replica.process.poll() is None)
+
+
+def check_places(replica):
+    """One that is kept is closed without a reply if its place is needed, and the first one first."""
+    kept = [joined(replica.read) for _ in range(MOST_LOOKING)]
+    good = [reply_on(stream, counted("config")) for stream in kept]
+    kept += [joined(replica.socket) for _ in range(MOST_LOCAL - MOST_LOOKING - 1)]
+    good += [reply_on(stream, counted("config")) for stream in kept[MOST_LOOKING:]]
+    want("all places are taken", len(set(good)) == 1 and None not in good, set(good))
+    with joined(replica.read) as looking:
+        want("one that looks has a place", reply_on(looking, counted("config")) == good[0])
+        want("the first one that looked is closed", reply_on(kept[0]) is None)
+        # One whose request has begun is not the one that is closed.
+        kept[1].sendall(b'{"input":0,')
+        time.sleep(0.2)
+        more = [joined(replica.socket) for _ in range(3)]
+        want("three that change have places", [reply_on(one, counted("config")) for one in more] == [good[0]] * 3)
+        want("its request is carried out", reply_on(kept[1], b'"words":["config"]}\n') == good[0])
+        for one in more:
+            one.close()
+    for stream in kept:
+        stream.close()
+
+
+def check_restarted(replica, askers):
+    """The clients have a connection that is kept, and the replica begins again."""
+    row = {**asked("report"), "Socket": replica.socket}
+    for asker in askers:
+        first = asker.ask(row)
+        replica.kill()
+        replica.start()
+        came = asker.ask(row)
+        want(f"{asker.name}, after a restart", "answer" in first and came == first, first, came)
+        asker.end()
+
+
+def check_idle(program, above):
+    with Replica(program, above / "idle") as replica, joined(replica.socket) as stream:
+        reply_on(stream, counted("config"))
+        start = time.monotonic()
+        stream.settimeout(2 * IDLE_SECONDS)
+        came, took = stream.recv(1), time.monotonic() - start
+        want("one that is idle is closed", came == b"" and IDLE_SECONDS - 1 < took < IDLE_SECONDS + 15, came, took)
+
+
 # ---- replicas that cannot answer
 
 def check_faults(program, programs, above):
@@ -633,6 +786,19 @@ def all_of(stream):
     return text
 
 
+def whole_request(stream):
+    """Reads a request, of either form."""
+    text = b""
+    while b"\n" not in text and (piece := stream.recv(65_536)):
+        text += piece
+    line, _, data = text.partition(b"\n")
+    if not line.startswith(b"{"):
+        return text + all_of(stream)
+    while len(data) < json.loads(line)["input"]:
+        data += stream.recv(65_536)
+    return line + b"\n" + data
+
+
 def check_hostile(program, programs, above):
     """What comes is not a reply, or only a part of one. The command sees some of them, too."""
     askers = parties(program, programs)
@@ -645,7 +811,7 @@ def check_hostile(program, programs, above):
     now = {}
 
     def serve(stream):
-        all_of(stream)
+        whole_request(stream)
         stream.sendall(now["reply"])
 
     with server(str(above / "hostile"), serve) as path:
@@ -674,7 +840,7 @@ def check_endless(askers, above):
     for number, head in enumerate([b"", *sizes]):
 
         def serve(stream):
-            stream.sendall(head)
+            stream.sendall(head + b"x" * 65_536)
             while True:
                 stream.sendall(b"x" * 65_536)
 
@@ -731,6 +897,7 @@ def main():
         above.chmod(0o755)
         programs = {**built_go(above), **laid_python(above)}
         check_requests(program, programs, above)
+        check_connections(program, programs, above)
         check_faults(program, programs, above)
         check_permission(program, programs, above)
         check_watch(program, programs, above)

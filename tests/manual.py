@@ -1,8 +1,8 @@
 #!/usr/bin/env python3
 """Checks the manual page, the completions, what `--version` says (D-196), and `./fedbundle --install`.
 
-The subcommands and options that they should have are taken from crates/command_line/specs/Words.antt, which the prover holds
-the program to; tools/manual.py makes them from other files. If there is no man or no zsh, what needs it is left out, and said.
+The subcommands and options that they should have are taken from crates/command_line/specs, which the prover holds the
+program to; tools/manual.py makes them from other files. If there is no man or no zsh, what needs it is left out, and said.
 
 usage: manual         the exit status is 1 if something was reported
 """
@@ -37,11 +37,14 @@ def check(is_so, what):
 
 def defined():
     """The words of each subcommand's options, by its name."""
-    text = (TOP / "crates/command_line/specs/Words.antt").read_text()
-    options = dict(re.findall(r'^option_text (\w+) = codes "(.*)"', text, re.M))
-    names = dict(re.findall(r'^name_text command\.(\w+) = codes "(.*)"', text, re.M))
-    lists = re.findall(r"^options_of command\.(\w+) = ((?:.|\n )*?)\[\]", text, re.M)
-    return {names[name]: [f"--{options[o]}" for o in re.findall(r"\w+", body)] for name, body in lists}
+    folder = TOP / "crates/command_line/specs"
+    text = (folder / "OptionRows.antt").read_text()
+    options = dict(re.findall(r'^option_row option\.(\w+) = \(codes "(.*)", \w+\)$', text, re.M))
+    names = dict(re.findall(r'^name_text command\.(\w+) = codes "(.*)"', (folder / "Words.antt").read_text(), re.M))
+    last = re.search(r"^last_options = ((?:.|\n )*?)\[\]", text, re.M).group(1)
+    lists = re.findall(r"^options_of command\.(\w+) = ((?:.|\n )*?)(\[\]|last_options)$", text, re.M)
+    return {names[name]: [f"--{options[o]}" for o in re.findall(r"option\.(\w+)", body + (last if end != "[]" else ""))]
+            for name, body, end in lists}
 
 
 def run(*words, **more):

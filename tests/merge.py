@@ -29,18 +29,13 @@ BRANCHES = {"spiffe_name": "src/lib.rt", "text_lines": "src/lib.rt"}
 CHECKS = ["names.py", "pages.py", "edits.py --texts", "edits.py --ledger", "manual.py", "release.py"]
 MOST_OF_OPTION = 30
 # A flag `--grouped` of `list`: in each file the text before which the new one is put.
-NAME, WORDS, HELP = "src/command_name.rt", "specs/Words.antt", "src/help_texts.rt"
+NAME, ROWS, TABLE = "src/command_name.rt", "src/option_rows.rt", "specs/OptionRows.antt"
 OPTION = [
     (NAME, "    MostReceipts,\n", "    Grouped,\n"),
-    (NAME, '            OptionName::MostRecords => "most-records",\n', '            OptionName::Grouped => "grouped",\n'),
-    (NAME, "                | OptionName::Keys\n", "                | OptionName::Grouped\n"),
-    (NAME, "    OptionName::Keys,\n", "    OptionName::Grouped,\n"),
-    (WORDS, "MostReceipts}\n", "Grouped, "),
-    (WORDS, 'option_text MostRecords = ', 'option_text Grouped = codes "grouped"\n'),
-    (WORDS, "is_flag Keys = true\n", "is_flag Grouped = true\n"),
-    (WORDS, "Keys ∷ Format", "Grouped ∷ "),
-    (HELP, '            OptionName::Keys => "",\n', '            OptionName::Grouped => "",\n'),
-    (HELP, '            OptionName::Keys => "Prints', '            OptionName::Grouped => "Groups the lines",\n'),
+    (NAME, "    TakenOption::Optional(OptionName::Keys),\n", "    TakenOption::Optional(OptionName::Grouped),\n"),
+    (ROWS, "            OptionName::Keys => ", '            OptionName::Grouped => flag("grouped", "Groups the lines"),\n'),
+    (TABLE, "option_row option.Keys = ", 'option_row option.Grouped = (codes "grouped", Flag)\n'),
+    (TABLE, "Optional option.Keys ∷", "Optional option.Grouped ∷ "),
 ]
 # Other bound names, another comment and another layout, of crates/replica_view.
 LINES = "specs/HeldLines.antt"

@@ -1,8 +1,8 @@
 #!/usr/bin/env python3
 """Makes the manual page and the completions out of the texts that help prints.
 
-The texts, the subcommands and their options are in crates/command_line/src/help_texts.rt and command_name.rt; nothing is
-written twice. The files that are made: docs/fedbundle.1, completions/fedbundle.bash and completions/_fedbundle (zsh).
+The options are in crates/command_line/src/option_rows.rt, the subcommands and which options they take in command_name.rt, and
+the other texts in help_texts.rt; nothing is written twice. The files that are made: docs/fedbundle.1, completions/fedbundle.bash and completions/_fedbundle (zsh).
 
 usage: manual [--check]     --check writes nothing, and ends with status 1 if a file is not what it would write
 """
@@ -25,26 +25,47 @@ STRING = r'"((?:[^"\\]|\\.|\\\n)*)"'
 
 
 class Texts:
-    """What the two files say."""
+    """What the three files say."""
 
     def __init__(self):
         helps = (SOURCES / "help_texts.rt").read_text()
         names = (SOURCES / "command_name.rt").read_text()
         consts = {name: unquoted(text) for name, text in re.findall(rf"const (\w+): &str = {STRING};", helps)}
         self.notes = consts["NOTES"]
-        self.values = self.matched(helps, "OptionName", "value_name")
-        self.option_abouts = self.matched(helps, "OptionName", "about")
+        rows = self.rows((SOURCES / "option_rows.rt").read_text())
+        self.options = {option: texts[0] for option, (kind, texts) in rows.items()}
+        self.values = {option: "" if kind == "flag" else texts[1] for option, (kind, texts) in rows.items()}
+        self.kinds = {option: kind for option, (kind, texts) in rows.items()}
+        self.option_abouts = {option: texts[-1] for option, (kind, texts) in rows.items()}
+        self.other_abouts = self.others(helps)
         self.abouts = self.matched(helps, "CommandName", "about")
         self.usages = self.matched(helps, "CommandName", "usage")
         self.command_notes = {name: consts[const] for name, const in re.findall(r"CommandName::(\w+) => (\w+_NOTES),", helps)}
-        self.options = self.matched(names, "OptionName", "text")
         self.words = self.matched(names, "CommandName", "text")
         lists = {name: re.findall(r"OptionName::(\w+)", body)
-                 for name, body in re.findall(r"static (\w+): \[OptionName; \d+\] = \[(.*?)\];", names, re.S)}
+                 for name, body in re.findall(r"static (\w+): \[TakenOption; \d+\] = \[(.*?)\];", names, re.S)}
         used = dict(re.findall(r"CommandName::(\w+) => (\w+)\.as_slice\(\)", names))
         order = re.search(r"static COMMANDS.*?\[\n(.*?)\];", names, re.S).group(1)
         self.commands = re.findall(r"CommandName::(\w+)", order)
         self.options_of = {name: lists[used[name]] for name in self.commands}
+
+    @staticmethod
+    def rows(source):
+        """The row of each option: what it has after its name, and the texts."""
+        found = re.findall(rf"OptionName::(\w+) => (flag|path|text)\(((?:\s*{STRING},?)+)\s*\)", source)
+        return {option: (kind, [unquoted(text) for text in re.findall(STRING, texts)]) for option, kind, texts, _ in found}
+
+    @staticmethod
+    def others(source):
+        """What subcommands say of an option in place of its row."""
+        part = source[source.index("fn about_option"):]
+        part = part[:part.index("\n    }\n")]
+        found = re.findall(rf"\(([^,]+), OptionName::(\w+)\) =>\s*(?:\{{\s*)?{STRING}", part)
+        return {(name, option): unquoted(text) for names, option, text in found for name in re.findall(r"CommandName::(\w+)", names)}
+
+    def about(self, name, option):
+        """What help says of an option of the subcommand."""
+        return self.other_abouts.get((name, option), self.option_abouts[option])
 
     @staticmethod
     def matched(source, kind, function):
@@ -92,7 +113,7 @@ def manual(texts):
         lines += [f".SS {texts.words[name]}", escaped(texts.abouts[name]) + ".", *paragraphs(texts.command_notes[name])]
         for option in texts.options_of[name]:
             value = f" \\fI{escaped(texts.values[option])}\\fR" if texts.values[option] else ""
-            lines += [".TP", f"\\fB\\-\\-{escaped(texts.options[option])}\\fR{value}", escaped(texts.option_abouts[option]) + "."]
+            lines += [".TP", f"\\fB\\-\\-{escaped(texts.options[option])}\\fR{value}", escaped(texts.about(name, option)) + "."]
     lines += [".SH SEE ALSO", "\\fBopenssl\\fR(1), \\fBstunnel\\fR(8)"]
     return "\n".join(lines) + "\n"
 
@@ -105,11 +126,11 @@ def words_of(texts, name):
 
 
 def file_options(texts):
-    return sorted({f"--{texts.options[o]}" for o in texts.options if texts.values.get(o) in ("FILE", "PATH")})
+    return sorted(f"--{texts.options[o]}" for o in texts.options if texts.kinds[o] == "path")
 
 
 def value_options(texts):
-    return sorted({f"--{texts.options[o]}" for o in texts.options if texts.values.get(o) not in ("", "FILE", "PATH")})
+    return sorted(f"--{texts.options[o]}" for o in texts.options if texts.kinds[o] == "text")
 
 
 def bash(texts):
@@ -153,8 +174,8 @@ def zsh(texts):
         arms.append(f"        {texts.words[name]})\n            _arguments \\")
         for option in texts.options_of[name]:
             value = texts.values[option]
-            what = f":{value}:_files" if value in ("FILE", "PATH") else f":{value}:" if value else ""
-            arms.append(f"                '--{texts.options[option]}[{quoted(texts.option_abouts[option])}]{what}' \\")
+            what = {"path": f":{value}:_files", "text": f":{value}:", "flag": ""}[texts.kinds[option]]
+            arms.append(f"                '--{texts.options[option]}[{quoted(texts.about(name, option))}]{what}' \\")
         arms.append("                '--help[Prints help]'\n            ;;")
     return f"""#compdef fedbundle
 # Completions of fedbundle for zsh. Made by tools/manual.py.

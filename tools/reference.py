@@ -42,14 +42,14 @@ LIMITS = [
     ("`--most-records`", "receipt_core", "MOST_RECORDS", ""),
     ("peers of a replica", "fedbundle_cli", "MOST_PEERS", ""),
     ("connections of a replica", "replica_connections", "MOST_CONNECTIONS", ""),
-    ("requests of the own machine, at both sockets", "replica_connections", "MOST_LOCAL", ""),
+    ("connections of the own machine, at both sockets", "replica_connections", "MOST_LOCAL", ""),
     ("connections on which other replicas ask", "replica_connections", "MOST_SERVED", ""),
     ("connections at the address of `--health`", "replica_connections", "MOST_PAGES", ""),
     ("the arguments of a request", "request_lines", "MOST_WORDS", "bytes"),
     ("the input of a request", "local_answers", "MOST_INPUT", "bytes"),
     ("the path of a socket", "replica_sockets", "MOST_BYTES", "bytes"),
     ("a connection on which nothing moves", "replica_connections", "MAX_IDLE_SECONDS", "seconds"),
-    ("a connection, or a session", "replica_connections", "MAX_AGE_SECONDS", "seconds"),
+    ("a request, or a session", "replica_connections", "MAX_AGE_SECONDS", "seconds"),
 ]
 
 

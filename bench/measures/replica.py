@@ -1,9 +1,9 @@
 """Measures a replica that stays: how long its local requests take, how many bundles it acknowledges in a second, what its
-sessions cost if nothing, one receipt or only records are missing, and what it holds.
+sessions cost if nothing, one receipt or only records are missing, what a page or a status costs, and what it holds.
 
-Each client speaks to the socket itself, one connection for each request, so that no start of a program is in a time. The
-disk is that of the temporary folder. The bundles that are observed list the key of the last one that is held, so any of
-them vouches for the next one.
+Each client speaks to the socket itself, so that no start of a program is in a time: over one connection for each request, and
+for the bundles that are acknowledged in a second also over one that it keeps. The disk is that of the temporary folder. The
+bundles that are observed list the key of the last one that is held, so any of them vouches for the next one.
 
 arguments: [COUNT [REQUESTS]]   how many usual receipts are held at first, 61440 if left out, and how often each request is
                             made, 1000 if left out; a replica may hold 65,536, or what is needed here if that is more
@@ -43,6 +43,20 @@ def ask(path, words, text=b""):
     if head["status"] != 0:
         stop(f"{words}: {reply[:200]}")
     return rest[: head["output"]], took
+
+
+def ask_kept(stream, words, text=b""):
+    """The same over a connection that is kept."""
+    stream.sendall(b'{"input":%d,"words":%s}\n' % (len(text), json.dumps(words).encode()) + text)
+    reply = stream.recv(1 << 20)
+    while b"\n" not in reply:
+        reply += stream.recv(1 << 20)
+    head, _, rest = reply.partition(b"\n")
+    head = json.loads(head)
+    while len(rest) < head["output"] + head["errors"]:
+        rest += stream.recv(1 << 20)
+    if head["status"] != 0:
+        stop(f"{words}: {reply[:200]}")
 
 
 class Held:
@@ -117,13 +131,19 @@ def sync_times(folder, count):
     return times
 
 
-def observed_a_second(held, path, clients, each):
+def observed_a_second(held, path, clients, each, keeps):
     """How many bundles this many clients have acknowledged in a second."""
     bundles = [[held.next_bundle() for _ in range(each)] for _ in range(clients)]
 
     def run(own):
-        for text in own:
-            ask(path, held.words(), text)
+        if not keeps:
+            for text in own:
+                ask(path, held.words(), text)
+            return
+        with socket.socket(socket.AF_UNIX) as stream:
+            stream.connect(str(path))
+            for text in own:
+                ask_kept(stream, held.words(), text)
 
     threads = [threading.Thread(target=run, args=(own,)) for own in bundles]
     begun = time.perf_counter()
@@ -183,6 +203,30 @@ def print_one(held, path, asks):
     stop("one receipt was not pulled")
 
 
+def get(address, path):
+    """The response with the page, on a connection of its own."""
+    host, _, port = address.rpartition(":")
+    with socket.create_connection((host, int(port))) as stream:
+        stream.sendall(f"GET {path} HTTP/1.1\r\nHost: {address}\r\n\r\n".encode())
+        response = b"".join(iter(lambda: stream.recv(1 << 20), b""))
+    if not response.startswith(b"HTTP/1.1 200 "):
+        stop(f"{path}: {response[:200]}")
+
+
+def print_costs(process, address, path, requests):
+    """What a page, or a status at the socket, costs the replica, all that its loop does for it included."""
+    costs = []
+    for name, asked in [(page, lambda page=page: get(address, page)) for page in PAGES] + [
+            ("status --at", lambda: ask(path, ["status", "--format=json"]))]:
+        asked()
+        before = used(process)
+        for _ in range(requests):
+            asked()
+        costs.append(f"{name} {1e6 * (used(process) - before) / requests:.0f}")
+    print(f"microseconds of a processor: {', '.join(costs)}", flush=True)
+
+
+PAGES = ("/live", "/metrics", "/status.json")
 RECORDS = 4_096
 
 
@@ -206,9 +250,10 @@ def main(words):
     program = find_program()
     with tempfile.TemporaryDirectory(prefix="fedbundle-") as folder:
         folder = Path(folder)
-        held = Held(folder, count, 3 * requests + 100)
+        held = Held(folder, count, 5 * requests + 100)
         address = free_address()
-        replica, began = start(program, folder, "state", "--listen", address, "--every", "86400", *held.limits)
+        health = free_address()
+        replica, began = start(program, folder, "state", "--listen", address, "--every", "86400", "--health", health, *held.limits)
         path = folder / "state.socket"
         print(f"{count} usual receipts are held; {(folder / 'state').stat().st_size} bytes of state")
         print(f"from the start to ready: {began:.2f} s; held then: {memory(replica, 'VmRSS') / 2**20:.0f} MiB")
@@ -216,9 +261,11 @@ def main(words):
         print_times("append and sync of 4,000 B", sync_times(folder, requests))
         print_times("bundle", [ask(path, ["bundle", "--domain", DOMAIN])[1] for _ in range(requests)])
         print_times("observe", [ask(path, held.words(), held.next_bundle())[1] for _ in range(requests)])
-        for clients in (1, 16):
-            rate = observed_a_second(held, path, clients, requests // clients)
-            print(f"acknowledged a second, {clients:>2} clients: {rate:.0f}", flush=True)
+        for clients, keeps in ((1, False), (16, False), (1, True), (16, True)):
+            rate = observed_a_second(held, path, clients, requests // clients, keeps)
+            what = "connections kept" if keeps else "a connection for each"
+            print(f"acknowledged a second, {clients:>2} clients, {what}: {rate:.0f}", flush=True)
+        print_costs(replica, health, path, requests)
         other, _ = start(program, folder, "other", "--peers", address, "--every", str(LEAST_EVERY), *held.limits)
         first, idle = (next_pull(other) for _ in range(2))
         print(f"a pull of all: {first}\na pull between equal replicas: {idle}", flush=True)

@@ -30,8 +30,13 @@ def renamed(held):
     return held
 
 
+# One for each socket, so that a connection is kept.
+CLIENTS = {}
+
+
 def answer(line):
-    client = Client(line["Socket"], timeout=line["Seconds"])
+    client = CLIENTS.setdefault(line["Socket"], Client(line["Socket"]))
+    client.timeout = line["Seconds"]
     name, texts = line["Call"], line.get("Texts", [])
     data = base64.b64decode(line.get("Input", "")) + b" " * line.get("Spaces", 0)
     if name == "status":

@@ -321,7 +321,13 @@ class Update:
 
 
 class Client:
-    """Asks the replica that listens on a socket, each time over a connection of its own. Several threads may use it.
+    """Asks the replica that listens on a socket, of fedbundle 0.13.0 or later. It keeps one connection for the next request,
+    until `close` or the end of a `with`. Several threads may use it: a request that is made while another one is not
+    answered has a connection of its own.
+
+    If the replica has ended the connection that was kept, before a byte of the reply came, the request is made once more on a
+    new one, except `stop`. What a replica holds is a set that only grows, so a request may be carried out again: `observe` may
+    then hold one more receipt of the same bundle, and `merge` counts what is new since.
 
     `timeout` is how many seconds a request may take as a whole; each method takes another one. `most_reply_bytes` is how
     many bytes a reply may have after its first line.
@@ -337,16 +343,48 @@ class Client:
         self.timeout = timeout
         self.most_reply_bytes = most_reply_bytes
         self._cancelled: Optional[threading.Event] = None
+        self._kept = _Kept()
+
+    def close(self) -> None:
+        """Closes the connection that is kept, if there is one. A later request makes another one."""
+        self._kept.keep(None)
+
+    def __enter__(self) -> Client:
+        return self
+
+    def __exit__(self, *_: object) -> None:
+        self.close()
 
     def ask(self, words: Sequence[str], data: bytes = b"", *, timeout: Optional[float] = None) -> Reply:
         """Makes any request: the arguments of a command without --at, and its standard input. A request that is refused
         is not an error here: its reply says so. Use it for what no other method asks."""
-        line = _words_line(words)
+        line = _request_line(words, len(data))
         limit = _Limit(self.timeout if timeout is None else timeout, self._cancelled)
-        with _connect(_path(self.path), limit) as stream:
-            if _send(stream, line, limit) and _send(stream, data, limit):
-                _end_input(stream)
-            return _read_reply(lambda: _receive(stream, limit), self.most_reply_bytes)
+        path = _path(self.path)
+        stream = self._kept.take(path) if list(words[:1]) != ["stop"] else None
+        if stream:
+            try:
+                return self._exchange(path, stream, line, data, limit)
+            except _Unanswered:
+                pass
+        try:
+            return self._exchange(path, _connect(path, limit), line, data, limit)
+        except _Unanswered:
+            raise _no_replica("the reply has no first line") from None
+
+    def _exchange(self, path: bytes, stream: socket.socket, line: bytes, data: bytes, limit: _Limit) -> Reply:
+        """The reply to a request, after which the connection is kept. After anything else it is closed."""
+        kept = False
+        try:
+            if _send(stream, line, limit):
+                _send(stream, data, limit)
+            reply = _read_reply(lambda: _receive(stream, limit), self.most_reply_bytes)
+            kept = True
+        finally:
+            if not kept:
+                stream.close()
+        self._kept.keep(stream, path)
+        return reply
 
     def status(self, *, timeout: Optional[float] = None) -> Status:
         """How the replica stands, and what it warns of."""
@@ -627,6 +665,53 @@ def _refusal(reply: Reply) -> ReplicaError:
 # ---- the exchange
 
 
+class _Unanswered(Exception):
+    """The connection has ended before a byte of the reply came."""
+
+
+class _Kept:
+    """The connection to a replica that no request uses now, if there is one."""
+
+    def __init__(self) -> None:
+        self._lock = threading.Lock()
+        self._stream: Optional[socket.socket] = None
+        self._of: Tuple[bytes, int] = (b"", 0)
+
+    def take(self, path: bytes) -> Optional[socket.socket]:
+        """It, if it is one to this path, of this process, and the replica has not ended it. It is not kept any more."""
+        with self._lock:
+            stream, self._stream = self._stream, None
+            of = self._of
+        if stream and (of != (path, os.getpid()) or not _is_quiet(stream)):
+            stream.close()
+            return None
+        return stream
+
+    def keep(self, stream: Optional[socket.socket], path: bytes = b"") -> None:
+        """This one is kept, and another one closed."""
+        with self._lock:
+            other, self._stream = self._stream, stream
+            self._of = path, os.getpid()
+        if other:
+            other.close()
+
+    def __del__(self) -> None:
+        if self._stream:
+            self._stream.close()
+
+
+def _is_quiet(stream: socket.socket) -> bool:
+    """Whether nothing comes on it, and not its end."""
+    try:
+        stream.setblocking(False)
+        stream.recv(1, socket.MSG_PEEK)
+    except BlockingIOError:
+        return True
+    except OSError:
+        pass
+    return False
+
+
 class _Limit:
     """When the time of a request is over, or who cancels it."""
 
@@ -661,9 +746,10 @@ def _optional(domain: Optional[str], *words: str) -> List[str]:
     return [*words] if domain is None else [*words, f"--domain={domain}"]
 
 
-def _words_line(words: Sequence[str]) -> bytes:
+def _request_line(words: Sequence[str], count: int) -> bytes:
+    """The first line of a request, which says how many bytes of input follow it."""
     try:
-        return json.dumps(list(words), ensure_ascii=False).encode() + b"\n"
+        return b'{"input":%d,"words":%s}\n' % (count, json.dumps(list(words), ensure_ascii=False).encode())
     except UnicodeEncodeError as error:
         raise _usage(str(error)) from None
 
@@ -703,16 +789,9 @@ def _send(stream: socket.socket, data: bytes, limit: _Limit) -> bool:
     return True
 
 
-def _end_input(stream: socket.socket) -> None:
-    try:
-        stream.shutdown(socket.SHUT_WR)
-    except OSError:
-        pass
-
-
 def _receive(stream: socket.socket, limit: _Limit) -> bytes:
-    """The next bytes; none at the end of the stream. After a reply the connection may also end by an error of the system,
-    as when not all input was read."""
+    """The next bytes; none at the end of the stream. The connection may also end by an error of the system, as when not all
+    input was read."""
     while True:
         stream.settimeout(limit.slice())
         try:
@@ -724,12 +803,14 @@ def _receive(stream: socket.socket, limit: _Limit) -> bytes:
 
 
 def _read_reply(receive: Callable[[], bytes], most: int) -> Reply:
-    """A reply up to the end of the stream, but at most so many bytes after its first line."""
+    """A reply, of at most so many bytes after its first line."""
     text = bytearray()
     while (end := text.find(b"\n")) < 0 and len(text) <= _HEAD_LIMIT:
         piece = receive()
+        if not piece and not text:
+            raise _Unanswered
         if not piece:
-            raise _no_replica("the reply has no first line")
+            raise _no_replica("the first line of the reply has no end")
         text += piece
     if not 0 <= end <= _HEAD_LIMIT:
         raise _no_replica("the first line of the reply is too long")
@@ -737,7 +818,7 @@ def _read_reply(receive: Callable[[], bytes], most: int) -> Reply:
     if output + errors > most:
         raise _no_replica(f"the reply has more than {most} bytes")
     del text[: end + 1]
-    while len(text) <= output + errors:
+    while len(text) < output + errors:
         piece = receive()
         if not piece:
             break

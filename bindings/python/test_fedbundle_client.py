@@ -22,12 +22,24 @@ def replied(output=b"", errors=b"", status=0):
 
 
 def request(stream):
-    """The arguments and the input of a request."""
+    """The arguments and the input of the next request, which may be the last thing that comes, but no more."""
     text = b""
-    while piece := stream.recv(1 << 20):
-        text += piece
+    while b"\n" not in text:
+        text += received(stream)
     line, _, data = text.partition(b"\n")
-    return json.loads(line), data
+    said = json.loads(line)
+    while len(data) < said["input"]:
+        data += received(stream)
+    if list(said) != ["input", "words"] or len(data) > said["input"]:
+        raise ValueError(f"not a request: {text[:100]}")
+    return said["words"], data
+
+
+def received(stream):
+    piece = stream.recv(1 << 20)
+    if not piece:
+        raise ValueError("no more comes")
+    return piece
 
 
 class Case(unittest.TestCase):
@@ -40,14 +52,17 @@ class Case(unittest.TestCase):
         threads = [threading.Thread(target=self.accept, args=(listener, serve))]
         threads[0].start()
 
+        found = Client(f"{folder.name}/socket")
+
         def end():
+            found.close()
             listener.shutdown(socket.SHUT_RDWR)
             threads[0].join()
             listener.close()
             folder.cleanup()
 
         self.addCleanup(end)
-        return Client(f"{folder.name}/socket")
+        return found
 
     @staticmethod
     def accept(listener, serve):
@@ -337,6 +352,88 @@ class Servers(Case):
         ]:
             self.fails(client.NO_REPLICA, 3, self.replying(reply).report)
 
+    def counted(self, reply, most=1 << 30):
+        """A client of a server that answers so many requests on each connection, and a list of what came on each."""
+        connections = []
+
+        def serve(stream):
+            connections.append([])
+            for _ in range(most):
+                connections[-1].append(request(stream))
+                reply(stream, connections[-1][-1][0][0])
+
+        return self.served(serve), connections
+
+    def test_one_connection(self):
+        """It is kept for the next request, also if a reply comes in pieces, and not after `close`."""
+
+        def in_pieces(stream, word):
+            for byte in replied(word.encode(), b"errors"):
+                stream.sendall(bytes([byte]))
+
+        asked, connections = self.counted(in_pieces)
+        with asked:
+            for number in range(20):
+                self.assertEqual(Reply(b"%d" % number, b"errors", 0), asked.ask([str(number)], b"x" * number))
+            self.assertEqual([[([str(number)], b"x" * number) for number in range(20)]], connections)
+        self.assertEqual(b"21", asked.ask(["21"]).output)
+        self.assertEqual(2, len(connections))
+        asked.close()
+
+    def test_ended_connection(self):
+        """A request is made once more if the connection that was kept ends without a byte of the reply."""
+        ended = []
+
+        def reply(stream, word):
+            if word == "end" and not ended:
+                ended.append(word)
+                raise ValueError("the replica ends")
+            stream.sendall(replied(word.encode()))
+
+        asked, connections = self.counted(reply)
+        self.assertEqual(b"one", asked.ask(["one"]).output)
+        self.assertEqual(b"end", asked.ask(["end"]).output)
+        self.assertEqual([["one", "end"], ["end"]], [[words[0] for words, _ in one] for one in connections])
+        # It was ended after the last reply, and that is seen before anything is sent.
+        asked, connections = self.counted(reply, 1)
+        for number in range(5):
+            self.assertEqual(b"%d" % number, asked.ask([str(number)]).output)
+        self.assertEqual([[str(number)] for number in range(5)], [[words[0] for words, _ in one] for one in connections])
+
+    def test_not_made_again(self):
+        """A request on a new connection, one with a byte of its reply, and `stop`."""
+
+        def reply(stream, word):
+            if word == "cut":
+                stream.sendall(b"{")
+            if word != "one":
+                raise ValueError("the replica ends")
+            stream.sendall(replied(b"1"))
+
+        asked, connections = self.counted(reply)
+        self.fails(client.NO_REPLICA, 3, asked.ask, ["none"])
+        for word in ("cut", "stop"):
+            asked.ask(["one"])
+            self.fails(client.NO_REPLICA, 3, asked.ask, [word])
+        self.assertEqual(
+            [["none"], ["one", "cut"], ["one"], ["stop"]], [[words[0] for words, _ in one] for one in connections])
+
+    def test_unasked_bytes(self):
+        """What a server sends unasked is not taken for the next reply."""
+        sent = threading.Event()
+
+        def reply(stream, word):
+            stream.sendall(replied(word.encode()))
+            time.sleep(0.05)
+            stream.sendall(replied(b"unasked"))
+            sent.set()
+
+        asked, connections = self.counted(reply)
+        self.assertEqual(b"one", asked.ask(["one"]).output)
+        sent.wait(5)
+        self.assertEqual(b"two", asked.ask(["two"]).output)
+        self.assertEqual(2, len(connections))
+
     def test_most_reply_bytes(self):
         asked = self.replying(replied(b"12345", b"67"))
         asked.most_reply_bytes = 6
@@ -349,7 +446,7 @@ class Servers(Case):
         for head in (b"", replied(b"ab")):
 
             def serve(stream, head=head):
-                stream.sendall(head)
+                stream.sendall(head + b"x" * 65_536)
                 while True:
                     stream.sendall(b"x" * 65_536)
 
@@ -366,8 +463,9 @@ class Servers(Case):
 
     def test_time_limits(self):
         start = time.monotonic()
-        for head in (b"", b"{", DONE[:-1], replied(b"ab")[:-1], DONE):
+        for head in (b"", b"{", DONE[:-1], replied(b"ab")[:-1]):
             self.fails(client.NO_REPLY, 3, self.silent(head).report, timeout=0.05)
+        self.assertEqual(b"ab", self.silent(replied(b"ab")).report(timeout=5))
         asked = self.silent()
         asked.timeout = 0.05
         found = self.fails(client.NO_REPLY, 3, asked.report)

@@ -58,14 +58,15 @@ class Prover:
         return [self.rtlib.RATTLE, "check", *self.crates[name].words(["--jobs", "1"])]
 
     def is_built(self, name):
-        """Whether the crate's library is built of the sources that are there. `rt check` leaves a stamp with it; `rt ci` leaves
-        none, so there the library has to be younger than all sources."""
+        """Whether the crate's library is built of the sources that are there. `rt check` leaves a stamp with it. `rt ci` leaves
+        none: there the library must have been laid out after all sources were written. What an earlier run kept is laid out as
+        a second name of that file, which changes the time of its inode alone."""
         crate = self.crates[name]
         made = Path(crate.rlib, "format")
         if Path(crate.folder, "out/rlib/stamp").exists() or not made.exists():
             return crate.is_built()
         folders = [Path(it.folder, part) for it in [*crate.below(), crate] for part in self.rtlib.PARTS]
-        return all(file.stat().st_mtime < made.stat().st_mtime for folder in folders for file in folder.rglob("*") if file.is_file())
+        return all(file.stat().st_mtime < made.stat().st_ctime for folder in folders for file in folder.rglob("*") if file.is_file())
 
     def lacks(self, name):
         """The libraries below a crate that are not built from the sources that are there."""

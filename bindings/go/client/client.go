@@ -10,6 +10,7 @@ package client
 import (
 	"context"
 	"strconv"
+	"sync"
 	"time"
 )
 
@@ -20,8 +21,13 @@ const DefaultTimeout = 60 * time.Second
 // keeps of all its requests and replies, unless it is started with another --most-request-bytes.
 const DefaultMostReplyBytes = 512 << 20
 
-// Client asks the replica that listens on a socket, each time over a connection of its own. Several goroutines may use
-// it at once. The zero value of each field but Socket has a meaning.
+// Client asks the replica that listens on a socket, of fedbundle 0.13.0 or later. It keeps one connection for the next
+// request, until Close. Several goroutines may use it at once: a request that is made while another one is not answered
+// has a connection of its own. A Client is not copied. The zero value of each field but Socket has a meaning.
+//
+// If the replica has ended the connection that was kept, before a byte of the reply came, the request is made once more on
+// a new one, except that of Stop. What a replica holds is a set that only grows, so a request may be carried out again:
+// Observe may then hold one more receipt of the same bundle, and Merge counts what is new since.
 type Client struct {
 	// Socket is the path of the socket, of at most 107 bytes.
 	Socket string
@@ -30,6 +36,10 @@ type Client struct {
 	Timeout time.Duration
 	// MostReplyBytes is how many bytes a reply may have after its first line; DefaultMostReplyBytes if it is 0.
 	MostReplyBytes int64
+
+	lock   sync.Mutex
+	kept   *stream
+	keptAt string
 }
 
 // New returns a client of the replica that listens on the socket.

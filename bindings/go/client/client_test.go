@@ -39,16 +39,21 @@ func served(t *testing.T, serve func(*net.UnixConn)) *Client {
 		t.Fatal(err)
 	}
 	var group sync.WaitGroup
+	c := New(path)
 	t.Cleanup(func() {
+		c.Close()
 		listener.Close()
 		group.Wait()
 		os.RemoveAll(folder)
 	})
+	// It is counted too: a group may not grow from nothing while one waits for it.
+	group.Add(1)
 	go accept(listener, serve, &group)
-	return New(path)
+	return c
 }
 
 func accept(listener *net.UnixListener, serve func(*net.UnixConn), group *sync.WaitGroup) {
+	defer group.Done()
 	for {
 		connection, err := listener.AcceptUnix()
 		if err != nil {
@@ -63,14 +68,178 @@ func accept(listener *net.UnixListener, serve func(*net.UnixConn), group *sync.W
 	}
 }
 
-// request reads the arguments and the input of a request.
+// request reads the arguments and the input of the only request of a connection.
 func request(connection io.Reader) ([]string, string) {
-	reader := bufio.NewReader(connection)
-	line, _ := reader.ReadBytes('\n')
+	words, input, _ := nextRequest(bufio.NewReader(connection))
+	return words, input
+}
+
+// nextRequest reads the next one, and says whether it came.
+func nextRequest(reader *bufio.Reader) ([]string, string, bool) {
+	line, err := reader.ReadBytes('\n')
+	var first struct {
+		Input int      `json:"input"`
+		Words []string `json:"words"`
+	}
+	if err != nil || json.Unmarshal(line, &first) != nil {
+		return nil, "", false
+	}
+	input := make([]byte, first.Input)
+	_, err = io.ReadFull(reader, input)
+	return first.Words, string(input), err == nil
+}
+
+// seen are the arguments that came on each connection of a server.
+type seen struct {
+	sync.Mutex
+	connections [][]string
+}
+
+// counted gives each request on each connection to the function, as long as that says so.
+func counted(t *testing.T, reply func(connection *net.UnixConn, word, input string) bool) (*Client, *seen) {
+	t.Helper()
+	came := new(seen)
+	return served(t, func(connection *net.UnixConn) {
+		came.Lock()
+		place := len(came.connections)
+		came.connections = append(came.connections, nil)
+		came.Unlock()
+		reader := bufio.NewReader(connection)
+		for {
+			words, input, ok := nextRequest(reader)
+			if !ok {
+				return
+			}
+			came.Lock()
+			came.connections[place] = append(came.connections[place], words[0])
+			came.Unlock()
+			if !reply(connection, words[0], input) {
+				return
+			}
+		}
+	}), came
+}
+
+func (s *seen) want(t *testing.T, wanted ...[]string) {
+	t.Helper()
+	s.Lock()
+	defer s.Unlock()
+	if !reflect.DeepEqual(s.connections, wanted) {
+		t.Errorf("came %q, wanted %q", s.connections, wanted)
+	}
+}
+
+func wantOutput(t *testing.T, c *Client, word, input, output string) {
+	t.Helper()
+	reply, err := c.Ask(context.Background(), []string{word}, []byte(input))
+	if err != nil || string(reply.Output) != output {
+		t.Errorf("%s: %v, %v", word, err, reply)
+	}
+}
+
+// The connection is kept for the next request, also if a reply comes in pieces, and not after Close.
+func TestOneConnection(t *testing.T) {
+	c, came := counted(t, func(connection *net.UnixConn, word, input string) bool {
+		for _, one := range []byte(replied(word+input, "errors", 0)) {
+			if _, err := connection.Write([]byte{one}); err != nil {
+				return false
+			}
+		}
+		return true
+	})
 	var words []string
-	_ = json.Unmarshal(line, &words)
-	input, _ := io.ReadAll(reader)
-	return words, string(input)
+	for i := 0; i < 20; i++ {
+		words = append(words, fmt.Sprint(i))
+		wantOutput(t, c, words[i], strings.Repeat("x", i), words[i]+strings.Repeat("x", i))
+	}
+	came.want(t, words)
+	c.Close()
+	wantOutput(t, c, "after", "", "after")
+	came.want(t, words, []string{"after"})
+}
+
+// A request is made once more if the connection that was kept ends without a byte of the reply.
+func TestEndedConnection(t *testing.T) {
+	var ended sync.Once
+	c, came := counted(t, func(connection *net.UnixConn, word, input string) bool {
+		again := true
+		if word == "end" {
+			ended.Do(func() { again = false })
+		}
+		if again {
+			_, _ = io.WriteString(connection, replied(word, "", 0))
+		}
+		return again
+	})
+	wantOutput(t, c, "one", "", "one")
+	wantOutput(t, c, "end", "input", "end")
+	came.want(t, []string{"one", "end"}, []string{"end"})
+	// It was ended after the last reply.
+	c, came = counted(t, func(connection *net.UnixConn, word, input string) bool {
+		_, _ = io.WriteString(connection, replied(word, "", 0))
+		return false
+	})
+	for _, word := range []string{"one", "two", "three"} {
+		wantOutput(t, c, word, "", word)
+	}
+	came.want(t, []string{"one"}, []string{"two"}, []string{"three"})
+}
+
+// It is not on a new connection, nor once a byte of the reply came, nor if it is that of Stop.
+func TestNotMadeAgain(t *testing.T) {
+	c, came := counted(t, func(connection *net.UnixConn, word, input string) bool {
+		switch word {
+		case "one":
+			_, _ = io.WriteString(connection, replied("1", "", 0))
+		case "cut":
+			_, _ = io.WriteString(connection, "{")
+		}
+		return word == "one"
+	})
+	_, err := c.Ask(context.Background(), []string{"none"}, nil)
+	wantCode(t, "none", err, NoReplica, 3)
+	for _, word := range []string{"cut", "stop"} {
+		wantOutput(t, c, "one", "", "1")
+		_, err := c.Ask(context.Background(), []string{word}, nil)
+		wantCode(t, word, err, NoReplica, 3)
+	}
+	came.want(t, []string{"none"}, []string{"one", "cut"}, []string{"one"}, []string{"stop"})
+}
+
+// What a server sends unasked is not taken for the next reply.
+func TestUnaskedBytes(t *testing.T) {
+	sent := make(chan struct{}, 2)
+	c, came := counted(t, func(connection *net.UnixConn, word, input string) bool {
+		_, _ = io.WriteString(connection, replied(word, "", 0))
+		time.Sleep(50 * time.Millisecond)
+		_, _ = io.WriteString(connection, replied("unasked", "", 0))
+		sent <- struct{}{}
+		return true
+	})
+	wantOutput(t, c, "one", "", "one")
+	<-sent
+	wantOutput(t, c, "two", "", "two")
+	came.want(t, []string{"one"}, []string{"two"})
+}
+
+// A request whose context has ended leaves no time limit to the next one.
+func TestLimitOfOne(t *testing.T) {
+	c, came := counted(t, func(connection *net.UnixConn, word, input string) bool {
+		_, _ = io.WriteString(connection, replied(word, "", 0))
+		return true
+	})
+	for i := 0; i < 50; i++ {
+		ctx, cancel := context.WithCancel(context.Background())
+		if _, err := c.Ask(ctx, []string{"one"}, nil); err != nil {
+			t.Error(err)
+		}
+		cancel()
+	}
+	came.Lock()
+	defer came.Unlock()
+	if len(came.connections) != 1 {
+		t.Errorf("%d connections", len(came.connections))
+	}
 }
 
 // replying gives each request the same reply.
@@ -395,9 +564,10 @@ func TestCutReplies(t *testing.T) {
 func TestEndlessReply(t *testing.T) {
 	endless := func(head string) *Client {
 		return served(t, func(connection *net.UnixConn) {
-			_, err := io.WriteString(connection, head)
-			for piece := bytes.Repeat([]byte("x"), 1<<16); err == nil; {
-				_, err = connection.Write(piece)
+			piece := strings.Repeat("x", 1<<16)
+			_, err := io.WriteString(connection, head+piece)
+			for err == nil {
+				_, err = io.WriteString(connection, piece)
 			}
 		})
 	}
@@ -437,7 +607,7 @@ func wantQuick(t *testing.T, what string, start time.Time) {
 }
 
 func TestTimeout(t *testing.T) {
-	for _, head := range []string{"", "{", nobody[:len(nobody)-1], replied("ab", "", 0)[:30], nobody} {
+	for _, head := range []string{"", "{", nobody[:len(nobody)-1], replied("ab", "", 0)[:30]} {
 		c, start := silent(t, head), time.Now()
 		c.Timeout = 50 * time.Millisecond
 		_, err := c.Report(context.Background())

@@ -165,6 +165,9 @@ func polls(ctx context.Context, c *client.Client, l *line) (any, error) {
 	return shown, err
 }
 
+// clients has one for each socket, so that a connection is kept.
+var clients = map[string]*client.Client{}
+
 // made is what came of a request.
 func made(text []byte) any {
 	var l line
@@ -172,7 +175,11 @@ func made(text []byte) any {
 		log.Fatal(err)
 	}
 	l.Input = append(l.Input, bytes.Repeat([]byte{' '}, l.Spaces)...)
-	c := client.New(l.Socket)
+	c := clients[l.Socket]
+	if c == nil {
+		c = client.New(l.Socket)
+		clients[l.Socket] = c
+	}
 	c.Timeout = time.Duration(l.Seconds * float64(time.Second))
 	answer, err := calls[l.Call](context.Background(), c, &l)
 	var refused *client.Error

@@ -1,6 +1,6 @@
 //! Arguments that clap takes and that are not a call: what is missing.
 use command_exits::Exit;
-use command_line::{OptionName, command_of};
+use command_line::{OptionName, TakenOption, command_of};
 use command_streams::{is_verbose_unasked, print_exit, say};
 use std::alloc::AllocError;
 
@@ -24,9 +24,9 @@ fn say_lack(rt: &HostRuntime, words: &[&str]) -> Result<(), AllocError> {
         return Ok(());
     };
     let has_at = has_option(words, OptionName::At);
-    'options: for &option in name.options() {
-        if let Some(line) = lack_of(words, option, has_at) {
-            let (command, option) = (name.text(), option.text());
+    'options: for &taken in name.options() {
+        if let Some(line) = lack_of(words, taken, has_at) {
+            let (command, option) = (name.text(), taken.name().text());
             say(
                 rt,
                 format!(in rt.alloc(); "{command}: --{option} {line}")?.as_str(),
@@ -37,13 +37,17 @@ fn say_lack(rt: &HostRuntime, words: &[&str]) -> Result<(), AllocError> {
 }
 
 // What is wrong with an option among the arguments.
-fn lack_of<'a>(words: &[&str], option: OptionName, has_at: bool) -> Option<&'a str> {
-    let placed = has_option(words, option);
-    if has_at && option.is_place() {
-        return placed.then_some("may not stand beside --at");
+fn lack_of<'a>(words: &[&str], taken: TakenOption, has_at: bool) -> Option<&'a str> {
+    let is_there = has_option(words, taken.name());
+    match taken {
+        TakenOption::RequiredOverFiles(_) | TakenOption::OptionalOverFiles(_) if has_at =>
+            is_there.then_some("may not stand beside --at"),
+        TakenOption::OptionalAtReplica(_) if !has_at => is_there.then_some("is only for --at"),
+        TakenOption::Required(_) | TakenOption::RequiredOverFiles(_) if !is_there => {
+            Some("is missing")
+        }
+        _ => None,
     }
-    let may_lack = option.may_be_left_out() || option.is_flag();
-    (!placed && !may_lack).then_some("is missing")
 }
 
 fn has_option(words: &[&str], option: OptionName) -> bool {

@@ -3,7 +3,7 @@
 //! at what the command was given, and only if these lines are wanted.
 use crate::fault_places::{say_bundle, say_config, say_state, say_stream};
 use command_exits::{CommandError, Exit, Step, SystemFault, status};
-use command_line::{Call, CommandName, OptionName, given, is_flag_given};
+use command_line::{Call, CommandName, OptionName, given};
 use command_streams::options::{address, config, health_names, known_address, may_listen};
 use command_streams::{is_verbose_for, print_exit, quoted, say, shown, words_of};
 use fed_config::Config;
@@ -92,7 +92,12 @@ fn say_why(rt: &HostRuntime, call: &Call<'_>, exit: &Exit) -> Result<(), AllocEr
         Exit::TooManyBytes => say_option(rt, call, OptionName::MostBytes, "would be passed"),
         Exit::System(fault) => say_system(rt, call, fault),
         Exit::Refused(error) => say_refusal(rt, call, error),
-        Exit::Usage => say_usage(rt, call),
+        Exit::Usage => {
+            if call.name == CommandName::Distrust {
+                say_keys(rt, call);
+            }
+            Ok(())
+        }
     }
 }
 
@@ -119,31 +124,10 @@ fn unknown_key<'a>(call: &Call<'_>) -> &'a str {
     }
 }
 
-// `distrust` wants one of two options, and some flags are only for files or only for a replica.
-fn say_usage(rt: &HostRuntime, call: &Call<'_>) -> Result<(), AllocError> {
-    if call.name == CommandName::Distrust {
-        say_keys(rt, call);
-    }
-    let has_at = given(call, OptionName::At).is_some();
-    'flags: for (flag, is_wrong, why) in [
-        (OptionName::New, has_at, "may not stand beside --at"),
-        (OptionName::Known, has_at, "may not stand beside --at"),
-        (OptionName::UnknownKey, !has_at, "is only for --at"),
-    ] {
-        if is_wrong && is_flag_given(given(call, flag)) {
-            let (command, flag) = (call.name.text(), flag.text());
-            say(
-                rt,
-                format!(in rt.alloc(); "{command}: --{flag} {why}")?.as_str(),
-            );
-        }
-    }
-    Ok(())
-}
-
+// `distrust` wants one of two options.
 fn say_keys(rt: &HostRuntime, call: &Call<'_>) {
     match (
-        given(call, OptionName::OptionalKey),
+        given(call, OptionName::Key),
         given(call, OptionName::PublicKey),
     ) {
         (None, None) => say(rt, "distrust: --key is missing"),

@@ -1,6 +1,6 @@
 -- Building the command, and what it reads from arguments
 use Rattle.std.proofs.Common.{rules, ◌≡◌, ℕ, ◌+◌, ◌<◌, Bool, true, false, ◌&&◌, not, List, [], ◌∷◌, ◌++◌, map, length}
-use Rattle.std.proofs.Common.{get_or, drop, take, drop-cons, add-one, fold, Option, Some, None, is_some, option_map, unwrap_or, refl}
+use Rattle.std.proofs.Common.{get_or, drop, take, drop-cons, add-one, fold, Option, Some, None, option_map, unwrap_or, refl}
 use Rattle.std.proofs.Common.{sym, ap, ◌∙◌, append_assoc, subst, inl, inr}
 use Rattle.std.proofs.lemmas.List.Folds.{list_all_at, list_all_more}
 use Rattle.std.specs.List.{list_all}
@@ -9,14 +9,15 @@ use Rattle.clap.specs.declared.error.Error.{Error}
 use Rattle.clap.specs.declared.error.kind.ErrorKind.TheVariants.{OutOfMemory}
 use Rattle.command_line.specs.declared.command_name.CommandName.{CommandName}
 use Rattle.command_line.specs.declared.command_name.CommandName.TheVariants as command
-use Rattle.command_line.specs.declared.command_name.OptionName.{OptionName}
 use Rattle.command_line.specs.declared.command_name.OptionName.TheVariants.{At}
+use Rattle.command_line.specs.declared.command_name.TakenOption.{TakenOption}
 use Rattle.command_line.specs.declared.words.WordsError.{WordsError}
 use Rattle.command_line.specs.declared.words.WordsError.TheVariants.{Words, Usage, NoMemory, Flawed}
 use Rattle.command_line.specs.declared.words.WordsPlace.{WordsPlace}
 use Rattle.command_line.specs.Inside.WordsErrors.{KeepsKind}
 use Rattle.command_line.specs.Checks.{RefusesWords}
-use Rattle.command_line.specs.Words.{IsNoCall, given, is_settled_in, leaf, name_text, named, options_of}
+use Rattle.command_line.specs.OptionRows.{options_of, taken_name}
+use Rattle.command_line.specs.Words.{IsNoCall, is_given, is_settled_in, leaf, name_text, named}
 use Rattle.command_line.specs.Words.{settled_at, the_command}
 
 -- what is left is the next item and what is left after it
@@ -37,15 +38,10 @@ texts_more g xs k x low is o n t e found =
     ∙ append_assoc o (t ∷ []) (map g (drop (k + 1) xs)) ∙ (λ i. o ++ (sym found i ∷ map g (drop (k + 1) xs)))
     ∙ ap (λ ys. o ++ map g ys) (sym (next_at xs k x low is))
 
--- the option whose text was looked up has a text exactly if the rows give it one
-pub has_text : {X : Type 0} (f : X → Text) (o : Option X) (t : Option Text) → option_map f o ≡ t → is_some t ≡ is_some o
-has_text f None t e = ap is_some (sym e)
-has_text f (Some x) t e = ap is_some (sym e)
-
 -- what the code finds of an option is what the rows say of it
-pub settled_as : (place : WordsPlace) (rows : List Row) (option : OptionName) (at given_text : Bool) → is_some (given rows At) ≡ at
-    → is_some (given rows option) ≡ given_text → settled_at place at given_text option ≡ is_settled_in place rows option
-settled_as place rows option at given_text e f = λ i. settled_at place (sym e i) (sym f i) option
+pub settled_as : (place : WordsPlace) (rows : List Row) (taken : TakenOption) (at stated : Bool) → is_given rows At ≡ at
+    → is_given rows (taken_name taken) ≡ stated → settled_at place at stated taken ≡ is_settled_in place rows taken
+settled_as place rows taken at stated e f = λ i. settled_at place (sym e i) (sym f i) taken
 
 -- one more option is settled: the step of the loop in `are_settled`
 pub settled_more : {X : Type 0} (p : X → Bool) (xs : List X) (k : ℕ) (x : X) → k < length xs → x ≡ get_or xs k x

@@ -1,5 +1,6 @@
--- The arguments that make a call are in the first, what its options say in the others, and what a
--- call is refused for in `Checks`.
+-- The options and the subcommands are in the first, the arguments that make a call in the second,
+-- what its options say in the others, and what a call is refused for in `Checks`.
+pub mod OptionRows
 pub mod Words
 pub mod OptionTexts
 pub mod Checks

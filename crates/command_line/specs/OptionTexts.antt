@@ -6,7 +6,7 @@ use Rattle.std.specs.Str.{bytes_eq}
 use Rattle.std.specs.Str.Parse.{IsNumeral, digits_value}
 use Rattle.hex.specs.Hex.{IsBytes, encode_lower}
 use Rattle.jwk_set.specs.declared.authority.KeyId.{KeyId}
-use Rattle.command_line.specs.Words.{options_of, option_text}
+use Rattle.command_line.specs.OptionRows.{options_of, option_text, taken_name}
 use Rattle.command_line.specs.declared.option_texts.ExplanationForm.{ExplanationForm}
 use Rattle.command_line.specs.declared.option_texts.ExplanationForm.TheVariants.{Receipts, Steps}
 use Rattle.command_line.specs.declared.option_texts.ExplanationForm.TheVariants as chain
@@ -16,6 +16,7 @@ use Rattle.command_line.specs.declared.command_name.OptionName.TheVariants.{Most
 use Rattle.command_line.specs.declared.command_name.OptionName.TheVariants.{Wait}
 use Rattle.command_line.specs.declared.command_name.OptionName.TheVariants.{MostReceipts}
 use Rattle.command_line.specs.declared.command_name.OptionName.TheVariants.{MostRecords}
+use Rattle.command_line.specs.declared.command_name.TakenOption.{TakenOption}
 use Rattle.command_line.specs.declared.option_error.OptionError.{OptionError}
 use Rattle.command_line.specs.declared.option_error.OptionError.TheVariants.{BadNumber}
 use Rattle.command_line.specs.declared.option_texts.Manner.{Manner}
@@ -26,11 +27,12 @@ use Rattle.command_line.specs.declared.option_texts.OutputForm.{OutputForm}
 use Rattle.command_line.specs.declared.option_texts.OutputForm.TheVariants as output
 
 -- the text at the place of the first option of this name
-abbrev pub said_with : List OptionName → List (Option (List ℕ)) → OptionName → Option (List ℕ)
+abbrev pub said_with : List TakenOption → List (Option (List ℕ)) → OptionName → Option (List ℕ)
 said_with [] texts option = None
 said_with (o ∷ os) [] option = None
 said_with (o ∷ os) (text ∷ texts) option =
-    if bytes_eq (option_text o) (option_text option) then text else said_with os texts option
+    if bytes_eq (option_text (taken_name o)) (option_text option) then text
+    else said_with os texts option
 
 -- the text of the subcommand's option, if the arguments give it one
 abbrev pub option_said : CommandName → List (Option (List ℕ)) → OptionName → Option (List ℕ)

@@ -1,8 +1,8 @@
-//! The subcommands, and the options of each. A flag has the text `true` if it is given, and else
-//! `false`; of the others some may be left out.
+//! The subcommands, and the options that each takes. What is known of an option for all of them is
+//! its row in `option_rows`.
 ghost use Rattle.std.specs.Prelude.{◌≡◌, List};
-ghost use Rattle.command_line.specs.Words.{is_flag, is_place, may_be_left_out, option_text};
-ghost use Rattle.command_line.specs.Words.{name_text, options_of};
+ghost use Rattle.command_line.specs.OptionRows.{options_of, taken_name};
+ghost use Rattle.command_line.specs.Words.{name_text};
 
 /// An option, which has one text, or a flag.
 #[derive(Clone, Copy, Debug, PartialEq, Eq)]
@@ -18,10 +18,6 @@ pub enum OptionName {
     Peer,
     To,
     RecordsOnly,
-    /// The state of a command that also works without one.
-    OptionalState,
-    /// The domain of a command that also works without one.
-    OptionalDomain,
     With,
     At,
     Wait,
@@ -33,27 +29,19 @@ pub enum OptionName {
     Format,
     Short,
     Socket,
-    /// The address of a command that also works without one.
-    OptionalListen,
     Peers,
     Every,
     MostRequestBytes,
     New,
-    /// The format of a command that no running replica carries out.
-    FileFormat,
     ReadSocket,
     ListenAnywhere,
     /// What is known of keys.
     Keys,
-    /// The key of a command that also works without one.
-    OptionalKey,
     PublicKey,
     /// A running replica takes a key that it does not know.
     UnknownKey,
     /// The command over files refuses a key that is not known.
     Known,
-    /// The present time of a command that also works without one.
-    OptionalNow,
     ExpiresWithin,
     PeerQuiet,
     Polls,
@@ -114,6 +102,24 @@ pub enum CommandName {
     Stop,
 }
 
+/// An option of a subcommand, and when the arguments give it.
+#[derive(Clone, Copy, Debug, PartialEq, Eq)]
+pub enum TakenOption {
+    /// They give it.
+    Required(OptionName),
+    /// They may leave it out.
+    Optional(OptionName),
+    /// They give it, unless a running replica is asked: that has it itself, so they leave it out.
+    RequiredOverFiles(OptionName),
+    /// They may leave it out, and leave it out if a running replica is asked.
+    OptionalOverFiles(OptionName),
+    /// They may leave it out, and leave it out if no running replica is asked.
+    OptionalAtReplica(OptionName),
+    /// They may leave it out. It names the running replica that is asked, so those of a request
+    /// leave it out.
+    Asking(OptionName),
+}
+
 /// All subcommands, in the order in which help lists them.
 pub(crate) static COMMANDS: [CommandName; 20] = [
     CommandName::Canon,
@@ -138,375 +144,264 @@ pub(crate) static COMMANDS: [CommandName; 20] = [
     CommandName::Stop,
 ];
 
-impl OptionName {
-    /// The option's name, which its argument has after two hyphens.
-    pub fn text<'a>(self) -> &'a str
-        ensures { result.now ≡ option_text self }
+impl TakenOption {
+    /// The option.
+    pub fn name(self) -> OptionName
+        ensures { result ≡ taken_name self }
     {
         match self {
-            OptionName::Config => "config",
-            OptionName::State => "state",
-            OptionName::Domain => "domain",
-            OptionName::Endpoint => "endpoint",
-            OptionName::Key => "key",
-            OptionName::Now => "now",
-            OptionName::Listen => "listen",
-            OptionName::Sessions => "sessions",
-            OptionName::Peer => "peer",
-            OptionName::To => "to",
-            OptionName::RecordsOnly => "records-only",
-            OptionName::OptionalState => "state",
-            OptionName::OptionalDomain => "domain",
-            OptionName::With => "with",
-            OptionName::At => "at",
-            OptionName::Wait => "wait",
-            OptionName::MostBytes => "most-bytes",
-            OptionName::Allow => "allow",
-            OptionName::Floors => "floors",
-            OptionName::DryRun => "dry-run",
-            OptionName::Verbose => "verbose",
-            OptionName::Format => "format",
-            OptionName::Short => "short",
-            OptionName::Socket => "socket",
-            OptionName::OptionalListen => "listen",
-            OptionName::Peers => "peers",
-            OptionName::Every => "every",
-            OptionName::MostRequestBytes => "most-request-bytes",
-            OptionName::New => "new",
-            OptionName::FileFormat => "format",
-            OptionName::ReadSocket => "read-socket",
-            OptionName::ListenAnywhere => "listen-anywhere",
-            OptionName::Keys => "keys",
-            OptionName::OptionalKey => "key",
-            OptionName::PublicKey => "public-key",
-            OptionName::UnknownKey => "unknown-key",
-            OptionName::Known => "known",
-            OptionName::OptionalNow => "now",
-            OptionName::ExpiresWithin => "expires-within",
-            OptionName::PeerQuiet => "peer-quiet",
-            OptionName::Polls => "polls",
-            OptionName::Health => "health",
-            OptionName::HealthHost => "health-host",
-            OptionName::Audit => "audit",
-            OptionName::Previous => "previous",
-            OptionName::MostReceipts => "most-receipts",
-            OptionName::MostRecords => "most-records",
-            OptionName::Sums => "sums",
+            TakenOption::Required(name) => name,
+            TakenOption::Optional(name) => name,
+            TakenOption::RequiredOverFiles(name) => name,
+            TakenOption::OptionalOverFiles(name) => name,
+            TakenOption::OptionalAtReplica(name) => name,
+            TakenOption::Asking(name) => name,
         }
-    }
-
-    /// Whether it is a flag, which has no text after it.
-    pub fn is_flag(self) -> bool
-        ensures { result ≡ is_flag self }
-    {
-        matches!(
-            self,
-            OptionName::RecordsOnly
-                | OptionName::Floors
-                | OptionName::DryRun
-                | OptionName::Verbose
-                | OptionName::Short
-                | OptionName::New
-                | OptionName::ListenAnywhere
-                | OptionName::Keys
-                | OptionName::UnknownKey
-                | OptionName::Known
-                | OptionName::Sums
-        )
-    }
-
-    /// Whether the arguments may leave it out.
-    pub fn may_be_left_out(self) -> bool
-        ensures { result ≡ may_be_left_out self }
-    {
-        matches!(
-            self,
-            OptionName::To
-                | OptionName::OptionalState
-                | OptionName::OptionalDomain
-                | OptionName::With
-                | OptionName::At
-                | OptionName::Wait
-                | OptionName::MostBytes
-                | OptionName::Allow
-                | OptionName::Format
-                | OptionName::OptionalListen
-                | OptionName::Peers
-                | OptionName::Every
-                | OptionName::MostRequestBytes
-                | OptionName::FileFormat
-                | OptionName::ReadSocket
-                | OptionName::OptionalKey
-                | OptionName::PublicKey
-                | OptionName::OptionalNow
-                | OptionName::ExpiresWithin
-                | OptionName::PeerQuiet
-                | OptionName::Polls
-                | OptionName::Health
-                | OptionName::HealthHost
-                | OptionName::Audit
-                | OptionName::Previous
-                | OptionName::MostReceipts
-                | OptionName::MostRecords
-        )
-    }
-
-    /// Whether it names a file that a running replica has itself, or limits what is held, which
-    /// that replica does itself, or is the format of a command that no such replica carries out:
-    /// arguments with `--at` leave it out.
-    pub fn is_place(self) -> bool
-        ensures { result ≡ is_place self }
-    {
-        matches!(
-            self,
-            OptionName::Config
-                | OptionName::State
-                | OptionName::OptionalState
-                | OptionName::FileFormat
-                | OptionName::MostReceipts
-                | OptionName::MostRecords
-        )
     }
 }
 
-static CANON: [OptionName; 3] = [
-    OptionName::Domain,
-    OptionName::FileFormat,
-    OptionName::Verbose,
+static CANON: [TakenOption; 3] = [
+    TakenOption::Required(OptionName::Domain),
+    TakenOption::Optional(OptionName::Format),
+    TakenOption::Optional(OptionName::Verbose),
 ];
 
-static CONFIG: [OptionName; 6] = [
-    OptionName::Config,
-    OptionName::With,
-    OptionName::Format,
-    OptionName::Wait,
-    OptionName::Verbose,
-    OptionName::At,
+static CONFIG: [TakenOption; 6] = [
+    TakenOption::RequiredOverFiles(OptionName::Config),
+    TakenOption::Optional(OptionName::With),
+    TakenOption::Optional(OptionName::Format),
+    TakenOption::Optional(OptionName::Wait),
+    TakenOption::Optional(OptionName::Verbose),
+    TakenOption::Asking(OptionName::At),
 ];
 
-static NEW: [OptionName; 6] = [
-    OptionName::Config,
-    OptionName::State,
-    OptionName::Wait,
-    OptionName::MostReceipts,
-    OptionName::MostRecords,
-    OptionName::Verbose,
+static NEW: [TakenOption; 6] = [
+    TakenOption::RequiredOverFiles(OptionName::Config),
+    TakenOption::RequiredOverFiles(OptionName::State),
+    TakenOption::Optional(OptionName::Wait),
+    TakenOption::OptionalOverFiles(OptionName::MostReceipts),
+    TakenOption::OptionalOverFiles(OptionName::MostRecords),
+    TakenOption::Optional(OptionName::Verbose),
 ];
 
-static REPORT: [OptionName; 9] = [
-    OptionName::Config,
-    OptionName::OptionalState,
-    OptionName::Format,
-    OptionName::New,
-    OptionName::Wait,
-    OptionName::MostReceipts,
-    OptionName::MostRecords,
-    OptionName::Verbose,
-    OptionName::At,
+static REPORT: [TakenOption; 9] = [
+    TakenOption::RequiredOverFiles(OptionName::Config),
+    TakenOption::OptionalOverFiles(OptionName::State),
+    TakenOption::Optional(OptionName::Format),
+    TakenOption::OptionalOverFiles(OptionName::New),
+    TakenOption::Optional(OptionName::Wait),
+    TakenOption::OptionalOverFiles(OptionName::MostReceipts),
+    TakenOption::OptionalOverFiles(OptionName::MostRecords),
+    TakenOption::Optional(OptionName::Verbose),
+    TakenOption::Asking(OptionName::At),
 ];
 
-static LIST: [OptionName; 11] = [
-    OptionName::Config,
-    OptionName::State,
-    OptionName::OptionalDomain,
-    OptionName::Keys,
-    OptionName::Format,
-    OptionName::New,
-    OptionName::Wait,
-    OptionName::MostReceipts,
-    OptionName::MostRecords,
-    OptionName::Verbose,
-    OptionName::At,
+static LIST: [TakenOption; 11] = [
+    TakenOption::RequiredOverFiles(OptionName::Config),
+    TakenOption::RequiredOverFiles(OptionName::State),
+    TakenOption::Optional(OptionName::Domain),
+    TakenOption::Optional(OptionName::Keys),
+    TakenOption::Optional(OptionName::Format),
+    TakenOption::OptionalOverFiles(OptionName::New),
+    TakenOption::Optional(OptionName::Wait),
+    TakenOption::OptionalOverFiles(OptionName::MostReceipts),
+    TakenOption::OptionalOverFiles(OptionName::MostRecords),
+    TakenOption::Optional(OptionName::Verbose),
+    TakenOption::Asking(OptionName::At),
 ];
 
-static GRAPH: [OptionName; 9] = [
-    OptionName::Config,
-    OptionName::State,
-    OptionName::OptionalDomain,
-    OptionName::New,
-    OptionName::Wait,
-    OptionName::MostReceipts,
-    OptionName::MostRecords,
-    OptionName::Verbose,
-    OptionName::At,
+static GRAPH: [TakenOption; 9] = [
+    TakenOption::RequiredOverFiles(OptionName::Config),
+    TakenOption::RequiredOverFiles(OptionName::State),
+    TakenOption::Optional(OptionName::Domain),
+    TakenOption::OptionalOverFiles(OptionName::New),
+    TakenOption::Optional(OptionName::Wait),
+    TakenOption::OptionalOverFiles(OptionName::MostReceipts),
+    TakenOption::OptionalOverFiles(OptionName::MostRecords),
+    TakenOption::Optional(OptionName::Verbose),
+    TakenOption::Asking(OptionName::At),
 ];
 
-static DIFF: [OptionName; 9] = [
-    OptionName::Config,
-    OptionName::State,
-    OptionName::With,
-    OptionName::New,
-    OptionName::Wait,
-    OptionName::MostReceipts,
-    OptionName::MostRecords,
-    OptionName::Verbose,
-    OptionName::At,
+static DIFF: [TakenOption; 9] = [
+    TakenOption::RequiredOverFiles(OptionName::Config),
+    TakenOption::RequiredOverFiles(OptionName::State),
+    TakenOption::Required(OptionName::With),
+    TakenOption::OptionalOverFiles(OptionName::New),
+    TakenOption::Optional(OptionName::Wait),
+    TakenOption::OptionalOverFiles(OptionName::MostReceipts),
+    TakenOption::OptionalOverFiles(OptionName::MostRecords),
+    TakenOption::Optional(OptionName::Verbose),
+    TakenOption::Asking(OptionName::At),
 ];
 
-static STATUS: [OptionName; 13] = [
-    OptionName::Config,
-    OptionName::State,
-    OptionName::Format,
-    OptionName::OptionalNow,
-    OptionName::ExpiresWithin,
-    OptionName::PeerQuiet,
-    OptionName::Polls,
-    OptionName::New,
-    OptionName::Wait,
-    OptionName::MostReceipts,
-    OptionName::MostRecords,
-    OptionName::Verbose,
-    OptionName::At,
+static STATUS: [TakenOption; 13] = [
+    TakenOption::RequiredOverFiles(OptionName::Config),
+    TakenOption::RequiredOverFiles(OptionName::State),
+    TakenOption::Optional(OptionName::Format),
+    TakenOption::Optional(OptionName::Now),
+    TakenOption::Optional(OptionName::ExpiresWithin),
+    TakenOption::Optional(OptionName::PeerQuiet),
+    TakenOption::Optional(OptionName::Polls),
+    TakenOption::OptionalOverFiles(OptionName::New),
+    TakenOption::Optional(OptionName::Wait),
+    TakenOption::OptionalOverFiles(OptionName::MostReceipts),
+    TakenOption::OptionalOverFiles(OptionName::MostRecords),
+    TakenOption::Optional(OptionName::Verbose),
+    TakenOption::Asking(OptionName::At),
 ];
 
-static BUNDLE: [OptionName; 9] = [
-    OptionName::Config,
-    OptionName::State,
-    OptionName::Domain,
-    OptionName::Format,
-    OptionName::Wait,
-    OptionName::MostReceipts,
-    OptionName::MostRecords,
-    OptionName::Verbose,
-    OptionName::At,
+static BUNDLE: [TakenOption; 9] = [
+    TakenOption::RequiredOverFiles(OptionName::Config),
+    TakenOption::RequiredOverFiles(OptionName::State),
+    TakenOption::Required(OptionName::Domain),
+    TakenOption::Optional(OptionName::Format),
+    TakenOption::Optional(OptionName::Wait),
+    TakenOption::OptionalOverFiles(OptionName::MostReceipts),
+    TakenOption::OptionalOverFiles(OptionName::MostRecords),
+    TakenOption::Optional(OptionName::Verbose),
+    TakenOption::Asking(OptionName::At),
 ];
 
-static EXPLAIN: [OptionName; 10] = [
-    OptionName::Config,
-    OptionName::State,
-    OptionName::Domain,
-    OptionName::Short,
-    OptionName::Format,
-    OptionName::Wait,
-    OptionName::MostReceipts,
-    OptionName::MostRecords,
-    OptionName::Verbose,
-    OptionName::At,
+static EXPLAIN: [TakenOption; 10] = [
+    TakenOption::RequiredOverFiles(OptionName::Config),
+    TakenOption::RequiredOverFiles(OptionName::State),
+    TakenOption::Required(OptionName::Domain),
+    TakenOption::Optional(OptionName::Short),
+    TakenOption::Optional(OptionName::Format),
+    TakenOption::Optional(OptionName::Wait),
+    TakenOption::OptionalOverFiles(OptionName::MostReceipts),
+    TakenOption::OptionalOverFiles(OptionName::MostRecords),
+    TakenOption::Optional(OptionName::Verbose),
+    TakenOption::Asking(OptionName::At),
 ];
 
-static OBSERVE: [OptionName; 10] = [
-    OptionName::Config,
-    OptionName::State,
-    OptionName::Domain,
-    OptionName::Endpoint,
-    OptionName::Key,
-    OptionName::Wait,
-    OptionName::MostReceipts,
-    OptionName::MostRecords,
-    OptionName::Verbose,
-    OptionName::At,
+static OBSERVE: [TakenOption; 10] = [
+    TakenOption::RequiredOverFiles(OptionName::Config),
+    TakenOption::RequiredOverFiles(OptionName::State),
+    TakenOption::Required(OptionName::Domain),
+    TakenOption::Required(OptionName::Endpoint),
+    TakenOption::Required(OptionName::Key),
+    TakenOption::Optional(OptionName::Wait),
+    TakenOption::OptionalOverFiles(OptionName::MostReceipts),
+    TakenOption::OptionalOverFiles(OptionName::MostRecords),
+    TakenOption::Optional(OptionName::Verbose),
+    TakenOption::Asking(OptionName::At),
 ];
 
-static MERGE: [OptionName; 8] = [
-    OptionName::Config,
-    OptionName::State,
-    OptionName::Wait,
-    OptionName::MostBytes,
-    OptionName::MostReceipts,
-    OptionName::MostRecords,
-    OptionName::Verbose,
-    OptionName::At,
+static MERGE: [TakenOption; 8] = [
+    TakenOption::RequiredOverFiles(OptionName::Config),
+    TakenOption::RequiredOverFiles(OptionName::State),
+    TakenOption::Optional(OptionName::Wait),
+    TakenOption::Optional(OptionName::MostBytes),
+    TakenOption::OptionalOverFiles(OptionName::MostReceipts),
+    TakenOption::OptionalOverFiles(OptionName::MostRecords),
+    TakenOption::Optional(OptionName::Verbose),
+    TakenOption::Asking(OptionName::At),
 ];
 
-static MIGRATE: [OptionName; 9] = [
-    OptionName::Config,
-    OptionName::State,
-    OptionName::To,
-    OptionName::RecordsOnly,
-    OptionName::Wait,
-    OptionName::MostReceipts,
-    OptionName::MostRecords,
-    OptionName::Verbose,
-    OptionName::At,
+static MIGRATE: [TakenOption; 9] = [
+    TakenOption::RequiredOverFiles(OptionName::Config),
+    TakenOption::RequiredOverFiles(OptionName::State),
+    TakenOption::Optional(OptionName::To),
+    TakenOption::Optional(OptionName::RecordsOnly),
+    TakenOption::Optional(OptionName::Wait),
+    TakenOption::OptionalOverFiles(OptionName::MostReceipts),
+    TakenOption::OptionalOverFiles(OptionName::MostRecords),
+    TakenOption::Optional(OptionName::Verbose),
+    TakenOption::Asking(OptionName::At),
 ];
 
-static RESEED: [OptionName; 9] = [
-    OptionName::Config,
-    OptionName::State,
-    OptionName::Allow,
-    OptionName::Floors,
-    OptionName::Wait,
-    OptionName::MostReceipts,
-    OptionName::MostRecords,
-    OptionName::Verbose,
-    OptionName::At,
+static RESEED: [TakenOption; 9] = [
+    TakenOption::RequiredOverFiles(OptionName::Config),
+    TakenOption::RequiredOverFiles(OptionName::State),
+    TakenOption::Optional(OptionName::Allow),
+    TakenOption::Optional(OptionName::Floors),
+    TakenOption::Optional(OptionName::Wait),
+    TakenOption::OptionalOverFiles(OptionName::MostReceipts),
+    TakenOption::OptionalOverFiles(OptionName::MostRecords),
+    TakenOption::Optional(OptionName::Verbose),
+    TakenOption::Asking(OptionName::At),
 ];
 
-static POLLS: [OptionName; 9] = [
-    OptionName::Config,
-    OptionName::State,
-    OptionName::Now,
-    OptionName::Format,
-    OptionName::Wait,
-    OptionName::MostReceipts,
-    OptionName::MostRecords,
-    OptionName::Verbose,
-    OptionName::At,
+static POLLS: [TakenOption; 9] = [
+    TakenOption::RequiredOverFiles(OptionName::Config),
+    TakenOption::RequiredOverFiles(OptionName::State),
+    TakenOption::Required(OptionName::Now),
+    TakenOption::Optional(OptionName::Format),
+    TakenOption::Optional(OptionName::Wait),
+    TakenOption::OptionalOverFiles(OptionName::MostReceipts),
+    TakenOption::OptionalOverFiles(OptionName::MostRecords),
+    TakenOption::Optional(OptionName::Verbose),
+    TakenOption::Asking(OptionName::At),
 ];
 
-static DISTRUST: [OptionName; 14] = [
-    OptionName::Config,
-    OptionName::State,
-    OptionName::Domain,
-    OptionName::OptionalKey,
-    OptionName::PublicKey,
-    OptionName::UnknownKey,
-    OptionName::Known,
-    OptionName::DryRun,
-    OptionName::New,
-    OptionName::Wait,
-    OptionName::MostReceipts,
-    OptionName::MostRecords,
-    OptionName::Verbose,
-    OptionName::At,
+static DISTRUST: [TakenOption; 14] = [
+    TakenOption::RequiredOverFiles(OptionName::Config),
+    TakenOption::RequiredOverFiles(OptionName::State),
+    TakenOption::Required(OptionName::Domain),
+    TakenOption::Optional(OptionName::Key),
+    TakenOption::Optional(OptionName::PublicKey),
+    TakenOption::OptionalAtReplica(OptionName::UnknownKey),
+    TakenOption::OptionalOverFiles(OptionName::Known),
+    TakenOption::Optional(OptionName::DryRun),
+    TakenOption::OptionalOverFiles(OptionName::New),
+    TakenOption::Optional(OptionName::Wait),
+    TakenOption::OptionalOverFiles(OptionName::MostReceipts),
+    TakenOption::OptionalOverFiles(OptionName::MostRecords),
+    TakenOption::Optional(OptionName::Verbose),
+    TakenOption::Asking(OptionName::At),
 ];
 
-static SERVE: [OptionName; 7] = [
-    OptionName::Config,
-    OptionName::State,
-    OptionName::Listen,
-    OptionName::Sessions,
-    OptionName::MostReceipts,
-    OptionName::MostRecords,
-    OptionName::Verbose,
+static SERVE: [TakenOption; 7] = [
+    TakenOption::RequiredOverFiles(OptionName::Config),
+    TakenOption::RequiredOverFiles(OptionName::State),
+    TakenOption::Required(OptionName::Listen),
+    TakenOption::Required(OptionName::Sessions),
+    TakenOption::OptionalOverFiles(OptionName::MostReceipts),
+    TakenOption::OptionalOverFiles(OptionName::MostRecords),
+    TakenOption::Optional(OptionName::Verbose),
 ];
 
-static PULL: [OptionName; 9] = [
-    OptionName::Config,
-    OptionName::State,
-    OptionName::Peer,
-    OptionName::Sums,
-    OptionName::Wait,
-    OptionName::MostBytes,
-    OptionName::MostReceipts,
-    OptionName::MostRecords,
-    OptionName::Verbose,
+static PULL: [TakenOption; 9] = [
+    TakenOption::RequiredOverFiles(OptionName::Config),
+    TakenOption::RequiredOverFiles(OptionName::State),
+    TakenOption::Required(OptionName::Peer),
+    TakenOption::Optional(OptionName::Sums),
+    TakenOption::Optional(OptionName::Wait),
+    TakenOption::Optional(OptionName::MostBytes),
+    TakenOption::OptionalOverFiles(OptionName::MostReceipts),
+    TakenOption::OptionalOverFiles(OptionName::MostRecords),
+    TakenOption::Optional(OptionName::Verbose),
 ];
 
-static REPLICA: [OptionName; 20] = [
-    OptionName::Config,
-    OptionName::Previous,
-    OptionName::State,
-    OptionName::Socket,
-    OptionName::ReadSocket,
-    OptionName::OptionalListen,
-    OptionName::Health,
-    OptionName::HealthHost,
-    OptionName::Audit,
-    OptionName::ListenAnywhere,
-    OptionName::Peers,
-    OptionName::Every,
-    OptionName::PeerQuiet,
-    OptionName::ExpiresWithin,
-    OptionName::MostBytes,
-    OptionName::MostReceipts,
-    OptionName::MostRecords,
-    OptionName::MostRequestBytes,
-    OptionName::New,
-    OptionName::Verbose,
+static REPLICA: [TakenOption; 20] = [
+    TakenOption::RequiredOverFiles(OptionName::Config),
+    TakenOption::Optional(OptionName::Previous),
+    TakenOption::RequiredOverFiles(OptionName::State),
+    TakenOption::Required(OptionName::Socket),
+    TakenOption::Optional(OptionName::ReadSocket),
+    TakenOption::Optional(OptionName::Listen),
+    TakenOption::Optional(OptionName::Health),
+    TakenOption::Optional(OptionName::HealthHost),
+    TakenOption::Optional(OptionName::Audit),
+    TakenOption::Optional(OptionName::ListenAnywhere),
+    TakenOption::Optional(OptionName::Peers),
+    TakenOption::Optional(OptionName::Every),
+    TakenOption::Optional(OptionName::PeerQuiet),
+    TakenOption::Optional(OptionName::ExpiresWithin),
+    TakenOption::Optional(OptionName::MostBytes),
+    TakenOption::OptionalOverFiles(OptionName::MostReceipts),
+    TakenOption::OptionalOverFiles(OptionName::MostRecords),
+    TakenOption::Optional(OptionName::MostRequestBytes),
+    TakenOption::OptionalOverFiles(OptionName::New),
+    TakenOption::Optional(OptionName::Verbose),
 ];
 
-static STOP: [OptionName; 3] = [OptionName::Wait, OptionName::Verbose, OptionName::At];
+static STOP: [TakenOption; 3] = [
+    TakenOption::Optional(OptionName::Wait),
+    TakenOption::Optional(OptionName::Verbose),
+    TakenOption::Asking(OptionName::At),
+];
 
 impl CommandName {
     /// The subcommand's name on the command line.
@@ -538,7 +433,7 @@ impl CommandName {
     }
 
     /// The subcommand's options, in the order in which they are read.
-    pub fn options(self) -> &'static [OptionName]
+    pub fn options(self) -> &'static [TakenOption]
         ensures { result.now ≡ options_of self }
     {
         match self {

@@ -375,9 +375,10 @@ Answers other replicas at the address of --listen, as `serve` does, and pulls fr
 that is not a loopback address is refused without --listen-anywhere. At most 160 connections are
 open at once: 64 requests of this machine, of them 48 at the socket of --read-socket, 48 on
 which other replicas ask, 16 at the address of --health, one with each peer, and some that
-are only refused. A connection on which nothing moves for 30 seconds, or which is older than
-600 seconds, is closed, and so is a pull in which fewer than 1,000 bytes move in a second. If
-there are too many, the one that has asked nothing whole for the longest is closed.
+are only refused. A connection on which nothing moves for 30 seconds is closed, and so is one
+whose request or session takes more than 600 seconds, and a pull in which fewer than 1,000 bytes
+move in a second. If there are too many, the one that has asked nothing whole for the longest is
+closed.
 
 At the address of --health it answers HTTP requests, GET and HEAD: /live, /ready, /metrics
 for Prometheus, /status.json, /report.json, /keys.json, /graph.dot and / for people. Nothing
@@ -411,144 +412,6 @@ standard input. What the replica acknowledged before is on the disk.
 It prints nothing, and writes no file.
 
 Ends with 0; with 3 if no replica answers there, or not in time.";
-
-impl OptionName {
-    /// What help calls the option's text.
-    pub(crate) fn value_name<'a>(self) -> &'a str {
-        match self {
-            OptionName::Config => "FILE",
-            OptionName::State => "FILE",
-            OptionName::Domain => "DOMAIN",
-            OptionName::Endpoint => "SPIFFE_ID",
-            OptionName::Key => "KEY_ID",
-            OptionName::Now => "SECONDS",
-            OptionName::Listen => "ADDRESS",
-            OptionName::Sessions => "COUNT",
-            OptionName::Peer => "ADDRESS",
-            OptionName::To => "FILE",
-            OptionName::RecordsOnly => "",
-            OptionName::OptionalState => "FILE",
-            OptionName::OptionalDomain => "DOMAIN",
-            OptionName::With => "FILE",
-            OptionName::At => "PATH",
-            OptionName::Wait => "SECONDS",
-            OptionName::MostBytes => "BYTES",
-            OptionName::Allow => "DOMAIN",
-            OptionName::Floors => "",
-            OptionName::DryRun => "",
-            OptionName::Verbose => "",
-            OptionName::Format => "FORMAT",
-            OptionName::Short => "",
-            OptionName::Socket => "PATH",
-            OptionName::OptionalListen => "ADDRESS",
-            OptionName::Peers => "ADDRESS,..",
-            OptionName::Every => "SECONDS",
-            OptionName::MostRequestBytes => "BYTES",
-            OptionName::New => "",
-            OptionName::FileFormat => "FORMAT",
-            OptionName::ReadSocket => "PATH",
-            OptionName::ListenAnywhere => "",
-            OptionName::Keys => "",
-            OptionName::OptionalKey => "KEY_ID",
-            OptionName::PublicKey => "DIGEST",
-            OptionName::UnknownKey => "",
-            OptionName::Known => "",
-            OptionName::OptionalNow => "SECONDS",
-            OptionName::ExpiresWithin => "DAYS",
-            OptionName::PeerQuiet => "SECONDS",
-            OptionName::Polls => "FILE",
-            OptionName::Health => "ADDRESS",
-            OptionName::HealthHost => "NAME,..",
-            OptionName::Audit => "PATH",
-            OptionName::Previous => "FILE",
-            OptionName::MostReceipts => "COUNT",
-            OptionName::MostRecords => "COUNT",
-            OptionName::Sums => "",
-        }
-    }
-
-    /// What help says of the option.
-    pub(crate) fn about<'a>(self) -> &'a str {
-        match self {
-            OptionName::Config =>
-                "The configuration, as JSON: at most 1,024 relationships and 4,096 seeds",
-            OptionName::State => "The state file",
-            OptionName::Domain => "A trust domain name, of at most 255 bytes",
-            OptionName::Endpoint =>
-                "The SPIFFE ID that the endpoint was authenticated as, of at most 2,048 bytes",
-            OptionName::Key =>
-                "The SHA-256 of an authority's certificate, 64 digits of 0-9 and a-f",
-            OptionName::Now => "The present time, in Unix seconds; a negative one as --now=-5",
-            OptionName::Listen => "The address to wait at: an IP address and a port",
-            OptionName::Sessions => "How many sessions to serve, from 1 to 1000000",
-            OptionName::Peer =>
-                "The address at which the other replica serves: an IP address and a port",
-            OptionName::To =>
-                "The other configuration, as JSON with the same limits [the same one]",
-            OptionName::RecordsOnly => "Takes only the records of distrust, and no receipt",
-            OptionName::OptionalState => "The state file, in place of standard input",
-            OptionName::OptionalDomain => "The one trust domain whose lines are printed",
-            OptionName::With =>
-                "What to compare with: a file of the same kind; `diff --at` takes a socket, too",
-            OptionName::At => "The socket of a running replica, in place of the two files",
-            OptionName::Wait =>
-                "How long to wait for the state's lock, or for a running replica's reply, from 0 \
-                to 86400 seconds [60]",
-            OptionName::MostBytes =>
-                "How many bytes to take at most, with those of the state file [268435456]",
-            OptionName::Allow => "A domain whose current bundle may be a seed even so",
-            OptionName::Floors =>
-                "Makes the sequence of each current bundle the floor of its domain",
-            OptionName::DryRun => "Prints what would change, and writes no file",
-            OptionName::Verbose => "Says more on standard error",
-            OptionName::Format => "The format of what is printed; the formats are named below",
-            OptionName::Short => "Prints a short line for each step",
-            OptionName::Socket => "The path of the socket to answer requests of this machine at",
-            OptionName::OptionalListen =>
-                "The address where other replicas pull: an IP address and a port",
-            OptionName::Peers =>
-                "The addresses of at most 16 replicas to pull from, with commas between them",
-            OptionName::Every =>
-                "How long after a pull began the next one from that peer begins, from 1 to 86400 \
-                seconds [60]",
-            OptionName::MostRequestBytes =>
-                "How many bytes requests and their replies may have together [536870912]",
-            OptionName::New => "Takes a missing state for one that holds nothing",
-            OptionName::FileFormat => "The format of what is printed: text, or json",
-            OptionName::ReadSocket =>
-                "The path of a second socket, at which nothing can be changed",
-            OptionName::ListenAnywhere =>
-                "Allows an address of --listen or --health that is not a loopback one",
-            OptionName::Keys => "Prints what is known of each X.509 key, in place of what is held",
-            OptionName::OptionalKey =>
-                "The SHA-256 of an authority's certificate, 64 digits of 0-9 and a-f",
-            OptionName::PublicKey =>
-                "The SHA-256 of the public key in certificates, 64 digits of 0-9 and a-f",
-            OptionName::UnknownKey => "Takes a key that no bundle held there lists",
-            OptionName::Known =>
-                "Refuses a key that no bundle held here lists, and a missing state",
-            OptionName::OptionalNow =>
-                "The present time, in Unix seconds; a negative one as --now=-5 [that of the clock]",
-            OptionName::ExpiresWithin =>
-                "How long before its end a certificate is warned of, from 0 to 36525 days [7]",
-            OptionName::PeerQuiet =>
-                "How long a peer may be quiet, from 0 to 31536000 seconds [600]",
-            OptionName::Polls => "The polls so far, as `polls` reads them",
-            OptionName::Audit =>
-                "The path of a file to which a line of JSON is appended for each change",
-            OptionName::Health =>
-                "The address of health, metrics and a page: an IP address and a port",
-            OptionName::HealthHost =>
-                "The names by which --health may be asked, with commas between them",
-            OptionName::Previous =>
-                "The configuration to change from; a missing file counts as if it was not named",
-            OptionName::MostReceipts => "How many receipts may be held, from 1 to 4194304 [65536]",
-            OptionName::MostRecords =>
-                "How many records of distrust may be held, from 1 to 65536 [4096]",
-            OptionName::Sums => "Asks for sums first, and then only about what differs",
-        }
-    }
-}
 
 impl CommandName {
     /// What help says of the subcommand.
@@ -589,6 +452,23 @@ impl CommandName {
                 "Runs as a daemon: answers requests of this machine and other replicas, and pulls"
             }
             CommandName::Stop => "Ends a running replica",
+        }
+    }
+
+    /// What help says of an option of the subcommand: what its row says, or something else.
+    pub(crate) fn about_option<'a>(self, option: OptionName) -> &'a str {
+        match (self, option) {
+            (CommandName::Canon, OptionName::Format) =>
+                "The format of what is printed: text, or json",
+            (CommandName::Report, OptionName::State) =>
+                "The state file, in place of standard input",
+            (CommandName::List | CommandName::Graph, OptionName::Domain) =>
+                "The one trust domain whose lines are printed",
+            (CommandName::Status, OptionName::Now) =>
+                "The present time, in Unix seconds; a negative one as --now=-5 [that of the clock]",
+            (CommandName::Replica, OptionName::Listen) =>
+                "The address where other replicas pull: an IP address and a port",
+            _ => option.row().about,
         }
     }
 

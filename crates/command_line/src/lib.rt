@@ -7,15 +7,16 @@ mod checks;
 mod command_name;
 mod help_texts;
 mod option_error;
+mod option_rows;
 mod option_texts;
 mod sessions;
 mod words;
 
-pub use command_name::{CommandName, OptionName};
+pub use command_name::{CommandName, OptionName, TakenOption};
 pub use help_texts::VERSION;
 pub use option_error::OptionError;
 pub use option_texts::{
-    BundleFormat, ExplanationForm, Manner, MostHeld, OutputForm, given, is_flag_given,
+    BundleFormat, ExplanationForm, Manner, MostHeld, OutputForm, count_given, given, is_flag_given,
     limits_given, manner_of, number_given, read_bundle_format, read_explanation_form, read_key,
     read_output_form, wanted,
 };

@@ -9,11 +9,12 @@ ghost use Rattle.command_line.specs.OptionTexts.{SaysBundleFormat, SaysExplanati
 ghost use Rattle.command_line.specs.OptionTexts.{SaysNoBundleFormat, option_said};
 ghost use Rattle.command_line.specs.OptionTexts.{SaysExplanationIn, SaysNoExplanationIn};
 ghost use Rattle.command_line.specs.OptionTexts.{SaysNoOutputForm, SaysOutputForm, said_with};
+ghost use Rattle.command_line.specs.Words.{is_text};
 ghost use Rattle.command_line.specs.declared.option_error.OptionError.TheVariants.{BadKey};
 ghost use Rattle.command_line.specs.declared.option_error.OptionError.TheVariants.{BadNumber};
 ghost use Rattle.command_line.specs.declared.option_error.OptionError.TheVariants.{Usage};
 
-use crate::command_name::OptionName;
+use crate::command_name::{OptionName, TakenOption};
 use crate::option_error::OptionError;
 use crate::words::Call;
 use jwk_set::KeyId;
@@ -97,7 +98,7 @@ pub fn given<'a>(call: &Call<'a>, wanted: OptionName) -> Option<&'a str>
 
 // The text next to the option of this name.
 fn said_with<'a>(
-    options: &[OptionName],
+    options: &[TakenOption],
     texts: &[Option<&'a str>],
     wanted: OptionName,
 ) -> Option<&'a str>
@@ -105,11 +106,11 @@ fn said_with<'a>(
         ≡ said_with options.now (map (option_map (λ t. t.now)) texts.now) wanted }
 {
     let mut rest = texts;
-    'options: for &option in options {
+    'options: for &taken in options {
         let [text, more @ ..] = rest else {
             return None;
         };
-        if option.text() == wanted.text() {
+        if taken.name().text() == wanted.text() {
             return *text;
         }
         rest = more;
@@ -208,6 +209,29 @@ pub fn number_given(
     }
 }
 
+/// The same for a number that is at least 1.
+///
+/// # Errors
+/// The text is not a number, or is one out of its range.
+pub fn count_given(
+    call: &Call<'_>,
+    option: OptionName,
+    otherwise: u64,
+    most: u64,
+) -> Result<u64, OptionError>
+    ensures ok { IfOk result (λ number. SaysCount otherwise most
+        (option_said call.now.name (map (option_map (λ t. t.now)) call.now.texts.items) option)
+        (Some number)) }
+    ensures refused { IfErr result (λ error. (error ≡ BadNumber option) × SaysCount otherwise most
+        (option_said call.now.name (map (option_map (λ t. t.now)) call.now.texts.items) option)
+        None) }
+{
+    match count_up_to(given(call, option), otherwise, most) {
+        Some(count) => Ok(count),
+        None => Err(OptionError::BadNumber(option)),
+    }
+}
+
 // The number of the text, or the other one if there is no text, if it is at least 1.
 fn count_up_to(text: Option<&str>, otherwise: u64, most: u64) -> Option<u64>
     ensures { SaysCount otherwise most (option_map (λ t. t.now) text.entry) result }
@@ -294,6 +318,16 @@ pub fn read_bundle_format(text: Option<&str>) -> Result<BundleFormat, OptionErro
         Some(text) if text == "json" => Ok(BundleFormat::Json),
         Some(text) if text == "pem" => Ok(BundleFormat::Pem),
         Some(_) => Err(OptionError::Usage),
+    }
+}
+
+/// Whether there is a text, and it is this one.
+pub(crate) fn is_text(text: Option<&str>, wanted: &str) -> bool
+    ensures { result ≡ is_text (option_map (λ t. t.now) text.entry) wanted.now }
+{
+    match text {
+        Some(text) => text == wanted,
+        None => false,
     }
 }
 

@@ -6,16 +6,17 @@ ghost use Rattle.clap.specs.declared.error.kind.ErrorKind.TheVariants.{InvalidSu
 ghost use Rattle.clap.specs.declared.error.kind.ErrorKind.TheVariants.{OutOfMemory};
 ghost use Rattle.command_line.specs.Checks.{ReadsWords};
 ghost use Rattle.command_line.specs.Inside.WordsErrors.{KeepsKind, ParsesWords};
-ghost use Rattle.command_line.specs.Words.{given, is_settled};
+ghost use Rattle.command_line.specs.Words.{asks_running, given_taken, is_given, is_given_as};
 ghost use Rattle.command_line.specs.Words.{is_settled_in, leaf, name_text, named, rule_of_option};
 ghost use Rattle.command_line.specs.Words.{settled_at, the_command};
 ghost use Rattle.command_line.specs.declared.words.WordsError.TheVariants.{NoMemory};
 ghost use Rattle.command_line.specs.declared.words.WordsPlace.TheVariants.{CommandLine, Request};
 
 use crate::checks::flaw_of;
-use crate::command_name::{COMMANDS, CommandName, OptionName};
+use crate::command_name::{COMMANDS, CommandName, OptionName, TakenOption};
 use crate::help_texts;
 use crate::option_error::OptionError;
+use crate::option_texts::is_text;
 use clap::error::ErrorKind;
 use clap::{Arg, ArgAction, ArgMatches, Command};
 use std::alloc::{AllocError, AllocFailed, Global};
@@ -61,10 +62,10 @@ pub(crate) enum WordsPlace {
 /// # Errors
 /// - [`WordsError::Words`]: `clap` refuses the arguments, or they ask for help or for the version,
 /// - [`WordsError::Usage`]: `clap` takes the arguments, and the subcommand or an option that it
-///   wants is missing, or `--at` is given with one that a running replica has itself,
-/// - [`WordsError::Flawed`]: the path of a file or of a socket is empty, `distrust` has neither a
-///   key nor a public key or has both, `--new` or `--known` is given with `--at`, or
-///   `--unknown-key` without it,
+///   wants is missing, `--at` is given with one that a running replica has itself or with `--new`
+///   or `--known`, or `--unknown-key` is given without it,
+/// - [`WordsError::Flawed`]: the path of a file or of a socket is empty, or `distrust` has neither
+///   a key nor a public key or has both,
 /// - [`WordsError::NoMemory`]: memory ran out.
 pub fn read_words<'a>(alloc: Global, words: &'a [&'a str]) -> Result<Call<'a>, WordsError<'a>>
     ensures { ReadsWords CommandLine (map (λ w. w.now) words.now) result }
@@ -77,8 +78,8 @@ pub fn read_words<'a>(alloc: Global, words: &'a [&'a str]) -> Result<Call<'a>, W
 /// replica has itself.
 ///
 /// # Errors
-/// Those of [`read_words`]; [`WordsError::Usage`] if one of these five is given, and
-/// [`WordsError::Flawed`] if `--new` or `--known` is, which are about files.
+/// Those of [`read_words`]; [`WordsError::Usage`] if one of these five is given, or `--new` or
+/// `--known`, which are about files.
 pub fn read_request<'a>(alloc: Global, words: &'a [&'a str]) -> Result<Call<'a>, WordsError<'a>>
     ensures { ReadsWords Request (map (λ w. w.now) words.now) result }
 {
@@ -93,7 +94,7 @@ fn read_call<'a>(
     ensures { ReadsWords place (map (λ w. w.now) words.now) result }
 {
     match parse_words(alloc, words, place) {
-        Ok(call) => match flaw_of(&call, place) {
+        Ok(call) => match flaw_of(&call) {
             None => Ok(call),
             Some(flaw) => Err(WordsError::Flawed(call, flaw)),
         },
@@ -190,8 +191,8 @@ fn subcommand<'a>(alloc: Global, name: CommandName) -> Result<Command<'a>, Alloc
     ensures app { IfOk result (λ c. app_of c ≡ leaf name) }
 {
     let mut command = with_help(Command::new(alloc, name.text()), name);
-    'options: for &option in name.options() {
-        command = command.arg(argument(alloc, option))?;
+    'options: for &taken in name.options() {
+        command = command.arg(argument(alloc, name, taken.name()))?;
     }
     Ok(command)
 }
@@ -206,17 +207,17 @@ fn with_help<'a>(bare: Command<'a>, name: CommandName) -> Command<'a>
         .after_help(name.notes())
 }
 
-fn argument<'a>(alloc: Global, option: OptionName) -> Arg<'a>
+fn argument<'a>(alloc: Global, name: CommandName, option: OptionName) -> Arg<'a>
     ensures rule { rule_of result ≡ rule_of_option option }
     ensures local { result.global ≡ false }
 {
     let named = Arg::new(alloc, option.text())
         .long(option.text())
-        .help(option.about());
+        .help(name.about_option(option));
     if option.is_flag() {
         named.action(ArgAction::SetTrue)
     } else {
-        named.value_name(option.value_name()).action(ArgAction::Set)
+        named.value_name(option.row().value).action(ArgAction::Set)
     }
 }
 
@@ -234,50 +235,82 @@ pub fn command_of(word: &str) -> Option<CommandName>
 }
 
 // Whether each option may be given or left out as it is.
-fn are_settled(matches: &ArgMatches<'_>, options: &[OptionName], place: WordsPlace) -> bool
+fn are_settled(matches: &ArgMatches<'_>, options: &[TakenOption], place: WordsPlace) -> bool
     ensures { result ≡ list_all (is_settled_in place (rows_of (found_of matches.now))) options.now }
 {
-    let at = matches.get_str(OptionName::At.text()).is_some();
-    'options: for &option in options {
-        if !is_settled_at(place, at, matches.get_str(option.text()).is_some(), option) {
+    let at = is_given(matches, OptionName::At);
+    'options: for &taken in options {
+        if !is_settled_at(place, at, is_given(matches, taken.name()), taken) {
             return false;
         }
     }
     true
 }
 
-// The same for one option; `at` says whether the arguments have `--at`.
-fn is_settled_at(place: WordsPlace, at: bool, has_text: bool, option: OptionName) -> bool
-    ensures { result ≡ settled_at place at has_text option }
+fn is_given(matches: &ArgMatches<'_>, option: OptionName) -> bool
+    ensures { result ≡ is_given (rows_of (found_of matches.now)) option }
 {
-    match (place, option) {
-        (WordsPlace::CommandLine, _) => is_settled(at, has_text, option),
-        (WordsPlace::Request, OptionName::At) => !has_text,
-        (WordsPlace::Request, _) => is_settled(true, has_text, option),
+    is_given_as(option, matches.get_str(option.text()))
+}
+
+// A flag that is left out has a text, too.
+fn is_given_as(option: OptionName, text: Option<&str>) -> bool
+    ensures { result ≡ is_given_as option (option_map (λ t. t.now) text.entry) }
+{
+    if option.is_flag() {
+        is_text(text, "true")
+    } else {
+        text.is_some()
     }
 }
 
-fn is_settled(asks: bool, has_text: bool, option: OptionName) -> bool
-    ensures { result ≡ is_settled asks has_text option }
+// The same for one option; `at` says whether the arguments have `--at`.
+fn is_settled_at(place: WordsPlace, at: bool, is_given: bool, taken: TakenOption) -> bool
+    ensures { result ≡ settled_at place at is_given taken }
 {
-    if asks && option.is_place() {
-        !has_text
-    } else {
-        has_text || option.may_be_left_out()
+    match (taken, place) {
+        (TakenOption::Required(_), _) => is_given,
+        (TakenOption::Optional(_), _) => true,
+        (TakenOption::RequiredOverFiles(_), _) if asks_running(place, at) => !is_given,
+        (TakenOption::RequiredOverFiles(_), _) => is_given,
+        (TakenOption::OptionalOverFiles(_), _) if asks_running(place, at) => !is_given,
+        (TakenOption::OptionalOverFiles(_), _) => true,
+        (TakenOption::OptionalAtReplica(_), _) if asks_running(place, at) => true,
+        (TakenOption::OptionalAtReplica(_), _) => !is_given,
+        (TakenOption::Asking(_), WordsPlace::CommandLine) => true,
+        (TakenOption::Asking(_), WordsPlace::Request) => !is_given,
+    }
+}
+
+// Whether a running replica is asked.
+fn asks_running(place: WordsPlace, at: bool) -> bool
+    ensures { result ≡ asks_running place at }
+{
+    match place {
+        WordsPlace::CommandLine => at,
+        WordsPlace::Request => true,
     }
 }
 
 fn texts_of<'a>(
     alloc: Global,
     matches: &ArgMatches<'a>,
-    options: &[OptionName],
+    options: &[TakenOption],
 ) -> Result<Vec<Option<&'a str>>, AllocError>
-    ensures { IfOk result (λ texts. map (given (rows_of (found_of matches.now))) options.now
+    ensures { IfOk result (λ texts. map (given_taken (rows_of (found_of matches.now))) options.now
         ≡ map (option_map (λ t. t.now)) texts.items) }
 {
     let mut texts = Vec::new(alloc);
-    'options: for &option in options {
-        texts.push(matches.get_str(option.text()))?;
+    'options: for &taken in options {
+        texts.push(text_of(matches, taken))?;
     }
     Ok(texts)
+}
+
+// The text that the arguments give the option, if they give it one.
+fn text_of<'a>(matches: &ArgMatches<'a>, taken: TakenOption) -> Option<&'a str>
+    ensures { option_map (λ t. t.now) result
+        ≡ given_taken (rows_of (found_of matches.now)) taken }
+{
+    matches.get_str(taken.name().text())
 }

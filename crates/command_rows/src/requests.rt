@@ -7,7 +7,9 @@ use byte_lines::{FromRead, write_all};
 use closure_core::Closure;
 use fed_config::Config;
 use fedbundle::{Call, CommandError, CommandName, OptionName, given, is_flag_given, read_words};
-use local_answers::{Reply, answer_request, request_words};
+use local_answers::{
+    Reply, RequestFault, RequestParts, StreamState, answer_request, request_words,
+};
 use replica_journal::{begin_journal, read_journal};
 use replica_sync::{read_snapshot, write_snapshot};
 use request_lines::write_request_words;
@@ -158,10 +160,30 @@ fn reply_of<C: Closure>(
         moment: 0,
         previous: None,
     };
-    match answer_request(running.alloc, closure, &status, line.as_bytes(), input) {
-        Ok(reply) => Ok(reply),
-        Err(_) => Err(CommandError::NoMemory),
+    match reply_on_stream(running.alloc, closure, &status, line, input) {
+        Ok(Some(reply)) => Ok(reply),
+        Ok(None) | Err(_) => Err(CommandError::NoMemory),
     }
+}
+
+// The reply to the request of a stream: its line, and its input up to the end.
+fn reply_on_stream<C: Closure>(
+    alloc: Global,
+    closure: &mut C,
+    running: &RunningStatus<'_>,
+    line: &str,
+    input: &[u8],
+) -> Result<Option<Reply>, RequestFault> {
+    let mut parts = RequestParts::new(alloc);
+    for piece in [line.as_bytes(), b"\n", input] {
+        parts.take(piece)?;
+    }
+    let Some(request) = parts.next(alloc, StreamState::Ended)? else {
+        return Ok(None);
+    };
+    let texts = request.texts(alloc)?;
+    let reply = answer_request(alloc, closure, running, texts.as_slice(), request.input())?;
+    Ok(Some(reply))
 }
 
 /// Whether the command changes what is held, if it ends without an error.

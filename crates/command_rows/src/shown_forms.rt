@@ -21,7 +21,7 @@ pub(crate) fn canon(
     call: &Call<'_>,
     devices: &mut Devices,
 ) -> Result<(), CommandError> {
-    let Ok(form) = read_output_form(given(call, OptionName::FileFormat)) else {
+    let Ok(form) = read_output_form(given(call, OptionName::Format)) else {
         return usage(devices);
     };
     let domain = TrustDomain::read(case.alloc, text_of(call, OptionName::Domain)?)?;

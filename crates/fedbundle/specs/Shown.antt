@@ -45,8 +45,7 @@ use Rattle.command_line.specs.declared.command_name.CommandName.{CommandName}
 use Rattle.command_line.specs.declared.command_name.CommandName.TheVariants as command
 use Rattle.command_line.specs.declared.command_name.OptionName.{OptionName}
 use Rattle.command_line.specs.declared.command_name.OptionName.TheVariants.{Domain, Format, Keys}
-use Rattle.command_line.specs.declared.command_name.OptionName.TheVariants.{Now, OptionalDomain}
-use Rattle.command_line.specs.declared.command_name.OptionName.TheVariants.{OptionalNow, Short}
+use Rattle.command_line.specs.declared.command_name.OptionName.TheVariants.{Now, Short}
 use Rattle.command_line.specs.declared.command_name.OptionName.TheVariants.{ExpiresWithin, Polls}
 use Rattle.command_line.specs.declared.command_name.OptionName.TheVariants.{PeerQuiet}
 use Rattle.command_exits.specs.declared.error.CommandError.{CommandError}
@@ -86,10 +85,10 @@ shown_call shown m = record {
 
 -- the texts that the arguments give options
 abbrev pub chosen_said : CommandName → List (Option (List ℕ)) → Option (List ℕ)
-chosen_said name texts = option_said name texts OptionalDomain
+chosen_said name texts = option_said name texts Domain
 
 abbrev pub second_said : CommandName → List (Option (List ℕ)) → Option (List ℕ)
-second_said name texts = option_said name texts OptionalNow
+second_said name texts = option_said name texts Now
 
 abbrev pub shown_said : ShownCall → OptionName → Option (List ℕ)
 shown_said call option = option_said call.name call.texts option
@@ -124,7 +123,7 @@ EndsAtReport call exit = (exit ≡ Usage) × SaysNoOutputForm (shown_said call F
 
 -- those of `list` and of `graph` a domain that is not a name,
 abbrev pub EndsAtChosen : CommandName → List (Option (List ℕ)) → Exit → Type 0
-EndsAtChosen name texts exit = EndsAtName RefusesDomain OptionalDomain name texts exit
+EndsAtChosen name texts exit = EndsAtName RefusesDomain Domain name texts exit
 
 -- and those of `list` no form,
 abbrev pub EndsAtList : ShownCall → Exit → Type 0

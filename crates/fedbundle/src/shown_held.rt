@@ -65,7 +65,7 @@ fn chosen_domain(alloc: Global, call: &Call<'_>) -> Result<Option<TrustDomain>, 
     ensures ok { IfOk result (SaysChosen (chosen_said call.now.name (texts_of_call call.now))) }
     ensures refused { IfErr result (EndsAtChosen call.now.name (texts_of_call call.now)) }
 {
-    match given(call, OptionName::OptionalDomain) {
+    match given(call, OptionName::Domain) {
         Some(text) => Ok(Some(read_domain(alloc, text)?)),
         None => Ok(None),
     }

@@ -81,7 +81,7 @@ fn second_of(call: &Call<'_>, otherwise: i64) -> Result<i64, Exit>
     ensures refused { IfErr result
         (EndsAtSecond (second_said call.now.name (texts_of_call call.now))) }
 {
-    match given(call, OptionName::OptionalNow) {
+    match given(call, OptionName::Now) {
         Some(text) => read_seconds(text.as_bytes()).ok_or(Exit::BadMoment),
         None => Ok(otherwise),
     }

@@ -1,7 +1,8 @@
 // `replica`: what the arguments say of it, read, and the replica run.
 use command_exits::{CommandError, Exit};
 use command_line::{
-    Call, OptionName, VERSION, given, is_flag_given, manner_of, number_given, wanted,
+    Call, OptionError, OptionName, VERSION, count_given, given, is_flag_given, manner_of,
+    number_given, wanted,
 };
 use command_streams::options::may_listen;
 use command_streams::{options, progress_mode, warn_of_anywhere};
@@ -89,9 +90,9 @@ fn settings_of<'a, 'p>(
         page_limits: page_limits_of(call)?,
         version: first_line(VERSION),
         peers: lists.peers.as_slice(),
-        every: Duration::from_secs(every_of(given(call, OptionName::Every))?),
+        every: Duration::from_secs(every_of(call)?),
         most_bytes: manner.most_bytes,
-        most_request_bytes: request_bytes_of(given(call, OptionName::MostRequestBytes))?,
+        most_request_bytes: request_bytes_of(call)?,
         is_new: is_flag_given(given(call, OptionName::New)),
         is_verbose: manner.is_verbose,
         progress,
@@ -100,7 +101,7 @@ fn settings_of<'a, 'p>(
 
 // Whoever reaches the address is given all that is held, so that is to be wanted.
 fn listen_of(call: &Call<'_>) -> Result<Option<SocketAddr>, Exit> {
-    let Some(text) = given(call, OptionName::OptionalListen) else {
+    let Some(text) = given(call, OptionName::Listen) else {
         return Ok(None);
     };
     let address = options::known_address(text)?;
@@ -133,26 +134,13 @@ fn page_limits_of(call: &Call<'_>) -> Result<PageLimits, Exit> {
     })
 }
 
-fn every_of(text: Option<&str>) -> Result<u64, Exit> {
-    let Some(text) = text else {
-        return Ok(EVERY_SECONDS);
-    };
-    let has_digits = text.bytes().all(|byte| byte.is_ascii_digit());
-    match text.parse::<u64>() {
-        Ok(seconds) if has_digits && (1..=MAX_EVERY_SECONDS).contains(&seconds) => Ok(seconds),
-        _ => Err(Exit::BadNumber(OptionName::Every)),
-    }
+fn every_of(call: &Call<'_>) -> Result<u64, OptionError> {
+    count_given(call, OptionName::Every, EVERY_SECONDS, MAX_EVERY_SECONDS)
 }
 
-fn request_bytes_of(text: Option<&str>) -> Result<u64, Exit> {
-    let Some(text) = text else {
-        return Ok(MOST_REQUEST_BYTES);
-    };
-    let has_digits = text.bytes().all(|byte| byte.is_ascii_digit());
-    match text.parse::<u64>() {
-        Ok(bytes) if has_digits => Ok(bytes),
-        _ => Err(Exit::BadNumber(OptionName::MostRequestBytes)),
-    }
+fn request_bytes_of(call: &Call<'_>) -> Result<u64, OptionError> {
+    let option = OptionName::MostRequestBytes;
+    number_given(call, option, MOST_REQUEST_BYTES, u64::MAX)
 }
 
 fn peers_of(alloc: Global, text: Option<&str>) -> Result<Vec<SocketAddr>, Exit> {

@@ -1,8 +1,10 @@
 -- Verdicts on the same bytes, and on bytes with more after them
-use Rattle.std.proofs.Common.{◌≡◌, ℕ, ◌+◌, ◌-◌, ◌≤◌, ◌⊎◌, List, [], ◌++◌, Some, None, length, take}
+use Rattle.std.proofs.Common.{◌≡◌, ℕ, ◌+◌, ◌-◌, ◌<◌, ◌≤◌, ◌⊎◌, List, [], ◌++◌, Option, Some, None, option_map, length, take, drop, get_or}
+use Rattle.std.proofs.Common.{Result, Ok, Err, OnOk, OnErr, refl}
+use Rattle.std.specs.declared.alloc.AllocError.{AllocError}
 use Rattle.std.proofs.Common.{sym, ap, ◌∙◌, subst, arith, inl, inr, ⊎_elim, append_assoc, append-nil}
 use Rattle.std.proofs.lemmas.Bool.{cases_order}
-use Rattle.std.proofs.lemmas.List.{length-append, length-take-le, take-append-le, take_all}
+use Rattle.std.proofs.lemmas.List.{get_or-drop, length-append, length-drop, length-take-le, take-append-drop, take-append-le, take_all}
 use Rattle.std.proofs.Math.Seq.{take-append-add}
 use Rattle.std.proofs.Math.ListN.{get_or-append}
 use Rattle.memchr.specs.Find.{OccursAt}
@@ -10,8 +12,10 @@ use Rattle.httparse.proofs.GrammarLemmas.{request_unique}
 use Rattle.health_pages.specs.declared.asked_page.PageFault.{PageFault}
 use Rattle.health_pages.specs.declared.asked_page.PageFault.TheVariants.{BadHead, TooLong}
 use Rattle.health_pages.specs.declared.head_verdict.HeadVerdict.{HeadVerdict}
-use Rattle.health_pages.specs.Heads.{AnswersWhole, EndsAt, IsVerdict, IsVerdictOfHead, RefusesRequest, SaysHead}
-use Rattle.health_pages.specs.Heads.{asked_of, head_end, head_limit, host_of, host_view, is_head, result_view, with_piece}
+use Rattle.std.specs.Option.{ForNone, ForSome}
+use Rattle.health_pages.specs.HeadEnds.{EndsAt, EndsFirstAt, HasNoEnd, head_end, head_limit}
+use Rattle.health_pages.specs.Heads.{AnswersWhole, IsVerdict, IsVerdictOfHead, RefusesRequest, SaysHead}
+use Rattle.health_pages.specs.Heads.{asked_of, host_of, host_view, is_head, result_view, with_piece}
 
 -- ---- the place at which a head ends
 
@@ -29,7 +33,7 @@ occurs_less bytes more k fits at = record {
   reads = λ j low. sym (get_or-append bytes more 0 (k + j) (omega (arith, fits, low))) ∙ at.reads j low;
 }
 
-ends_more : (bytes more : List ℕ) (p : ℕ) → EndsAt bytes (Some p) → EndsAt (bytes ++ more) (Some p)
+pub ends_more : (bytes more : List ℕ) (p : ℕ) → EndsAt bytes (Some p) → EndsAt (bytes ++ more) (Some p)
 ends_more bytes more p ends =
     let fits : p + 4 ≤ length bytes = ends.1.fits in (
       record {
@@ -145,3 +149,80 @@ kept_verdict bytes piece v a =
     ⊎_elim (λ whole. inl (kept_whole bytes (take (head_limit - length bytes) piece) v whole))
     (λ long. subst (λ all. IsVerdict all (Some v)) (sym (full bytes piece long.long)) (inr long))
     a
+
+-- ---- the end of a head that came with the last piece
+
+-- what is in what is left is in the bytes
+occurs_left : (bytes : List ℕ) (from k : ℕ) → from ≤ length bytes → OccursAt (drop from bytes) head_end k → OccursAt bytes head_end (from + k)
+occurs_left bytes from k low at = record {
+  fits = omega (arith, at.fits, length-drop from bytes, low);
+  reads = λ j less. ap (λ n. get_or bytes n 0) (omega arith) ∙ sym (get_or-drop from bytes (k + j) 0) ∙ at.reads j less;
+}
+
+-- and the other way round
+occurs_right : (bytes : List ℕ) (from k : ℕ) → from ≤ k → OccursAt bytes head_end k → OccursAt (drop from bytes) head_end (k - from)
+occurs_right bytes from k low at = record {
+  fits = omega (arith, at.fits, length-drop from bytes, low);
+  reads = λ j less. get_or-drop from bytes (k - from + j) 0 ∙ ap (λ n. get_or bytes n 0) (omega (arith, low)) ∙ at.reads j less;
+}
+
+-- an end that begins further left came before
+none_left : (bytes : List ℕ) (seen k : ℕ) → seen ≤ length bytes → k < seen - 3 → EndsAt (take seen bytes) None → OccursAt bytes head_end k → ⊥
+none_left bytes seen k low less none at =
+    let size : length (take seen bytes) ≡ seen = length-take-le seen bytes low in
+    let whole = subst (λ l. OccursAt l head_end k) (sym (take-append-drop seen bytes)) at in
+    none k (omega arith) (omega (arith, size, less)) (occurs_less (take seen bytes) (drop seen bytes) k (omega (arith, size, less)) whole)
+
+-- a place is at another one or after it, or before it
+from_or_before : (a k : ℕ) → (a ≤ k) ⊎ (k < a)
+from_or_before a k =
+    ⊎_elim (λ same. inl (omega (arith, same))) (λ other. ⊎_elim (λ less. inl (omega (arith, less))) (λ more. inr more) other)
+    (cases_order a k)
+
+-- so it is looked for from there
+none_before : (bytes : List ℕ) (seen p : ℕ) → seen ≤ length bytes → EndsAt (take seen bytes) None
+    → ((k : ℕ) → k < p → OccursAt (drop (seen - 3) bytes) head_end k → ⊥) → (k : ℕ) → k < seen - 3 + p → OccursAt bytes head_end k → ⊥
+none_before bytes seen p low awaited before k less at =
+    ⊎_elim (λ right. before (k - (seen - 3)) (omega (arith, right, less)) (occurs_right bytes (seen - 3) k right at))
+    (λ left. none_left bytes seen k low left awaited at)
+    (from_or_before (seen - 3) k)
+
+pub ends_after : (bytes : List ℕ) (seen : ℕ) (found : Option ℕ) → seen ≤ length bytes → EndsAt (take seen bytes) None
+    → EndsAt (drop (seen - 3) bytes) found → EndsAt bytes (option_map (λ k. seen - 3 + k) found)
+ends_after bytes seen None low awaited none = λ k least high at.
+    none_before bytes seen (length (drop (seen - 3) bytes) + 1) low awaited (λ j less found. none j (omega arith) less found) k
+    (omega (arith, high, length-drop (seen - 3) bytes, low)) at
+ends_after bytes seen (Some p) low awaited at = (
+  record {
+    low = omega arith;
+    high = omega (arith, at.0.high, length-drop (seen - 3) bytes, low);
+    before = λ k least less occurs.
+        none_before bytes seen p low awaited (λ j lower found. at.0.before j (omega arith) lower found) k less occurs;
+  },
+  occurs_left bytes (seen - 3) p (omega (arith, low)) at.1,
+)
+
+-- ---- what is kept: the bytes, and the place at which the head ends
+
+pub found_of : (bytes : List ℕ) (end : Option ℕ) → ForNone end (HasNoEnd bytes) → ForSome end (EndsFirstAt bytes) → EndsAt bytes end
+found_of bytes None awaited ended = awaited refl
+found_of bytes (Some p) awaited ended = ended p refl
+
+pub awaited_of : (bytes : List ℕ) (end : Option ℕ) → EndsAt bytes end → ForNone end (HasNoEnd bytes)
+awaited_of bytes end found none = subst (EndsAt bytes) none found
+
+pub ended_of : (bytes : List ℕ) (end : Option ℕ) → EndsAt bytes end → ForSome end (EndsFirstAt bytes)
+ended_of bytes end found p some = subst (EndsAt bytes) some found
+
+-- both parts after a piece, of which all was taken or nothing
+pub kept_found : (result : Result (Unit {0}) AllocError) (was new piece : List ℕ) (end now : Option ℕ) → EndsAt was end
+    → OnOk result ((new ≡ was ++ piece) × EndsAt new now) → OnErr result ((new ≡ was) × (now ≡ end)) → EndsAt new now
+kept_found (Ok done) was new piece end now found kept left = kept.1
+kept_found (Err fault) was new piece end now found kept left =
+    subst (λ l. EndsAt l now) (sym left.0) (subst (EndsAt was) (sym left.1) found)
+
+pub kept_short : (result : Result (Unit {0}) AllocError) (was new piece : List ℕ) (end now : Option ℕ) → length was ≤ head_limit
+    → length was + length piece ≤ head_limit → OnOk result ((new ≡ was ++ piece) × EndsAt new now)
+    → OnErr result ((new ≡ was) × (now ≡ end)) → length new ≤ head_limit
+kept_short (Ok done) was new piece end now short fits kept left = omega (arith, ap length kept.0, length-append was piece, fits)
+kept_short (Err fault) was new piece end now short fits kept left = omega (arith, ap length left.0, short)

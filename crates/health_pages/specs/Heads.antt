@@ -11,7 +11,6 @@ use Rattle.httparse.specs.declared.spans.HeaderSpan.{HeaderSpan}
 use Rattle.httparse.specs.declared.spans.RequestSpans.{RequestSpans}
 use Rattle.httparse.specs.Grammar.{ReadsRequest, RequestHead}
 use Rattle.httparse.specs.Spans.{IsRequestAt, IsRequestWithin, name_and_value}
-use Rattle.memchr.specs.Find.{FindsNeedle}
 use Rattle.health_pages.specs.declared.asked_page.AskedPage.{AskedPage}
 use Rattle.health_pages.specs.declared.asked_page.Page.{Page}
 use Rattle.health_pages.specs.declared.asked_page.PageFault.{PageFault}
@@ -19,12 +18,10 @@ use Rattle.health_pages.specs.declared.asked_page.PageFault.TheVariants.{TooLong
 use Rattle.health_pages.specs.declared.asked_page.PageFault.TheVariants.{BadMethod, NoPage}
 use Rattle.health_pages.specs.declared.asked_page.PageFault.TheVariants.{BadFields, CrossSite}
 use Rattle.health_pages.specs.declared.head_verdict.HeadVerdict.{HeadVerdict}
+use Rattle.health_pages.specs.HeadEnds.{EndsAt, head_limit}
 use Rattle.health_pages.specs.Pages.{asked_view, page_at}
 
--- the most bytes of a head, and the most fields of one
-abbrev pub head_limit : ℕ
-head_limit = 8192
-
+-- the most fields of a head
 abbrev pub field_limit : ℕ
 field_limit = 64
 
@@ -98,7 +95,7 @@ host_of h = host_in (map name_and_value h.fields)
 
 -- the same for what is read
 abbrev pub host_view : HeadVerdict → Option (List ℕ)
-host_view v = option_map (λ host. host.now) v.host
+host_view v = option_map (λ host. host.items) v.host
 
 -- the same for what is read
 abbrev pub result_view : Result AskedPage PageFault → Result (Page × Option (List ℕ)) PageFault
@@ -140,14 +137,6 @@ abbrev pub IsVerdictOfHead : List ℕ → HeadVerdict → Type 0
 IsVerdictOfHead bytes v = SaysHead bytes v ⊎ (IsNoHead bytes × RefusesRequest BadHead v)
 
 -- ---- bytes that came
-
--- the end of a line, and the empty line that ends a head
-abbrev pub head_end : List ℕ
-head_end = codes "\r\n\r\n"
-
--- the place at which the end of the head begins, if it came
-abbrev pub EndsAt : List ℕ → Option ℕ → Type 0
-EndsAt bytes place = FindsNeedle bytes head_end 0 place
 
 -- The head has come whole.
 pub record AnswersWhole (bytes : List ℕ) (v : HeadVerdict) : Type 0 where

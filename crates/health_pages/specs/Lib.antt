@@ -1,4 +1,5 @@
 pub mod Pages
+pub mod HeadEnds
 pub mod Heads
 pub mod Hosts
 pub mod HeadParts

@@ -1,7 +1,7 @@
 -- The pages, and the target of a request that asks for one (RFC 9112, section 3.2.1): a path, and
 -- nothing else, or the path of the graph with a query that names a domain.
 use Rattle.std.specs.Prelude.{ℕ, List, [], ◌∷◌, ◌==◌, ◌||◌, Bool, false, codes, drop, find, length}
-use Rattle.std.specs.Prelude.{if◌then◌else◌, nat_eq, Option, Some, None, option_map}
+use Rattle.std.specs.Prelude.{if◌then◌else◌, nat_eq, Option, Some, None, option_map, string_bytes}
 use Rattle.std.specs.List.{list_all, starts_with}
 use Rattle.std.specs.Char.{is_ascii_digit, is_ascii_lowercase}
 use Rattle.std.specs.Str.{bytes_eq}
@@ -63,4 +63,4 @@ page_at target = page_or_graph (page_of target) target
 
 -- the same for what is read
 abbrev pub asked_view : AskedPage → Page × Option (List ℕ)
-asked_view asked = (asked.page, option_map (λ domain. domain.now) asked.domain)
+asked_view asked = (asked.page, option_map string_bytes asked.domain)

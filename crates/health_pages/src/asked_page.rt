@@ -1,9 +1,10 @@
 //! The pages, and the target of a request that asks for one.
-ghost use Rattle.std.specs.Prelude.{◌≡◌, option_map};
+ghost use Rattle.std.specs.Prelude.{◌≡◌, IfOk, option_map};
 ghost use Rattle.std.specs.List.{list_all};
-ghost use Rattle.health_pages.specs.Pages.{asked_view, domain_prefix, graph_at, is_name};
+ghost use Rattle.health_pages.specs.Pages.{asked_view, domain_prefix, graph_at, graph_of, is_name};
 ghost use Rattle.health_pages.specs.Pages.{is_name_byte, page_at, page_of, page_path};
 
+use std::alloc::{AllocError, Global};
 use std::str;
 
 /// What can be asked for.
@@ -62,12 +63,27 @@ impl Page {
 }
 
 /// A page, and what else its target says.
-#[derive(Clone, Copy, Debug)]
-pub struct AskedPage<'a> {
+#[derive(Debug, Drop)]
+pub struct AskedPage {
     pub page: Page,
     /// The trust domain of the graph, if one is named: lower-case letters, digits, dots, hyphens
     /// and underscores, at least one.
-    pub domain: Option<&'a str>,
+    pub domain: Option<String>,
+}
+
+impl AskedPage {
+    ghost use Rattle.std.specs.Prelude.{string_bytes};
+
+    /// The text of the domain.
+    pub fn domain_text(&self) -> Option<&str>
+        ensures { option_map (λ text. text.now) result
+            ≡ option_map string_bytes self.now.domain }
+    {
+        match &self.domain {
+            Some(domain) => Some(domain.as_str()),
+            None => None,
+        }
+    }
 }
 
 /// Why a request asks for no page.
@@ -90,12 +106,12 @@ pub enum PageFault {
 }
 
 /// The page of a request's target.
-pub(crate) fn page_at(target: &[u8]) -> Option<AskedPage<'_>>
-    ensures { option_map asked_view result ≡ page_at target.now }
+pub(crate) fn page_at(alloc: Global, target: &[u8]) -> Result<Option<AskedPage>, AllocError>
+    ensures { IfOk result (λ asked. option_map asked_view asked ≡ page_at target.now) }
 {
     match page_of(target) {
-        Some(page) => Some(AskedPage { page, domain: None }),
-        None => graph_at(target),
+        Some(page) => Ok(Some(AskedPage { page, domain: None })),
+        None => graph_at(alloc, target),
     }
 }
 
@@ -111,19 +127,27 @@ fn page_of(target: &[u8]) -> Option<Page>
 }
 
 // The graph of one domain.
-fn graph_at(target: &[u8]) -> Option<AskedPage<'_>>
-    ensures { option_map asked_view result ≡ graph_at target.now }
+fn graph_at(alloc: Global, target: &[u8]) -> Result<Option<AskedPage>, AllocError>
+    ensures { IfOk result (λ asked. option_map asked_view asked ≡ graph_at target.now) }
 {
-    let name = target.strip_prefix(DOMAIN_PREFIX.as_bytes())?;
+    match target.strip_prefix(DOMAIN_PREFIX.as_bytes()) {
+        Some(name) => graph_of(alloc, name),
+        None => Ok(None),
+    }
+}
+
+fn graph_of(alloc: Global, name: &[u8]) -> Result<Option<AskedPage>, AllocError>
+    ensures { IfOk result (λ asked. option_map asked_view asked ≡ graph_of name.now) }
+{
     if !is_name(name) {
-        return None;
+        return Ok(None);
     }
     match str::from_utf8(name) {
-        Ok(name) => Some(AskedPage {
+        Ok(name) => Ok(Some(AskedPage {
             page: Page::Graph,
-            domain: Some(name),
-        }),
-        Err(_) => None,
+            domain: Some(String::from_str(alloc, name)?),
+        })),
+        Err(_) => Ok(None),
     }
 }
 

@@ -1,6 +1,7 @@
 //! What follows from the definitions.
 ghost use Rattle.std.specs.Prelude.{◌≡◌, ◌≤◌, ◌++◌, ℕ, List, None, Some, length};
-ghost use Rattle.health_pages.specs.Heads.{IsVerdict, head_limit, host_view, result_view};
+ghost use Rattle.health_pages.specs.HeadEnds.{head_limit};
+ghost use Rattle.health_pages.specs.Heads.{IsVerdict, host_view, result_view};
 ghost use Rattle.health_pages.specs.Heads.{with_piece};
 ghost use Rattle.health_pages.specs.declared.head_verdict.HeadVerdict.{HeadVerdict};
 

@@ -1,5 +1,5 @@
 -- What the commands that change what is held answer, and what is replied to their calls.
-use Rattle.std.proofs.Common.{◌≡◌, ◌||◌, ℕ, ◌+◌, ◌<◌, Bool, true, false, List, [], ◌∷◌, ◌++◌, length, map, get_or, drop, drop-cons, add-one, append_assoc}
+use Rattle.std.proofs.Common.{◌≡◌, ◌||◌, ℕ, ◌+◌, ◌<◌, Bool, true, false, List, [], ◌∷◌, ◌++◌, length, map, drop}
 use Rattle.std.proofs.Common.{inl, inr, Option, Some, Result, Ok, Err, IfErr, IfOk, OnErr, refl, sym, ap, ◌∙◌, subst}
 use Rattle.std.proofs.Common.{arith}
 use Rattle.std.proofs.lemmas.Bool.{both_ways, cases_lt}
@@ -34,13 +34,10 @@ use Rattle.command_exits.specs.declared.error.CommandError.{CommandError}
 use Rattle.command_exits.specs.declared.error.CommandError.TheVariants.{NoMemory, Observe, Sync, Take}
 use Rattle.command_exits.specs.declared.exits.Exit.{Exit}
 use Rattle.command_exits.specs.declared.exits.Exit.TheVariants.{Refused, Usage}
-use Rattle.request_lines.specs.RequestLines.{SaysWords}
-use Rattle.request_lines.specs.declared.request_error.RequestError.TheVariants as line_error
 use Rattle.command_exits.specs.Exits.{exit_of_option, exit_status_of}
 use Rattle.fedbundle.specs.SaidKeys.{SaysKeys}
 use Rattle.local_answers.specs.Journalling.{IsSilent, RepliesChange, ReportsLines}
 use Rattle.local_answers.specs.declared.changing_replies.Sayings.{Sayings}
-use Rattle.local_answers.specs.Replies.{RefusesWordsLine}
 use Rattle.fedbundle.specs.SaidValues.{SaysVerdict}
 use Rattle.local_answers.specs.RequestRun.{Answers, AnswersObserve, AnswersShown, CallRun, ChangeRun, Ends, EndsDistrust, EndsMerge, EndsMergeCall, EndsOver}
 use Rattle.local_answers.specs.RequestRun.{AnswersMerge, IsWithinRoom, exit_of_unread}
@@ -50,7 +47,6 @@ use Rattle.local_answers.specs.RequestRun.{SaysOfWords, is_help}
 use Rattle.local_answers.specs.RequestRun.{SaysDistrusted, SaysFetched, change_run, keys_asked, memory_exit, said}
 use Rattle.local_answers.specs.declared.reply.Reply.{Reply}
 use Rattle.local_answers.specs.declared.request_fault.RequestFault.{RequestFault}
-use Rattle.local_answers.specs.declared.request_fault.RequestFault.TheVariants as request_fault
 use Rattle.local_answers.proofs.RequestFacts.{observe_unmade, same_journalled}
 
 -- ---- the reply
@@ -278,31 +274,8 @@ none_changed state (Err exit) silent = tt
 
 -- ---- requests
 
--- what is replied to a call is replied to the line of its arguments
-pub line_called : (line : List ℕ) (words : List (List ℕ)) (run : CallRun) (result : Result Reply RequestFault) → SaysWords line words
-    → IsSoundRequest words run.name run.texts → IfOk result (RepliesToCall run) → IfOk result (RepliesTo line run.running run.change)
-line_called line words run (Ok reply) says calls replied = record {
-  words = words;
-  says = says;
-  replied = inl (record { name = run.name; texts = run.texts; call = calls; replied = replied });
-}
-line_called line words run (Err fault) says calls replied = tt
-
--- out of memory is an error of any line
-pub lacks_memory : (line : List ℕ) (fault : RequestFault) → fault ≡ request_fault.NoMemory → RefusesWordsLine line fault
-lacks_memory line fault is = record { why = line_error.NoMemory; refused = tt; is = is }
-
--- the same for a result
-pub result_lacks_memory : (line : List ℕ) (result : Result Reply RequestFault) → IfErr result (λ fault. fault ≡ request_fault.NoMemory)
-    → IfErr result (RefusesWordsLine line)
-result_lacks_memory line (Ok reply) is = tt
-result_lacks_memory line (Err fault) is = lacks_memory line fault is
-
--- one more argument was taken: the step of the loop in `texts_of_words`
-pub word_more : {X : Type 0} (f : X → List ℕ) (xs : List X) (k : ℕ) (x : X) → k < length xs → x ≡ get_or xs k x
-    → (old new : List (List ℕ)) (text : List ℕ) → new ≡ old ++ text ∷ [] → f x ≡ text
-    → new ++ map f (drop (k + 1) xs) ≡ old ++ map f (drop k xs)
-word_more f xs k x low is old new text grown same =
-    ap (λ ts. ts ++ map f (drop (k + 1) xs)) grown
-    ∙ append_assoc old (text ∷ []) (map f (drop (k + 1) xs)) ∙ (λ i. old ++ (sym same i ∷ map f (drop (k + 1) xs)))
-    ∙ ap (λ ys. old ++ map f ys) (sym (drop-cons xs k x low ∙ (λ i. sym is i ∷ drop (sym (add-one k) i) xs)))
+-- what is replied to a call is replied to its arguments
+pub words_called : (words : List (List ℕ)) (run : CallRun) (result : Result Reply RequestFault) → IsSoundRequest words run.name run.texts
+    → IfOk result (RepliesToCall run) → IfOk result (RepliesTo words run.running run.change)
+words_called words run (Ok reply) calls replied = inl (record { name = run.name; texts = run.texts; call = calls; replied = replied })
+words_called words run (Err fault) calls replied = tt

@@ -2,21 +2,16 @@
 use Rattle.std.proofs.Common.{ℕ, false, List, inl, inr, Result, Ok, Err, IfErr, IfOk}
 use Rattle.command_line.specs.Checks.{IsSoundRequest}
 use Rattle.command_exits.specs.declared.exits.Exit.{Exit}
-use Rattle.request_lines.specs.RequestLines.{SaysWords}
 use Rattle.local_answers.specs.Looking.{AnswersLook, Changes, EndsLook, LooksAtCall, RepliesToLook}
 use Rattle.local_answers.specs.RequestRun.{AnswersShown, CallRun, EndsOver}
 use Rattle.local_answers.specs.declared.reply.Reply.{Reply}
 use Rattle.local_answers.specs.declared.request_fault.RequestFault.{RequestFault}
 
--- what is replied to a call is replied to the line of its arguments
-pub line_looked : (line : List ℕ) (words : List (List ℕ)) (run : CallRun) (result : Result Reply RequestFault) → SaysWords line words
-    → IsSoundRequest words run.name run.texts → IfOk result (LooksAtCall run) → IfOk result (RepliesToLook line run.running run.change)
-line_looked line words run (Ok reply) says calls replied = record {
-  words = words;
-  says = says;
-  replied = inl (record { name = run.name; texts = run.texts; call = calls; replied = replied });
-}
-line_looked line words run (Err fault) says calls replied = tt
+-- what is replied to a call is replied to its arguments
+pub words_looked : (words : List (List ℕ)) (run : CallRun) (result : Result Reply RequestFault) → IsSoundRequest words run.name run.texts
+    → IfOk result (LooksAtCall run) → IfOk result (RepliesToLook words run.running run.change)
+words_looked words run (Ok reply) calls replied = inl (record { name = run.name; texts = run.texts; call = calls; replied = replied })
+words_looked words run (Err fault) calls replied = tt
 
 -- what is shown is what a command that only looks answers
 pub look_answered : (run : CallRun) (result : Result Reply Exit) → Changes run false → IfOk result (AnswersShown run) → IfOk result (AnswersLook run)

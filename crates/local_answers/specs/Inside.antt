@@ -1,3 +1,4 @@
 pub mod AskedRun
+pub mod StreamSteps
 pub mod NewLineSteps
 pub mod ReplySteps

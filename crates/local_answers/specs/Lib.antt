@@ -1,4 +1,4 @@
-pub mod RequestLimits
+pub mod RequestStream
 pub mod RequestBytes
 pub mod RequestWords
 pub mod Replies

@@ -7,7 +7,6 @@ use Rattle.command_line.specs.declared.command_name.CommandName.TheVariants as c
 use Rattle.command_line.specs.declared.command_name.OptionName.TheVariants.{DryRun}
 use Rattle.command_exits.specs.declared.exits.Exit.{Exit}
 use Rattle.command_exits.specs.declared.exits.Exit.TheVariants.{ReadOnly}
-use Rattle.request_lines.specs.RequestLines.{SaysWords}
 use Rattle.status_view.specs.declared.running.RunningStatus.{RunningStatus}
 use Rattle.local_answers.specs.RequestRun.{AnswersShown, CallRun, ChangeRun, EndsAnyhow, EndsShown}
 use Rattle.local_answers.specs.RequestRun.{IsEnded, RepliesToWords, call_run, said}
@@ -64,9 +63,7 @@ pub record LooksAsCommand (words : List (List ℕ)) (running : RunningStatus) (c
   pub call : IsSoundRequest words name texts
   pub replied : LooksAtCall (call_run name texts running change) reply
 
--- What is replied to a line of arguments.
-pub record RepliesToLook (line : List ℕ) (running : RunningStatus) (change : ChangeRun)
-    (reply : Reply) : Type 0 where
-  pub words : List (List ℕ)
-  pub says : SaysWords line words
-  pub replied : LooksAsCommand words running change reply ⊎ RepliesToWords words change reply
+-- What is replied to a request.
+abbrev pub RepliesToLook : (words : List (List ℕ)) → RunningStatus → ChangeRun → Reply → Type 0
+RepliesToLook words running change reply =
+    LooksAsCommand words running change reply ⊎ RepliesToWords words change reply

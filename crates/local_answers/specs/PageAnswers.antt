@@ -2,13 +2,11 @@
 use Rattle.std.specs.Prelude.{◌≡◌, ℕ, List, [], ◌∷◌, ◌++◌, ◌==◌, ◌&&◌, Bool, codes, decimal}
 use Rattle.std.specs.Prelude.{flat_map, if◌then◌else◌, length, MatchBool, nat_lt}
 use Rattle.std.specs.Prelude.{Option, Some, None}
-use Rattle.serde_json.specs.Written.{compact_text}
 use Rattle.fedbundle.specs.CommandRun.{StateRun}
 use Rattle.status_warnings.specs.WarningLines.{lines_of_warnings}
 use Rattle.status_warnings.specs.Warnings.{quiet_warning}
 use Rattle.status_warnings.specs.declared.seen.WarnLimits.{WarnLimits}
 use Rattle.status_warnings.specs.declared.warning_kinds.Warning.{Warning}
-use Rattle.request_lines.specs.RequestLines.{words_value}
 use Rattle.health_pages.specs.FixedTexts.{fixed_text}
 use Rattle.health_pages.specs.LoopMetrics.{loop_metrics}
 use Rattle.health_pages.specs.Responses.{page_type, response_text}
@@ -61,7 +59,7 @@ page_words limits asked = words_of limits asked.0 asked.1
 -- what a request with these arguments and no input is replied, if it may only look
 abbrev pub RepliesWith : PageSource → StateRun → List (List ℕ) → Reply → Type 0
 RepliesWith source state words reply =
-    RepliesToLook (compact_text (words_value words)) source.running (change_run state []) reply
+    RepliesToLook words source.running (change_run state []) reply
 
 -- ---- what comes of the reply
 

@@ -1,6 +1,6 @@
 -- What is sent back: a first line, standard output and standard error.
 use Rattle.std.specs.Prelude.{◌≡◌, ℕ, List, codes, length}
-use Rattle.request_lines.specs.RequestLines.{IsOfWords, RefusesLine, reply_line}
+use Rattle.request_lines.specs.RequestLines.{reply_line}
 use Rattle.request_lines.specs.declared.request_error.RequestError.{RequestError}
 use Rattle.request_lines.specs.declared.request_error.RequestError.TheVariants.{TooLong, BadLine}
 use Rattle.request_lines.specs.declared.request_error.RequestError.TheVariants as line_error
@@ -30,14 +30,8 @@ fault_reply TooManyRequests =
 fault_reply NoMemory =
     codes "{\"errors\":23,\"output\":0,\"status\":4}\nfedbundle: E2 NoMemory\n"
 
--- the error of a request whose line of arguments is not read
+-- the error of a request whose first line or whose arguments are not read
 abbrev pub words_fault : RequestError → RequestFault
 words_fault TooLong = WordsTooLong
 words_fault BadLine = BadWords
 words_fault line_error.NoMemory = NoMemory
-
--- The line of arguments is refused, or memory ran out, and that is the error.
-pub record RefusesWordsLine (line : List ℕ) (fault : RequestFault) : Type 0 where
-  pub why : RequestError
-  pub refused : RefusesLine IsOfWords line why
-  pub is : fault ≡ words_fault why

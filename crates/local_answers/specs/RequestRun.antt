@@ -22,7 +22,7 @@ use Rattle.fedbundle.specs.SaidValues.{EndsAtDomain, SaysNoVerdict, SaysVerdict}
 use Rattle.fedbundle.specs.Shown.{ShownCall}
 use Rattle.fedbundle.specs.ShownCommands.{RunsShown}
 use Rattle.command_exits.specs.Exits.{IsExitLine, exit_of_option, exit_status_of}
-use Rattle.command_line.specs.Checks.{IsSoundRequest, flaw_in_request}
+use Rattle.command_line.specs.Checks.{IsSoundRequest, flaw_of}
 use Rattle.command_line.specs.Words.{CallsInRequest, the_command}
 use Rattle.command_line.specs.declared.command_name.CommandName.{CommandName}
 use Rattle.command_line.specs.declared.command_name.CommandName.TheVariants as command
@@ -42,7 +42,6 @@ use Rattle.command_exits.specs.declared.error.CommandError.TheVariants.{Take}
 use Rattle.command_exits.specs.declared.exits.Exit.{Exit}
 use Rattle.command_exits.specs.declared.exits.Exit.TheVariants.{BadNumber, Refused, TooManyBytes}
 use Rattle.command_exits.specs.declared.exits.Exit.TheVariants.{Usage}
-use Rattle.request_lines.specs.RequestLines.{SaysWords}
 use Rattle.status_view.specs.declared.running.RunningStatus.{RunningStatus}
 use Rattle.local_answers.specs.Fallen.{AreAcceptedCounts, SaysFell}
 use Rattle.local_answers.specs.Replies.{first_line}
@@ -461,7 +460,7 @@ pub record IsFlawedRequest (words : List (List ℕ)) (flaw : OptionError) : Type
   pub name : CommandName
   pub texts : List (Option (List ℕ))
   pub call : CallsInRequest words name texts
-  pub is : flaw_in_request name texts ≡ Some flaw
+  pub is : flaw_of name texts ≡ Some flaw
 
 -- How a command ends by that flaw is replied.
 pub record EndsByFlaw (words : List (List ℕ)) (reply : Reply) : Type 0 where
@@ -487,9 +486,7 @@ pub record RepliesToWords (words : List (List ℕ)) (change : ChangeRun) (reply 
   pub replied : SaysOfWords words reply
   pub held : IsAsHeld change.state
 
--- What is replied to a line of arguments.
-pub record RepliesTo (line : List ℕ) (running : RunningStatus) (change : ChangeRun)
-    (reply : Reply) : Type 0 where
-  pub words : List (List ℕ)
-  pub says : SaysWords line words
-  pub replied : RepliesAsCommand words running change reply ⊎ RepliesToWords words change reply
+-- What is replied to a request.
+abbrev pub RepliesTo : (words : List (List ℕ)) → RunningStatus → ChangeRun → Reply → Type 0
+RepliesTo words running change reply =
+    RepliesAsCommand words running change reply ⊎ RepliesToWords words change reply

@@ -4,7 +4,7 @@ ghost use Rattle.std.specs.Prelude.{string_bytes};
 ghost use Rattle.local_answers.specs.RequestWords.{asked_words, flag_word, is_asked, word_with};
 ghost use Rattle.local_answers.specs.RequestWords.{words_with};
 
-use command_line::{Call, OptionName};
+use command_line::{Call, OptionName, TakenOption};
 use std::alloc::{AllocError, Global};
 
 /// The arguments by which a request asks a running replica for what the command line asks for: the
@@ -32,18 +32,18 @@ pub fn request_words(alloc: Global, call: &Call<'_>) -> Result<Vec<String>, Allo
 fn push_words(
     alloc: Global,
     words: &mut Vec<String>,
-    options: &[OptionName],
+    options: &[TakenOption],
     texts: &[Option<&str>],
 ) -> Result<(), AllocError>
     ensures { OnOk result (map string_bytes words.new.items ≡ map string_bytes words.old.items
         ++ words_with options.now (map (option_map (λ t. t.now)) texts.now)) }
 {
     let mut rest = texts;
-    'options: for &option in options {
+    'options: for &taken in options {
         let [text, more @ ..] = rest else {
             return Ok(());
         };
-        push_word(words, option_word(alloc, option, *text)?)?;
+        push_word(words, option_word(alloc, taken, *text)?)?;
         rest = more;
     }
     Ok(())
@@ -64,15 +64,16 @@ fn push_word(words: &mut Vec<String>, word: Option<String>) -> Result<(), AllocE
 
 fn option_word(
     alloc: Global,
-    option: OptionName,
+    taken: TakenOption,
     text: Option<&str>,
 ) -> Result<Option<String>, AllocError>
     ensures { IfOk result (λ word. option_map string_bytes word
-        ≡ word_with option (option_map (λ t. t.now) text.entry)) }
+        ≡ word_with taken (option_map (λ t. t.now) text.entry)) }
 {
+    let option = taken.name();
     match text {
         Some(text) if option.is_flag() => flag_word(alloc, option, text),
-        Some(text) if is_asked(option) => {
+        Some(text) if is_asked(taken) => {
             let name = option.text();
             Ok(Some(format!(in alloc; "--{name}={text}")?))
         }
@@ -92,11 +93,15 @@ fn flag_word(alloc: Global, option: OptionName, text: &str) -> Result<Option<Str
 }
 
 // Whether a request may have the option.
-fn is_asked(option: OptionName) -> bool
-    ensures { result ≡ is_asked option }
+fn is_asked(taken: TakenOption) -> bool
+    ensures { result ≡ is_asked taken }
 {
-    match option {
-        OptionName::At => false,
-        option => !option.is_place(),
+    match taken {
+        TakenOption::Required(_) => true,
+        TakenOption::Optional(_) => true,
+        TakenOption::RequiredOverFiles(_) => false,
+        TakenOption::OptionalOverFiles(_) => false,
+        TakenOption::OptionalAtReplica(_) => true,
+        TakenOption::Asking(_) => false,
     }
 }

@@ -1,10 +1,9 @@
-//! A request, read and carried out.
-ghost use Rattle.std.specs.Prelude.{◌≡◌, IfErr, IfOk, OnErr, map, string_bytes};
+//! A request, carried out.
+ghost use Rattle.std.specs.Prelude.{◌≡◌, IfErr, IfOk, OnErr, map};
 ghost use Rattle.fedbundle.specs.CommandRun.{state_run};
 ghost use Rattle.command_exits.specs.Exits.{exit_of_option};
 ghost use Rattle.local_answers.specs.Inside.AskedRun.{run_of_asked};
 ghost use Rattle.local_answers.specs.Journalling.{RepliesChange};
-ghost use Rattle.local_answers.specs.Replies.{RefusesWordsLine};
 ghost use Rattle.local_answers.specs.RequestRun.{Answers, Ends, IsEnded, RepliesTo, RepliesToCall};
 ghost use Rattle.local_answers.specs.RequestRun.{RepliesByKind, RepliesToError, bytes_of_files};
 ghost use Rattle.local_answers.specs.RequestRun.{change_run, is_help};
@@ -19,40 +18,35 @@ use crate::shown_calls::{shown, stop};
 use closure_core::Closure;
 use command_exits::Exit;
 use command_line::{CommandName, OptionError, WordsError, manner_of, read_request};
-use request_lines::read_request_words;
 use status_view::RunningStatus;
 use std::alloc::{AllocError, Global};
 
-/// Carries out what a request asks for: the arguments, as [`fedbundle::read_request`] reads them,
-/// with the input in place of standard input. The streams and the exit status are those of the same
+/// Carries out what a request asks for: its arguments, as [`fedbundle::read_request`] reads them,
+/// with its input in place of standard input. The streams and the exit status are those of the same
 /// command over files. All memory is taken before what is held changes.
 ///
 /// `running` is what the replica says of itself: `status` shows it, and of `--most-bytes` the rest
 /// over the bytes of its files is left for the input of `merge`.
 ///
 /// # Errors
-/// Nothing has changed, and [`RequestFault::reply`] is to be replied.
-/// - [`RequestFault::WordsTooLong`]: the line of arguments has more than 65,536 bytes,
-/// - [`RequestFault::BadWords`]: it is not a JSON array of texts,
-/// - [`RequestFault::NoMemory`]: memory ran out.
+/// [`RequestFault::NoMemory`]: memory ran out. Nothing has changed, and [`RequestFault::reply`] is
+/// to be replied.
 pub fn answer_request<C: Closure>(
     alloc: Global,
     closure: &mut C,
     running: &RunningStatus<'_>,
-    words: &[u8],
+    words: &[&str],
     input: &[u8],
 ) -> Result<Reply, RequestFault>
-    ensures answers { IfOk result (RepliesTo words.now running.now
+    ensures answers { IfOk result (RepliesTo (map (λ w. w.now) words.now) running.now
         (change_run (state_run (C.state closure.old) (C.state closure.new)) input.now)) }
     ensures journals { IfOk result (λ reply. RepliesChange reply
         (state_run (C.state closure.old) (C.state closure.new))) }
-    ensures fault { IfErr result (RefusesWordsLine words.now) }
+    ensures memory { IfErr result (λ fault. fault ≡ NoMemory) }
     ensures unchanged { OnErr result
         ((C.state closure.new).meaning ≡ (C.state closure.old).meaning) }
 {
-    let words = read_request_words(alloc, words)?;
-    let texts = texts_of_words(alloc, words.as_slice())?;
-    match read_request(alloc, texts.as_slice()) {
+    match read_request(alloc, words) {
         Ok(call) => {
             let asked = Asked {
                 call: &call,
@@ -63,16 +57,6 @@ pub fn answer_request<C: Closure>(
         }
         Err(error) => Ok(reply_by_words(alloc, &error)?),
     }
-}
-
-pub(crate) fn texts_of_words(alloc: Global, words: &[String]) -> Result<Vec<&str>, AllocError>
-    ensures { IfOk result (λ texts. map (λ t. t.now) texts.items ≡ map string_bytes words.now) }
-{
-    let mut texts = Vec::with_capacity(alloc, words.len())?;
-    'words: for word in words {
-        texts.push(word.as_str())?;
-    }
-    Ok(texts)
 }
 
 // The arguments are not those of a command, ask for help or for the version, or have a flaw.

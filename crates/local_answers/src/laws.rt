@@ -1,7 +1,7 @@
 //! What follows only from the definitions. A call that needs a law calls its function, which does
 //! nothing, and cites what it ensures.
 ghost use Rattle.std.specs.Prelude.{◌≡◌, ◌≢◌, ◌<◌, ◌≤◌, ◌++◌, [], ◌∷◌, List, Some};
-ghost use Rattle.std.specs.Prelude.{slice_get, true, ℕ};
+ghost use Rattle.std.specs.Prelude.{length, slice_get, true, ℕ};
 ghost use Rattle.fed_config.specs.Configuration.{Configuration};
 ghost use Rattle.fed_config.specs.declared.limits.Limits.{Limits};
 ghost use Rattle.receipt_core.specs.Acceptance.{Meaning, IsMeaning};
@@ -18,6 +18,7 @@ ghost use Rattle.local_answers.specs.ChangeEvents.{AppendsTo, BringsTo, IsPulled
 ghost use Rattle.local_answers.specs.ChangeEvents.{replica_in};
 ghost use Rattle.local_answers.specs.ChangeEvents.{sent_give, sent_have};
 ghost use Rattle.local_answers.specs.Journalling.{JournalsChange};
+ghost use Rattle.local_answers.specs.RequestStream.{Asking, GivesAll};
 ghost use Rattle.fedbundle.specs.CommandRun.{StateRun};
 ghost use Rattle.fedbundle.specs.Observe.{IsAsHeld};
 
@@ -97,4 +98,20 @@ pub fn world_of_pieces()
         → slice_get w.sent place ≡ Some (sent_give answerer have g.give)
         → (is_within_limits (rules.limits i) (joined (w.now i) g.give.content) ≡ true)
         × (happens rules w (Absorb i place) ≡ with_state w i (state_of g.last.new)) }
+{}
+
+/// Requests on one stream come apart in one way, wherever it is cut into pieces. So none is given
+/// twice, and no byte is lost or given to another.
+///
+/// - `joined`: the requests that are given before a piece comes, and those that are given after it,
+///   are those of all these bytes.
+/// - `one`: the same number of requests of the same bytes are the same ones, and the same bytes
+///   follow them.
+pub fn requests_of_streams()
+    ensures joined { (bytes more : List ℕ) (before after : List Asking) (left rest : List ℕ)
+        → GivesAll bytes before left → GivesAll (left ++ more) after rest
+        → GivesAll (bytes ++ more) (before ++ after) rest }
+    ensures one { (bytes : List ℕ) (some others : List Asking) (rest other : List ℕ)
+        → GivesAll bytes some rest → GivesAll bytes others other → length some ≡ length others
+        → (some ≡ others) × (rest ≡ other) }
 {}

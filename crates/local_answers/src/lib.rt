@@ -1,9 +1,10 @@
 //! The requests that a running replica answers on its own machine, without a socket, a file or a
 //! clock: the bytes of a connection go in, as the pieces in which they come, and a reply comes out.
 //!
-//! `request_parts` joins the pieces, and `request_fault` has what is replied if they are not a
-//! request. `asked` has what a request asks for, and `carrying_out` does it: `shown_calls` has the
-//! commands that show what is held, which are those of [`fedbundle::run_shown`], and
+//! `request_parts` joins the pieces, and gives one request after another; `request_fault` has what
+//! is replied if they are not requests. `asked` has what a request asks for, and `carrying_out`
+//! does it: `shown_calls` has the commands that show what is held, which are those of
+//! [`fedbundle::run_shown`], and
 //! `changing_calls` and `changing_replies` those that change it, the first what the arguments say,
 //! and the second what is replied. `looking` answers at a socket at which nothing can be changed. A
 //! change is journalled by `new_lines`. `reply` is what is sent back, and `reply_sending` says
@@ -38,4 +39,4 @@ pub use page_source::{PageLimits, PageSource};
 pub use reply::Reply;
 pub use reply_sending::Sending;
 pub use request_fault::RequestFault;
-pub use request_parts::{MOST_INPUT, RequestParts, WholeRequest};
+pub use request_parts::{MOST_INPUT, RequestParts, StreamState, WholeRequest};

@@ -1,22 +1,20 @@
 //! Requests at a socket at which nothing can be changed: what is held is only lent to them (D-437).
-ghost use Rattle.std.specs.Prelude.{◌≡◌, IfErr, IfOk};
+ghost use Rattle.std.specs.Prelude.{◌≡◌, IfErr, IfOk, map};
 ghost use Rattle.fedbundle.specs.CommandRun.{state_run};
 ghost use Rattle.local_answers.specs.Inside.AskedRun.{run_of_asked};
 ghost use Rattle.local_answers.specs.Looking.{AnswersLook, EndsLook, RepliesToLook, LooksAtCall};
 ghost use Rattle.local_answers.specs.Looking.{is_change};
-ghost use Rattle.local_answers.specs.Replies.{RefusesWordsLine};
 ghost use Rattle.local_answers.specs.RequestRun.{change_run};
 ghost use Rattle.local_answers.specs.declared.request_fault.RequestFault.TheVariants.{NoMemory};
 
 use crate::asked::Asked;
-use crate::carrying_out::{reply_by_words, texts_of_words};
+use crate::carrying_out::reply_by_words;
 use crate::reply::Reply;
 use crate::request_fault::RequestFault;
 use crate::shown_calls::shown;
 use closure_core::Closure;
 use command_exits::Exit;
 use command_line::{CommandName, OptionName, given, is_flag_given, manner_of, read_request};
-use request_lines::read_request_words;
 use status_view::RunningStatus;
 use std::alloc::Global;
 
@@ -32,16 +30,14 @@ pub fn answer_look<C: Closure>(
     alloc: Global,
     closure: &C,
     running: &RunningStatus<'_>,
-    words: &[u8],
+    words: &[&str],
     input: &[u8],
 ) -> Result<Reply, RequestFault>
-    ensures answers { IfOk result (RepliesToLook words.now running.now
+    ensures answers { IfOk result (RepliesToLook (map (λ w. w.now) words.now) running.now
         (change_run (state_run (C.state closure.now) (C.state closure.now)) input.now)) }
-    ensures fault { IfErr result (RefusesWordsLine words.now) }
+    ensures memory { IfErr result (λ fault. fault ≡ NoMemory) }
 {
-    let words = read_request_words(alloc, words)?;
-    let texts = texts_of_words(alloc, words.as_slice())?;
-    match read_request(alloc, texts.as_slice()) {
+    match read_request(alloc, words) {
         Ok(call) => {
             let asked = Asked {
                 call: &call,

@@ -20,7 +20,6 @@ use health_pages::{
     AskedPage, ContentType, Page, PageResponse, ResponseStatus, fixed_text, push_loop_metrics,
     write_response,
 };
-use request_lines::write_request_words;
 use std::alloc::{AllocError, Global};
 
 /// The exit status of a command for which there was no memory.
@@ -36,7 +35,7 @@ pub fn answer_page<C: Closure>(
     alloc: Global,
     closure: &C,
     source: &PageSource<'_>,
-    asked: &AskedPage<'_>,
+    asked: &AskedPage,
     is_head: bool,
 ) -> Result<PageResponse, AllocError>
     ensures { IfOk result (AnswersPage (page_run source.now
@@ -52,7 +51,7 @@ fn page_answer<C: Closure>(
     alloc: Global,
     closure: &C,
     source: &PageSource<'_>,
-    asked: &AskedPage<'_>,
+    asked: &AskedPage,
 ) -> Result<PageAnswer, RequestFault>
     ensures { IfOk result (ShowsPage source.now
         (state_run (C.state closure.now) (C.state closure.now)) (asked_view asked.now)) }
@@ -78,7 +77,7 @@ fn shown_answer<C: Closure>(
     alloc: Global,
     closure: &C,
     source: &PageSource<'_>,
-    asked: &AskedPage<'_>,
+    asked: &AskedPage,
 ) -> Result<PageAnswer, RequestFault>
     ensures { IfOk result (ShowsReply source.now
         (state_run (C.state closure.now) (C.state closure.now)) (asked_view asked.now)) }
@@ -134,7 +133,7 @@ fn page_reply<C: Closure>(
     alloc: Global,
     closure: &C,
     source: &PageSource<'_>,
-    asked: &AskedPage<'_>,
+    asked: &AskedPage,
 ) -> Result<Reply, RequestFault>
     ensures { IfOk result (RepliesWith source.now
         (state_run (C.state closure.now) (C.state closure.now))
@@ -145,7 +144,7 @@ fn page_reply<C: Closure>(
         Page::Status => status_reply(alloc, closure, source, "--format=json"),
         Page::Report => reply_to(alloc, closure, source, &["report", "--format=json"]),
         Page::Keys => reply_to(alloc, closure, source, &["list", "--keys", "--format=json"]),
-        Page::Graph => graph_reply(alloc, closure, source, asked.domain),
+        Page::Graph => graph_reply(alloc, closure, source, asked.domain_text()),
         _ => reply_to(alloc, closure, source, &[]),
     }
 }
@@ -195,6 +194,5 @@ fn reply_to<C: Closure>(
     ensures { IfOk result (RepliesWith source.now
         (state_run (C.state closure.now) (C.state closure.now)) (map (λ w. w.now) words.now)) }
 {
-    let line = write_request_words(alloc, words)?;
-    answer_look(alloc, closure, &source.running, line.as_bytes(), &[])
+    answer_look(alloc, closure, &source.running, words, &[])
 }

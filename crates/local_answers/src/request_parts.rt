@@ -1,48 +1,91 @@
-//! The arguments and the input of a request, out of the pieces in which its bytes come.
-ghost use Rattle.std.specs.Prelude.{◌≡◌, ◌≤◌, ◌<◌, ◌++◌, IfSome, MatchResult, OnErr, OnOk, length};
-ghost use Rattle.std.specs.Option.{ForNone, ForSome};
+//! The requests of a connection, out of the pieces in which its bytes come.
+ghost use Rattle.std.specs.Prelude.{◌≡◌, ◌+◌, ◌≤◌, ◌++◌, [], IfErr, IfOk, OnErr, OnOk};
+ghost use Rattle.std.specs.Prelude.{MatchOption, MatchResult, drop, length, map, string_bytes};
+ghost use Rattle.std.specs.Prelude.{take, vec_len};
 ghost use Rattle.byte_lines.specs.Ahead.{AtFeed, IsFeed};
-ghost use Rattle.byte_lines.specs.Lines.{HasNoFeed};
-ghost use Rattle.local_answers.specs.RequestLimits.{IsBeyondLimit, IsRequest, IsWithin};
-ghost use Rattle.local_answers.specs.RequestLimits.{IsWithinWith};
-ghost use Rattle.request_lines.specs.RequestLines.{request_limit};
+ghost use Rattle.local_answers.specs.Inside.StreamSteps.{AwaitsInput, AwaitsLine, HasInput};
+ghost use Rattle.local_answers.specs.Inside.StreamSteps.{IsAtPlaces, RefusesCountOf, RefusesLength};
+ghost use Rattle.local_answers.specs.RequestStream.{AwaitsBytes, GivesFirst, GivesNoRequest};
 
 use crate::request_fault::RequestFault;
 use memchr::memchr;
-use request_lines::MOST_WORDS;
+use request_lines::{InputEnd, MOST_WORDS, read_request_line, read_request_words};
 use std::alloc::{AllocError, Global};
+use std::mem;
 
 /// The most bytes of input that a request has.
 pub const MOST_INPUT: usize = 268_435_456;
 
-/// What came of a request so far: the line of its arguments, of at most 65,536 bytes without its
-/// line feed, and the input after it to the end of the stream, of at most 268,435,456 bytes. The
-/// ends of the pieces mean nothing.
+/// Whether more may come on a stream.
+#[derive(Clone, Copy, Debug, PartialEq, Eq)]
+pub enum StreamState {
+    /// It may.
+    Open,
+    /// Nothing more comes.
+    Ended,
+}
+
+/// What came on a stream of requests, and was not given yet. A request is a first line of at most
+/// 65,536 bytes without its line feed ([`request_lines::read_request_line`]), and its input of at
+/// most 268,435,456 bytes. The ends of the pieces mean nothing.
 #[derive(Drop)]
 pub struct RequestParts {
     bytes: Vec<u8>,
-    // The place at which the line of arguments ends.
-    end: Option<usize>,
-    ghost plain: { ForNone end (HasNoFeed bytes.items) },
-    ghost feed: { ForSome end (IsFeed bytes.items) },
-    ghost short: { ForNone end (length bytes.items ≤ request_limit) },
-    ghost within: { ForSome end (IsWithinWith (length bytes.items)) },
 }
 
-/// A request that came whole.
-#[derive(Clone, Copy, Debug)]
-pub struct WholeRequest<'a> {
-    /// The line of arguments, without its line feed.
-    pub words: &'a [u8],
+/// A request that came whole. It is given once: what it was made of is no longer in its stream.
+#[derive(Debug, Drop)]
+pub struct WholeRequest {
+    /// The arguments.
+    pub words: Vec<String>,
+    // The input begins there.
+    bytes: Vec<u8>,
+    start: usize,
+    ghost within: { start ≤ vec_len bytes },
+}
+
+impl WholeRequest {
+    ghost use Rattle.local_answers.specs.RequestBytes.{asked_input};
+
     /// The bytes of standard input.
-    pub input: &'a [u8],
+    pub fn input(&self) -> &[u8]
+        ensures { result.now ≡ asked_input self.now }
+    {
+        &self.bytes[self.start..]
+    }
+
+    /// The arguments, lent.
+    ///
+    /// # Errors
+    /// Memory ran out.
+    pub fn texts(&self, alloc: Global) -> Result<Vec<&str>, AllocError>
+        ensures { IfOk result (λ texts. map (λ t. t.now) texts.items
+            ≡ map string_bytes self.now.words.items) }
+    {
+        texts_of_words(alloc, self.words.as_slice())
+    }
+}
+
+fn texts_of_words(alloc: Global, words: &[String]) -> Result<Vec<&str>, AllocError>
+    ensures { IfOk result (λ texts. map (λ t. t.now) texts.items ≡ map string_bytes words.now) }
+{
+    let mut texts = Vec::with_capacity(alloc, words.len())?;
+    'words: for word in words {
+        texts.push(word.as_str())?;
+    }
+    Ok(texts)
+}
+
+/// The arguments of the first request, the place of its input, and how many bytes that has.
+#[derive(Debug, Drop)]
+struct FirstPlaces {
+    words: Vec<String>,
+    start: usize,
+    count: usize,
 }
 
 impl RequestParts {
-    ghost use Rattle.std.specs.Prelude.{[], IfErr};
-    ghost use Rattle.local_answers.specs.RequestBytes.{bytes_come};
-    ghost use Rattle.local_answers.specs.RequestLimits.{PassesLimit};
-    ghost use Rattle.local_answers.specs.declared.request_fault.RequestFault.TheVariants.{NoWords};
+    ghost use Rattle.local_answers.specs.RequestBytes.{asked_input, asking_of, bytes_come};
 
     /// Nothing came yet.
     pub fn new(alloc: Global) -> RequestParts
@@ -50,83 +93,118 @@ impl RequestParts {
     {
         RequestParts {
             bytes: Vec::new(alloc),
-            end: None,
         }
+    }
+
+    /// How many bytes came that were not given.
+    pub fn len(&self) -> usize
+        ensures { result ≡ length (bytes_come self.now) }
+    {
+        self.bytes.len()
     }
 
     /// Takes the next bytes of the stream, all of them or none.
     ///
     /// # Errors
-    /// Nothing was taken.
-    /// - [`RequestFault::WordsTooLong`]: the line of arguments has more than 65,536 bytes,
-    /// - [`RequestFault::InputTooLong`]: there are more than 268,435,456 bytes after it,
-    /// - [`RequestFault::NoMemory`]: memory ran out.
-    pub fn take(&mut self, piece: &[u8]) -> Result<(), RequestFault>
+    /// Memory ran out, and nothing was taken.
+    pub fn take(&mut self, piece: &[u8]) -> Result<(), AllocError>
         ensures taken { OnOk result (bytes_come self.new ≡ bytes_come self.old ++ piece.now) }
         ensures left { OnErr result (bytes_come self.new ≡ bytes_come self.old) }
-        ensures fault { IfErr result (PassesLimit (bytes_come self.old ++ piece.now)) }
     {
-        let end = self.end_with(piece);
-        check_limits(self.bytes.len() + piece.len(), end)?;
-        keep(&mut self.bytes, &mut self.end, piece, end)?;
+        self.bytes.extend_from_slice(piece)?;
         Ok(())
     }
 
-    // The place at which the line of arguments ends, with a piece more.
-    fn end_with(&self, piece: &[u8]) -> Option<usize>
-        ensures { AtFeed (bytes_come self.now ++ piece.now) result }
-    {
-        match self.end {
-            Some(end) => Some(end),
-            None => match line_feed(piece) {
-                Some(place) => Some(self.bytes.len() + place),
-                None => None,
-            },
-        }
-    }
-
-    /// The request, if the stream ends here.
+    /// Gives the first request, if it came whole: then its bytes are gone, and those after them are
+    /// still there. A request whose line does not count its input is whole when the stream has
+    /// ended.
     ///
     /// # Errors
-    /// [`RequestFault::NoWords`]: no line feed came.
-    pub fn whole(&self) -> Result<WholeRequest<'_>, RequestFault>
-        ensures { MatchResult result
-            (λ request. IsRequest (bytes_come self.now) request.words.now request.input.now)
-            (λ e. (e ≡ NoWords) × HasNoFeed (bytes_come self.now)) }
+    /// What came is still there.
+    /// - [`RequestFault::WordsTooLong`]: its line has more than 65,536 bytes,
+    /// - [`RequestFault::InputTooLong`]: its input has more than 268,435,456,
+    /// - [`RequestFault::BadWords`]: its line begins with a brace, and is not one that counts; or,
+    ///   once it is whole, its arguments are not a JSON array of texts,
+    /// - [`RequestFault::NoWords`]: the stream has ended, and it is not whole,
+    /// - [`RequestFault::NoMemory`]: memory ran out.
+    pub fn next(
+        &mut self,
+        alloc: Global,
+        state: StreamState,
+    ) -> Result<Option<WholeRequest>, RequestFault>
+        ensures given { IfOk result (λ found. MatchOption found
+            (AwaitsBytes state (bytes_come self.old) × (bytes_come self.new ≡ bytes_come self.old))
+            (λ request. GivesFirst state (bytes_come self.old) (asking_of request)
+            (bytes_come self.new))) }
+        ensures refused { IfErr result (GivesNoRequest state (bytes_come self.old)) }
+        ensures left { OnErr result (bytes_come self.new ≡ bytes_come self.old) }
     {
-        match self.end {
-            Some(end) => Ok(split_request(self.bytes.as_slice(), end)),
-            None => Err(RequestFault::NoWords),
+        match first_of(alloc, self.bytes.as_slice(), state)? {
+            Some(places) => Ok(Some(self.give(alloc, places)?)),
+            None => Ok(None),
+        }
+    }
+
+    // The request takes all bytes up to the end of its input.
+    fn give(&mut self, alloc: Global, places: FirstPlaces) -> Result<WholeRequest, AllocError>
+        requires { places.start + places.count ≤ length (bytes_come self.old) }
+        ensures words { IfOk result (λ request. request.words.items ≡ places.words.items) }
+        ensures input { IfOk result (λ request. asked_input request
+            ≡ take places.count (drop places.start (bytes_come self.old))) }
+        ensures rest { OnOk result (bytes_come self.new
+            ≡ drop places.count (drop places.start (bytes_come self.old))) }
+        ensures left { OnErr result (bytes_come self.new ≡ bytes_come self.old) }
+    {
+        let end = places.start + places.count;
+        let rest = self.bytes[end..].to_vec(alloc)?;
+        self.bytes.truncate(end);
+        Ok(WholeRequest {
+            words: places.words,
+            bytes: mem::replace(&mut self.bytes, rest),
+            start: places.start,
+        })
+    }
+}
+
+fn first_of(
+    alloc: Global,
+    bytes: &[u8],
+    state: StreamState,
+) -> Result<Option<FirstPlaces>, RequestFault>
+    ensures { MatchResult result
+        (λ found. MatchOption found (AwaitsBytes state bytes.now) (IsAtPlaces state bytes.now))
+        (GivesNoRequest state bytes.now) }
+{
+    match line_feed(bytes) {
+        Some(feed) => first_at(alloc, bytes, feed, state),
+        None => {
+            check_begun(bytes.len(), state)?;
+            Ok(None)
         }
     }
 }
 
-// The bytes before the line feed, and those after it.
-fn split_request(bytes: &[u8], end: usize) -> WholeRequest<'_>
-    requires feed { IsFeed bytes.now end }
-    requires within { IsWithinWith (length bytes.now) end }
-    ensures { IsRequest bytes.now result.words.now result.input.now }
+fn first_at(
+    alloc: Global,
+    bytes: &[u8],
+    feed: usize,
+    state: StreamState,
+) -> Result<Option<FirstPlaces>, RequestFault>
+    requires { IsFeed bytes.now feed }
+    ensures { MatchResult result
+        (λ found. MatchOption found (AwaitsBytes state bytes.now) (IsAtPlaces state bytes.now))
+        (GivesNoRequest state bytes.now) }
 {
-    WholeRequest {
-        words: &bytes[..end],
-        input: &bytes[end + 1..],
+    let line = read_request_line(alloc, &bytes[..feed])?;
+    let start = feed + 1;
+    match input_count(line.input, bytes.len() - start, state)? {
+        Some(count) => Ok(Some(FirstPlaces {
+            words: read_request_words(alloc, line.words)?,
+            start,
+            count,
+        })),
+        None => Ok(None),
     }
-}
-
-// Both parts of what is kept change together, or neither.
-fn keep(
-    bytes: &mut Vec<u8>,
-    end: &mut Option<usize>,
-    piece: &[u8],
-    new_end: Option<usize>,
-) -> Result<(), AllocError>
-    ensures kept { OnOk result
-        ((bytes.new.items ≡ bytes.old.items ++ piece.now) × (end.new ≡ new_end)) }
-    ensures left { OnErr result ((bytes.new.items ≡ bytes.old.items) × (end.new ≡ end.old)) }
-{
-    bytes.extend_from_slice(piece)?;
-    *end = new_end;
-    Ok(())
 }
 
 // The place of the first line feed.
@@ -136,15 +214,34 @@ fn line_feed(bytes: &[u8]) -> Option<usize>
     memchr(b'\n', bytes)
 }
 
-// Whether this many bytes, with the line of arguments ending there, are within the limits.
-fn check_limits(count: usize, end: Option<usize>) -> Result<(), RequestFault>
-    requires { IfSome end (λ e. e < count) }
-    ensures { MatchResult result (λ _. IsWithin count end) (IsBeyondLimit count end) }
+// Whether this many bytes without a line feed may be the beginning of a line.
+fn check_begun(count: usize, state: StreamState) -> Result<(), RequestFault>
+    ensures { MatchResult result (λ _. AwaitsLine state count) (RefusesCountOf state count) }
 {
-    match end {
-        None if count > MOST_WORDS => Err(RequestFault::WordsTooLong),
-        Some(end) if end > MOST_WORDS => Err(RequestFault::WordsTooLong),
-        Some(end) if count - end - 1 > MOST_INPUT => Err(RequestFault::InputTooLong),
-        _ => Ok(()),
+    match state {
+        _ if count > MOST_WORDS => Err(RequestFault::WordsTooLong),
+        StreamState::Open => Ok(()),
+        StreamState::Ended => Err(RequestFault::NoWords),
+    }
+}
+
+// How many bytes of input the request has, if it is whole and this many came after its line.
+fn input_count(
+    input: InputEnd,
+    came: usize,
+    state: StreamState,
+) -> Result<Option<usize>, RequestFault>
+    ensures { MatchResult result
+        (λ found. MatchOption found (AwaitsInput state input came) (HasInput state input came))
+        (RefusesLength state input came) }
+{
+    match (input, state) {
+        (InputEnd::Bytes(count), _) if count > MOST_INPUT as u64 => Err(RequestFault::InputTooLong),
+        (InputEnd::Bytes(count), _) if count <= came as u64 => Ok(Some(count as usize)),
+        (InputEnd::Bytes(_), StreamState::Open) => Ok(None),
+        (InputEnd::Bytes(_), StreamState::Ended) => Err(RequestFault::NoWords),
+        (InputEnd::Stream, _) if came > MOST_INPUT => Err(RequestFault::InputTooLong),
+        (InputEnd::Stream, StreamState::Open) => Ok(None),
+        (InputEnd::Stream, StreamState::Ended) => Ok(Some(came)),
     }
 }

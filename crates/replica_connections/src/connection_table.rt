@@ -48,6 +48,10 @@ enum Group {
     Looking,
     /// All of this machine that only look: those that are refused, too.
     AllLooking,
+    /// Those of this machine that are kept for a next request, of which nothing came.
+    Kept,
+    /// Those of them that only look.
+    KeptLooking,
     /// Those of this machine whose request has not come whole, though all that came was read.
     Awaited,
     /// Those of them that only look.
@@ -113,7 +117,7 @@ impl ConnectionTable {
             return;
         }
         if let Some(serial) = self.first_to_go(Group::Served, now) {
-            self.end_for_room(serial);
+            self.end(serial, Ending::GaveWay);
         }
     }
 
@@ -123,22 +127,33 @@ impl ConnectionTable {
             return;
         }
         if let Some(serial) = self.first_to_go(Group::AwaitedPages, now) {
-            self.end_for_room(serial);
+            self.end(serial, Ending::GaveWay);
         }
     }
 
-    fn end_for_room(&mut self, serial: usize) {
+    fn end(&mut self, serial: usize, ending: Ending) {
         for conn in &mut self.connections {
             if conn.serial == serial {
-                conn.ending = Some(Ending::GaveWay);
+                conn.ending = Some(ending);
             }
         }
     }
 
-    /// If the number of requests of this machine is at its limit, one that has not come whole makes
-    /// room: for one that only looks, another of these. Returns whether there is room for one more.
-    pub fn make_local_room(&mut self, alloc: Global, rights: Rights, now: Instant) -> bool {
+    /// If the number of connections of this machine is at its limit, one makes room that is kept
+    /// and has asked nothing since, or else one whose request has not come whole, which gets a
+    /// reply. One that only looks takes no such place of one that may change something. Returns
+    /// whether there is room for one more.
+    pub fn make_local_room(&mut self, rights: Rights, now: Instant) -> bool {
         if self.has_local_room(rights) {
+            return true;
+        }
+        let kept = if self.has_place(rights) {
+            Group::Kept
+        } else {
+            Group::KeptLooking
+        };
+        if let Some(serial) = self.first_to_go(kept, now) {
+            self.end(serial, Ending::Well);
             return true;
         }
         let awaited = match rights {
@@ -152,18 +167,22 @@ impl ConnectionTable {
             if let Talk::Local(talk) = &mut conn.talk
                 && conn.serial == serial
             {
-                talk.free_place(alloc);
+                talk.free_place();
             }
         }
         true
     }
 
     fn has_local_room(&self, rights: Rights) -> bool {
-        let has_place = match rights {
+        self.has_place(rights) && self.count(Group::Local) < MOST_LOCAL
+    }
+
+    // Whether those that only look leave room for one more with these rights.
+    fn has_place(&self, rights: Rights) -> bool {
+        match rights {
             Rights::Change => true,
             Rights::Look => self.count(Group::Looking) < MOST_LOOKING,
-        };
-        has_place && self.count(Group::Local) < MOST_LOCAL
+        }
     }
 
     fn first_to_go(&self, group: Group, now: Instant) -> Option<usize> {
@@ -336,6 +355,15 @@ impl ConnectionTable {
         self.connections.retain(|conn| conn.ending.is_none());
     }
 
+    /// How many replies of commands there were on the connections that there are.
+    pub fn replies(&self) -> u64 {
+        let mut replies: u64 = 0;
+        for conn in &self.connections {
+            replies = replies.saturating_add(replies_on(conn));
+        }
+        replies
+    }
+
     /// How many bytes came on the connections that there are.
     pub fn received_bytes(&self) -> u64 {
         let mut bytes: u64 = 0;
@@ -376,6 +404,10 @@ fn is_of(conn: &LiveConnection, group: Group) -> bool {
         (Talk::Local(talk), Group::Local) => talk.takes_place(),
         (Talk::Local(talk), Group::Looking) => talk.takes_place() && looks(talk),
         (Talk::Local(talk), Group::AllLooking) => looks(talk),
+        (Talk::Local(talk), Group::Kept) => talk.is_kept() && is_awaited(conn),
+        (Talk::Local(talk), Group::KeptLooking) => {
+            talk.is_kept() && is_awaited(conn) && looks(talk)
+        }
         (Talk::Local(_), Group::Awaited) => is_awaited(conn),
         (Talk::Local(talk), Group::AwaitedLooking) => is_awaited(conn) && looks(talk),
         _ => false,
@@ -411,6 +443,13 @@ fn is_stop(conn: &LiveConnection) -> bool {
     match &conn.talk {
         Talk::Local(talk) => talk.is_stop(),
         _ => false,
+    }
+}
+
+fn replies_on(conn: &LiveConnection) -> u64 {
+    match &conn.talk {
+        Talk::Local(talk) => talk.replies(),
+        Talk::Page(_) | Talk::Served(_) | Talk::Pull(_) => 0,
     }
 }
 

@@ -19,7 +19,8 @@ const READS_A_TURN: usize = 2;
 /// How often one is written in one turn: a reply has three parts.
 const WRITES_A_TURN: usize = 3;
 
-/// For how many seconds nothing may move on a connection, and how old it may be.
+/// For how many seconds nothing may move on a connection, and how old it may be, or a request on
+/// one of this machine.
 const MAX_IDLE_SECONDS: u64 = 30;
 
 const MAX_AGE_SECONDS: u64 = 600;
@@ -35,7 +36,7 @@ pub struct LiveConnection {
     pub serial: usize,
     /// When it came.
     pub begun: Instant,
-    // When it last asked something whole, or came.
+    // When it last asked something whole that was answered, or came.
     asked: Instant,
     moved: Instant,
     // How many bytes came, and how many were sent.
@@ -99,8 +100,16 @@ impl LiveConnection {
         let idle = Duration::from_secs(MAX_IDLE_SECONDS);
         let idle = idle.saturating_sub(now.duration_since(self.moved));
         let age = Duration::from_secs(self.max_age_seconds());
-        let age = age.saturating_sub(now.duration_since(self.begun));
+        let age = age.saturating_sub(now.duration_since(self.begun_last()));
         idle.min(age)
+    }
+
+    // On a connection of this machine each request has its own time.
+    fn begun_last(&self) -> Instant {
+        match &self.talk {
+            Talk::Local(_) => self.asked,
+            Talk::Page(_) | Talk::Served(_) | Talk::Pull(_) => self.begun,
+        }
     }
 
     // A session that this replica asked for ends earlier if little moves.
@@ -162,7 +171,7 @@ impl LiveConnection {
         // It was this replica that kept it waiting.
         self.moved = around.now;
         match self.talk.carry_out(alloc, held, around) {
-            Ok(()) if self.talk.output().is_empty() => {}
+            Ok(()) if self.talk.output().is_empty() && self.talk.turn_lines().is_none() => {}
             Ok(()) => self.asked = around.now,
             Err(ending) => self.ending = Some(ending),
         }
@@ -206,7 +215,7 @@ impl LiveConnection {
     ) -> Result<usize, Ending> {
         match self.socket.read(buffer) {
             Progress::Bytes(0) => {
-                self.talk.end_input(alloc)?;
+                self.talk.end_input()?;
                 Ok(0)
             }
             Progress::Bytes(count) => {
@@ -246,7 +255,7 @@ impl LiveConnection {
             self.ending = self.talk.ending();
         }
         if self.work().is_none() && self.ending.is_none() && self.time_left(now).is_zero() {
-            self.ending = Some(Ending::Fault(SyncError::Io));
+            self.ending = Some(self.talk.overdue());
         }
     }
 

@@ -10,11 +10,11 @@ use health_pages::{
 use local_answers::answer_page;
 use peer_talks::{Ending, HeldState};
 use std::alloc::{AllocError, Global};
+use std::mem;
 
 /// One request for a page, and its response.
 #[derive(Drop)]
 pub struct PageTalk {
-    head: HeadBytes,
     answer: PageReply,
     // How many bytes came of the head, or how many the response has.
     held: u64,
@@ -24,9 +24,9 @@ pub struct PageTalk {
 #[derive(Drop)]
 enum PageReply {
     // Nothing, as long as the head comes.
-    Awaited,
+    Awaited(HeadBytes),
     // Nothing, as long as a request waits for its turn.
-    Due(Work),
+    Due(HeadVerdict),
     // What is left of a response that takes no memory.
     Fixed(&'static [u8]),
     Whole(ResponseSending),
@@ -35,14 +35,13 @@ enum PageReply {
 impl PageTalk {
     pub fn new(alloc: Global) -> PageTalk {
         PageTalk {
-            head: HeadBytes::new(alloc),
-            answer: PageReply::Awaited,
+            answer: PageReply::Awaited(HeadBytes::new(alloc)),
             held: 0,
         }
     }
 
     pub fn wants_bytes(&self) -> bool {
-        matches!(self.answer, PageReply::Awaited)
+        matches!(self.answer, PageReply::Awaited(_))
     }
 
     /// How many bytes are held of the request, or of the response.
@@ -54,14 +53,29 @@ impl PageTalk {
     pub fn take(&mut self, alloc: Global, piece: &[u8], room: &mut ByteRoom) {
         let count = piece.len() as u64;
         if !room.take(RoomUser::Reader, count) {
-            self.reply_with(alloc, PageReply::Fixed(crowd_response()), 0);
-        } else if self.head.take(piece).is_err() {
-            self.reply_with(alloc, PageReply::Fixed(memory_response(false)), 0);
-        } else {
-            self.held = self.held.saturating_add(count);
-            if let Some(work) = due_work(self.head.verdict()) {
-                self.answer = PageReply::Due(work);
+            self.reply_with(PageReply::Fixed(crowd_response()), 0);
+            return;
+        }
+        self.held = self.held.saturating_add(count);
+        match self.verdict_with(alloc, piece) {
+            Ok(Some(verdict)) => self.answer = PageReply::Due(verdict),
+            Ok(None) => {}
+            Err(_) => self.reply_with(PageReply::Fixed(memory_response(false)), 0),
+        }
+    }
+
+    // What the head asks for, once it is whole. Then it is not kept.
+    fn verdict_with(
+        &mut self,
+        alloc: Global,
+        piece: &[u8],
+    ) -> Result<Option<HeadVerdict>, AllocError> {
+        match &mut self.answer {
+            PageReply::Awaited(head) => {
+                head.take(piece)?;
+                head.verdict(alloc)
             }
+            _ => Ok(None),
         }
     }
 
@@ -69,14 +83,14 @@ impl PageTalk {
     pub fn end_input(&mut self) {
         self.answer = match self.held {
             0 => PageReply::Fixed(b"".as_slice()),
-            _ => PageReply::Due(Work::Short),
+            _ => PageReply::Due(HeadVerdict::unread()),
         };
     }
 
     /// What the request waits for, once its head is whole.
     pub fn work(&self) -> Option<Work> {
         match &self.answer {
-            PageReply::Due(work) => Some(*work),
+            PageReply::Due(verdict) => Some(work_of_verdict(verdict)),
             _ => None,
         }
     }
@@ -88,39 +102,36 @@ impl PageTalk {
         held: &HeldState<C>,
         around: &Surroundings<'_, '_, '_>,
     ) {
-        let verdict = self.head.verdict();
-        let is_head = verdict.is_some_and(|verdict| verdict.is_head);
+        let nothing = PageReply::Fixed(b"".as_slice());
+        let PageReply::Due(verdict) = mem::replace(&mut self.answer, nothing) else {
+            return;
+        };
+        let is_head = verdict.is_head;
         match respond(alloc, held, around, verdict) {
-            Ok(response) => {
-                self.reply_within(alloc, ResponseSending::new(response), around.room);
-            }
-            Err(_) => {
-                let response = PageReply::Fixed(memory_response(is_head));
-                self.reply_with(alloc, response, 0);
-            }
+            Ok(response) => self.reply_within(ResponseSending::new(response), around.room),
+            Err(_) => self.reply_with(PageReply::Fixed(memory_response(is_head)), 0),
         }
     }
 
     // If there is no room for the response, it is refused.
-    fn reply_within(&mut self, alloc: Global, sending: ResponseSending, mut room: ByteRoom) {
+    fn reply_within(&mut self, sending: ResponseSending, mut room: ByteRoom) {
         let bytes = sending.bytes();
         if room.take(RoomUser::Reader, bytes) {
-            self.reply_with(alloc, PageReply::Whole(sending), bytes);
+            self.reply_with(PageReply::Whole(sending), bytes);
         } else {
-            self.reply_with(alloc, PageReply::Fixed(crowd_response()), 0);
+            self.reply_with(PageReply::Fixed(crowd_response()), 0);
         }
     }
 
     // Nothing more is read, so what was read is let go.
-    fn reply_with(&mut self, alloc: Global, answer: PageReply, bytes: u64) {
-        self.head = HeadBytes::new(alloc);
+    fn reply_with(&mut self, answer: PageReply, bytes: u64) {
         self.answer = answer;
         self.held = bytes;
     }
 
     pub fn output(&self) -> &[u8] {
         match &self.answer {
-            PageReply::Awaited | PageReply::Due(_) => b"".as_slice(),
+            PageReply::Awaited(_) | PageReply::Due(_) => b"".as_slice(),
             PageReply::Fixed(text) => text,
             PageReply::Whole(sending) => sending.output(),
         }
@@ -129,7 +140,7 @@ impl PageTalk {
     /// This many bytes of the output were sent, or all if there are no more.
     pub fn wrote(&mut self, count: usize) {
         match &mut self.answer {
-            PageReply::Awaited | PageReply::Due(_) => {}
+            PageReply::Awaited(_) | PageReply::Due(_) => {}
             PageReply::Fixed(text) => *text = &text[count.min(text.len())..],
             PageReply::Whole(sending) => {
                 let count = count.min(sending.output().len());
@@ -146,29 +157,26 @@ impl PageTalk {
     }
 }
 
-fn due_work(verdict: Option<HeadVerdict<'_>>) -> Option<Work> {
-    match verdict?.asked {
-        Ok(asked) => Some(work_of_page(asked.page)),
-        Err(_) => Some(Work::Short),
+fn work_of_verdict(verdict: &HeadVerdict) -> Work {
+    match &verdict.asked {
+        Ok(asked) => work_of_page(asked.page),
+        Err(_) => Work::Short,
     }
 }
 
-// A head that never came whole is a bad one.
 fn respond<C: Closure>(
     alloc: Global,
     held: &HeldState<C>,
     around: &Surroundings<'_, '_, '_>,
-    verdict: Option<HeadVerdict<'_>>,
+    verdict: HeadVerdict,
 ) -> Result<PageResponse, AllocError> {
-    let Some(verdict) = verdict else {
-        return fault_response(alloc, PageFault::BadHead, false);
-    };
+    let is_head = verdict.is_head;
     match verdict.asked_of(around.page_names) {
         Ok(asked) => {
             let closure = &held.sides.next;
-            answer_page(alloc, closure, &around.pages, &asked, verdict.is_head)
+            answer_page(alloc, closure, &around.pages, &asked, is_head)
         }
-        Err(fault) => fault_response(alloc, fault, verdict.is_head),
+        Err(fault) => fault_response(alloc, fault, is_head),
     }
 }
 

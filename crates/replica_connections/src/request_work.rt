@@ -2,18 +2,12 @@
 use command_line::{CommandName, command_of};
 use fair_turns::Work;
 use health_pages::Page;
-use request_lines::read_request_words;
-use std::alloc::Global;
 
 /// The flag of a request that only shows what a change would do.
 const DRY_RUN: &str = "--dry-run";
 
-/// Which work a request with this line of arguments is. Arguments that cannot be read are answered
-/// soon: the reply says so.
-pub(crate) fn work_of(alloc: Global, line: &[u8]) -> Work {
-    let Ok(words) = read_request_words(alloc, line) else {
-        return Work::Short;
-    };
+/// Which work a request with these arguments is.
+pub(crate) fn work_of(words: &[String]) -> Work {
     let Some(first) = words.first() else {
         return Work::Short;
     };

@@ -1,4 +1,4 @@
-//! What is said on a connection: a local request, a request for a page, an answer to another
+//! What is said on a connection: local requests, a request for a page, an answer to another
 //! replica, or a question to one.
 use crate::local_talk::{LocalTalk, Surroundings};
 use crate::page_talk::PageTalk;
@@ -13,7 +13,7 @@ use std::alloc::{AllocError, Global};
 /// taken from it.
 #[derive(Drop)]
 pub enum Talk {
-    /// A request of this machine.
+    /// Requests of this machine.
     Local(LocalTalk),
     /// A request for a page.
     Page(PageTalk),
@@ -53,7 +53,7 @@ impl Talk {
         }
     }
 
-    /// How many bytes are held of a request of this machine or for a page, or of what is replied.
+    /// How many bytes are held of requests of this machine or for a page, and of what is replied.
     pub(crate) fn held_bytes(&self) -> u64 {
         match self {
             Talk::Local(talk) => talk.held_bytes(),
@@ -71,7 +71,7 @@ impl Talk {
     ) -> Result<(), AllocError> {
         match self {
             Talk::Local(talk) => {
-                talk.take(alloc, piece, room);
+                talk.take(piece, room);
                 Ok(())
             }
             Talk::Page(talk) => {
@@ -92,7 +92,7 @@ impl Talk {
     ) -> Result<(), Ending> {
         match self {
             Talk::Local(talk) => {
-                talk.answer(alloc, held, around);
+                talk.answer(held, around);
                 Ok(())
             }
             Talk::Page(talk) => {
@@ -105,10 +105,10 @@ impl Talk {
     }
 
     /// The other side sends nothing more.
-    pub fn end_input(&mut self, alloc: Global) -> Result<(), Ending> {
+    pub fn end_input(&mut self) -> Result<(), Ending> {
         match self {
             Talk::Local(talk) => {
-                talk.end_input(alloc);
+                talk.end_input();
                 Ok(())
             }
             Talk::Page(talk) => {
@@ -128,6 +128,14 @@ impl Talk {
         match self {
             Talk::Pull(talk) => talk.broken(),
             Talk::Local(_) | Talk::Page(_) | Talk::Served(_) => Ending::Fault(SyncError::Io),
+        }
+    }
+
+    /// How it ends if nothing moved for too long: a connection that is kept ends well.
+    pub(crate) fn overdue(&self) -> Ending {
+        match self {
+            Talk::Local(talk) if talk.is_kept() => Ending::Well,
+            _ => Ending::Fault(SyncError::Io),
         }
     }
 

@@ -105,6 +105,7 @@ impl KeptFiles {
         path: &str,
     ) -> Result<OnDisk, KeepFault> {
         self.keeping.add(!texts.audit.is_empty());
+        let mut on_disk = None;
         for _ in 0..KEEP_STEPS {
             let Some(step) = self.keeping.next() else {
                 break;
@@ -120,9 +121,9 @@ impl KeptFiles {
                 self.keeping.failed();
                 return Err(fault);
             }
-            self.keeping.done();
+            on_disk = self.keeping.done();
         }
-        match self.keeping.on_disk() {
+        match on_disk {
             Some(on_disk) => Ok(on_disk),
             None => Err(KeepFault::State(FileFault::from(SyncError::Io))),
         }

@@ -228,9 +228,9 @@ impl RunningReplica {
         }
     }
 
-    // If there are too many requests of this machine, one of them makes room.
+    // If there are too many connections of this machine, one of them makes room.
     fn local_talk(&mut self, alloc: Global, rights: Rights) -> LocalTalk {
-        if self.table.make_local_room(alloc, rights, self.now) {
+        if self.table.make_local_room(rights, self.now) {
             LocalTalk::new(alloc, rights)
         } else {
             LocalTalk::refused(alloc, rights)

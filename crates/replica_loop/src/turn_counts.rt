@@ -35,6 +35,7 @@ impl TurnCounts {
         let received = self.ended.received_bytes;
         let sent = self.ended.sent_bytes;
         LoopCounts {
+            requests: self.ended.requests.saturating_add(table.replies()),
             received_bytes: received.saturating_add(table.received_bytes()),
             sent_bytes: sent.saturating_add(table.sent_bytes()),
             folds: files.folds(),
@@ -51,8 +52,8 @@ impl TurnCounts {
             ended.faults = ended.faults.saturating_add(1);
         }
         match &conn.talk {
-            Talk::Local(talk) if talk.has_reply() => {
-                ended.requests = ended.requests.saturating_add(1);
+            Talk::Local(talk) => {
+                ended.requests = ended.requests.saturating_add(talk.replies());
             }
             Talk::Page(_) if conn.sent_bytes() > 0 => {
                 ended.pages = ended.pages.saturating_add(1);
@@ -62,7 +63,7 @@ impl TurnCounts {
             Talk::Served(_) | Talk::Pull(_) => {
                 ended.sessions = ended.sessions.saturating_add(1);
             }
-            Talk::Local(_) | Talk::Page(_) => {}
+            Talk::Page(_) => {}
         }
     }
 

@@ -1,4 +1,4 @@
-//! The arguments of a request, as the JSON array of its first line.
+//! The arguments of a request, as a JSON array.
 ghost use Rattle.std.specs.Prelude.{◌≡◌, ◌≤◌, ⊤, IfOk, Some, MatchResult, length, map};
 ghost use Rattle.std.specs.Prelude.{string_bytes};
 ghost use Rattle.serde_json.specs.Data.{string};
@@ -17,11 +17,10 @@ use std::str;
 /// The most bytes of a request's first line, without its line feed.
 pub const MOST_WORDS: usize = 65_536;
 
-/// The arguments in a request's first line, a JSON array of texts of at most 65,536 bytes. The line
-/// feed after it is not part of the line.
+/// The arguments of a request, out of their JSON text: an array of texts, of at most 65,536 bytes.
 ///
 /// # Errors
-/// - [`RequestError::TooLong`]: the line has more than 65,536 bytes,
+/// - [`RequestError::TooLong`]: the text has more than 65,536 bytes,
 /// - [`RequestError::BadLine`]: it is not a JSON array of texts,
 /// - [`RequestError::NoMemory`]: memory ran out.
 pub fn read_request_words(alloc: Global, line: &[u8]) -> Result<Vec<String>, RequestError>
@@ -32,7 +31,8 @@ pub fn read_request_words(alloc: Global, line: &[u8]) -> Result<Vec<String>, Req
     words_of(alloc, &read_value(alloc, line)?)
 }
 
-/// The first line of a request with these arguments, without its line feed.
+/// The JSON text of these arguments. A first line that is this text says that the input ends with
+/// the stream.
 ///
 /// # Errors
 /// Memory ran out.

@@ -7,7 +7,7 @@ ghost use Rattle.state_steps.specs.Audits.{HasNoTrace, IsAuditOn, after_keep, fo
 ghost use Rattle.state_steps.specs.Audits.{keep_step, texts_after, with_changes};
 ghost use Rattle.state_steps.specs.Files.{HasWholeLine, StateDisk, kept_file};
 ghost use Rattle.state_steps.specs.declared.keeping.KeepStage.TheVariants.{Due, Failed, Kept};
-ghost use Rattle.state_steps.specs.declared.keeping.KeepStep.TheVariants.{Audit};
+ghost use Rattle.state_steps.specs.declared.keeping.KeepStep.TheVariants.{Audit, State};
 
 use crate::appending::AppendStep;
 
@@ -44,7 +44,7 @@ pub struct Keeping {
 }
 
 /// All changes of a turn are on the disk. What shows them to anyone asks for this token, and
-/// [`Keeping::on_disk`] alone makes one.
+/// [`Keeping::done`] alone makes one, after the last step of a turn.
 #[derive(Debug, Drop)]
 pub struct OnDisk {
     stage: KeepStage,
@@ -76,24 +76,6 @@ impl Keeping {
         }
     }
 
-    /// If all changes are on the disk, the token with which they may be acknowledged.
-    ///
-    /// - `stage`: it is given exactly if all steps are done.
-    /// - `audited`: the audit file has the line of each change then.
-    pub fn on_disk(&self) -> Option<OnDisk>
-        ensures stage { IsSome result ↔ (self.now.stage ≡ Kept) }
-        ensures audited { IsSome result → (texts : AuditTexts) (files : AuditedFiles)
-            (change : Change) → AuditKeeps texts self.now files change
-            → HasWholeLine files.audit.kept change.report }
-    {
-        match self.stage {
-            KeepStage::Kept => Some(OnDisk {
-                stage: KeepStage::Kept,
-            }),
-            _ => None,
-        }
-    }
-
     /// Says that a turn has changes, or may have, and whether it has lines for the audit file.
     ///
     /// - `keeps`: each change of an earlier turn has its line.
@@ -118,13 +100,20 @@ impl Keeping {
         };
     }
 
-    /// Says that the step that was due is done.
+    /// Says that the step that was due is done. If it was the last one of a turn, it returns the
+    /// token with which the changes may be acknowledged.
     ///
+    /// - `token`: it is given exactly then.
+    /// - `audited`: then the audit file has the line of each change.
     /// - `keeps`: no change is without its line, whatever the last step makes of the state's files,
     ///   and the audit file is as it has to be for the next step.
     /// - `next`: the lines are put on the disk, then the name is looked at, and only after that the
     ///   state's files get the changes.
-    pub fn done(&mut self)
+    pub fn done(&mut self) -> Option<OnDisk>
+        ensures token { IsSome result ↔ (self.old.stage ≡ Due State) }
+        ensures audited { IsSome result → (texts : AuditTexts) (files : AuditedFiles)
+            (change : Change) → AuditKeeps texts self.old files change
+            → HasWholeLine files.audit.kept change.report }
         ensures keeps { (texts : AuditTexts) (files : AuditedFiles) (after : StateDisk)
             (change : Change) → AuditKeeps texts self.old files change
             → ChangesState self.old.stage files.state after
@@ -133,7 +122,9 @@ impl Keeping {
             change }
         ensures next { self.new.stage ≡ following_keep self.old.stage }
     {
+        let token = token_after(self.stage);
         self.stage = stage_after(self.stage);
+        token
     }
 
     /// Says that the step that was due failed: what it left is its work, or none or a part of it.
@@ -161,6 +152,18 @@ fn stage_after(stage: KeepStage) -> KeepStage
         KeepStage::Due(KeepStep::Audit(step)) => KeepStage::Due(step_after(step)),
         KeepStage::Due(KeepStep::State) => KeepStage::Kept,
         over => over,
+    }
+}
+
+// The token, if all changes of the turn are on the disk when this step is done.
+fn token_after(stage: KeepStage) -> Option<OnDisk>
+    ensures { IsSome result ↔ (stage ≡ Due State) }
+{
+    match stage {
+        KeepStage::Due(KeepStep::State) => Some(OnDisk {
+            stage: KeepStage::Kept,
+        }),
+        _ => None,
     }
 }
 

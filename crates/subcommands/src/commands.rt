@@ -45,7 +45,7 @@ fn carry_out_over<C: Closure>(
         CommandName::New => new::run::<C>(rt, config, call),
         CommandName::Observe => observe::run::<C>(rt, config, call),
         CommandName::Merge => merge::run::<C>(rt, config, call),
-        CommandName::Report if given(call, OptionName::OptionalState).is_none() => {
+        CommandName::Report if given(call, OptionName::State).is_none() => {
             report::report_lines::<C>(rt, config, call)
         }
         CommandName::Distrust if !is_flag_given(given(call, OptionName::DryRun)) => {

@@ -9,7 +9,7 @@ use spiffe_name::TrustDomain;
 
 /// Prints the bundle that standard input has in its canonical form.
 pub(crate) fn run(rt: &HostRuntime, call: &Call<'_>) -> Result<u8, Exit> {
-    let form = read_output_form(given(call, OptionName::FileFormat))?;
+    let form = read_output_form(given(call, OptionName::Format))?;
     let domain = read_domain(rt.alloc(), wanted(call, OptionName::Domain)?)?;
     let bytes = read_bundle(rt)?;
     let done = canon_of(rt, &domain, form, bytes.as_slice());

@@ -1,8 +1,8 @@
-use Rattle.std.proofs.Common.{◌≡◌, codes, drop, find, map, option_map}
-use Rattle.command_line.specs.Checks.{empty_path, is_text}
-use Rattle.command_line.specs.OptionTexts.{option_said}
+use Rattle.std.proofs.Common.{◌≡◌, drop, find, map, option_map}
+use Rattle.command_line.specs.Checks.{empty_path, is_empty_path}
+use Rattle.command_line.specs.OptionRows.{taken_name}
 use Rattle.command_line.proofs.checks.empty_path.Given as goal
 
-abbrev pub invariant-paths : goal.invariant-paths
-invariant-paths l = find (λ option. is_text (option_said l.call.name (map (option_map (λ t. t.now)) l.call.texts.items) option) (codes ""))
-    (drop l.option-index l.option-items) ≡ empty_path l.call.name (map (option_map (λ t. t.now)) l.call.texts.items)
+abbrev pub invariant-options : goal.invariant-options
+invariant-options l = option_map taken_name (find (is_empty_path l.call.name (map (option_map (λ t. t.now)) l.call.texts.items))
+    (drop l.taken-index l.taken-items)) ≡ empty_path l.call.name (map (option_map (λ t. t.now)) l.call.texts.items)

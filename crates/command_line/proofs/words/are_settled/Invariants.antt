@@ -5,4 +5,4 @@ use Rattle.command_line.specs.Words.{is_settled_in}
 use Rattle.command_line.proofs.words.are_settled.Given as goal
 
 abbrev pub invariant-options : goal.invariant-options
-invariant-options l = list_all (is_settled_in l.fn.place (rows_of (found_of l.matches))) (take l.option-index l.options) ≡ true
+invariant-options l = list_all (is_settled_in l.fn.place (rows_of (found_of l.matches))) (take l.taken-index l.options) ≡ true

@@ -1,7 +1,7 @@
 use Rattle.std.proofs.Common.{ap, sym, ◌∙◌, subst, map, Some}
 use Rattle.std.specs.List.{list_all}
 use Rattle.clap.specs.Words.{HasKind, fault_of, found_of, is_simple, is_simple_and_free, rows_of, subcommand_of}
-use Rattle.command_line.specs.Words.{given, is_settled_in}
+use Rattle.command_line.specs.Words.{given_taken, is_settled_in}
 use Rattle.command_line.proofs.WordsFacts.{free_command, joined_parts, no_parts, no_subcommand, refused_words, simple_command}
 use Rattle.command_line.proofs.WordsFacts.{unknown_subcommand, unsettled_call}
 use Rattle.command_line.proofs.words.parse_words.Goals as goal
@@ -62,7 +62,7 @@ returns-in-Ok-texts_of c =
       entered = ap (λ a. subcommand_of a words) (sym c.in-Ok.ensures) ∙ sym parse.1
           ∙ joined_parts _ _ _ c.in-Some.word.now rows c.in-Some.ensures.name c.in-Some.ensures.rows
           ∙ ap (λ w. Some (w, rows)) c.in-Some-command_of.ensures.text;
-      given = ap (map (given rows)) (sym c.options-wanted.ensures) ∙ c.in-Ok-texts_of.ensures;
+      given = ap (map (given_taken rows)) (sym c.options-wanted.ensures) ∙ c.in-Ok-texts_of.ensures;
       settled = ap (list_all (is_settled_in c.args.place rows)) (sym c.options-wanted.ensures) ∙ sym c.are_settled.ensures
           ∙ c.if-not-are_settled.false;
     }

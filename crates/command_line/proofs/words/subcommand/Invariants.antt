@@ -4,4 +4,4 @@ use Rattle.command_line.specs.Words.{leaf, with_option}
 use Rattle.command_line.proofs.words.subcommand.Given as goal
 
 abbrev pub invariant-options : goal.invariant-options
-invariant-options l = fold with_option (app_of l.command) (drop l.option-index l.option-items) ≡ leaf l.fn.name
+invariant-options l = fold with_option (app_of l.command) (drop l.taken-index l.taken-items) ≡ leaf l.fn.name
