@@ -23,8 +23,9 @@ from pathlib import Path
 TOP = Path(__file__).resolve().parent.parent
 CRATE = "spiffe_name"
 PARTS = ["src", "specs", "proofs"]
-# The units above which a whole run fails. The first that was measured, on 2026-11-30, was 364.
-MOST = 370
+# The units above which a whole run fails. The first that was measured, on 2026-11-30, was 364; a day later two runs that
+# together proved each crate once took 229.
+MOST = 300
 # What `rt ci` says at its end if nothing was taken over from an earlier run, under a kit that keeps what it proved; and
 # the word of `rt help` by which such a kit is known.
 ALL_DONE = "every proof and must-fail edit was done in this run"

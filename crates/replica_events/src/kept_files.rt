@@ -8,7 +8,8 @@ use progress_line::ProgressMode;
 use replica_core::SyncError;
 use state_files::{
     AppendFault, AppendStep, AuditFile, FoldFault, FoldPiece, FoldResult, Journal, KeepStep,
-    Keeping, LostFile, OnDisk, StateFold, StateLock, begin_again, save_snapshot, stale_file,
+    Keeping, LostFile, OnDisk, StateAt, StateFold, StateLock, begin_again, save_snapshot,
+    stale_file,
 };
 use std::alloc::Global;
 use std::fs::{File, Files};
@@ -175,16 +176,21 @@ impl KeptFiles {
         lines: &[&[u8]],
         path: &str,
     ) -> Result<(), AppendFault> {
+        let at = StateAt {
+            files,
+            lock: &self.lock,
+            path,
+        };
         if lines.iter().all(|part| part.is_empty()) {
-            return self.journal.sync(files, &self.lock, path);
+            return self.journal.sync(&at);
         }
-        if let Some(lost) = self.journal.lost_file(files, &self.lock, path)? {
+        if let Some(lost) = self.journal.lost_file(&at)? {
             return Err(AppendFault::Lost(lost));
         }
         for &part in lines {
-            self.journal.append(part)?;
+            self.journal.append(&at, part)?;
         }
-        self.journal.sync(files, &self.lock, path)
+        self.journal.sync(&at)
     }
 
     // Others replaced or changed a file. All that is held is written again; if the journal's name
@@ -278,7 +284,12 @@ impl KeptFiles {
         closure: &C,
         path: &str,
     ) -> Result<bool, FileFault> {
-        match self.journal.lost_file(rt, &self.lock, path) {
+        let at = StateAt {
+            files: rt,
+            lock: &self.lock,
+            path,
+        };
+        match self.journal.lost_file(&at) {
             Ok(None) => return Ok(true),
             Ok(Some(lost)) => self.mend(rt, alloc, errors, closure, path, lost)?,
             Err(fault) => self.put_off(rt, alloc, errors, fault),
@@ -319,7 +330,12 @@ impl KeptFiles {
         path: &str,
         fold: StateFold,
     ) -> Result<(), FileFault> {
-        match fold.end(rt, alloc, &self.lock, closure, path, &mut self.journal) {
+        let at = StateAt {
+            files: rt,
+            lock: &self.lock,
+            path,
+        };
+        match fold.end(&at, alloc, closure, &mut self.journal) {
             Ok(FoldResult::Short) => self.note_fold(rt, alloc, errors),
             Ok(FoldResult::Long) => {
                 self.journal.put_off();
@@ -340,8 +356,13 @@ impl KeptFiles {
     /// The replica ends: a snapshot that is being written is given up, unless another command has
     /// the state.
     pub fn end<R: Files>(&mut self, files: &R, path: &str) {
+        let at = StateAt {
+            files,
+            lock: &self.lock,
+            path,
+        };
         if let Some(fold) = self.fold.take()
-            && let Ok(None) = self.journal.lost_file(files, &self.lock, path)
+            && let Ok(None) = self.journal.lost_file(&at)
         {
             fold.give_up(files);
         }

@@ -1,5 +1,8 @@
 //! The audit file of a running replica: a line for each change, which is on the disk before the
 //! journal's lines of that change.
+ghost use Rattle.std.specs.Prelude.{◌≡◌};
+ghost use Rattle.state_calls.specs.Logs.{noted_lines};
+
 use crate::access::owner_only;
 use crate::file_names::sync_folder;
 use crate::named_files::{foreign_file, is_plain_file, stale_file};
@@ -12,6 +15,7 @@ use command_exits::FileFault;
 use receipt_core::MOST_RECORDS;
 use replica_core::SyncError;
 use side_by_side::Sides;
+use state_calls::{LineCalls, LineLog, append_lines, sync_lines};
 use state_steps::{
     AppendStep, Appending, CutStep, Cutting, FileFate, LastLine, end_line, may_be_left_of,
 };
@@ -31,6 +35,7 @@ const MOST_LINE_BYTES: usize = READ_BYTES + 65 * MOST_RECORDS;
 pub struct AuditFile {
     file: OwnFile,
     name: String,
+    appends: LineLog<AppendStep>,
 }
 
 // The last line of the first bytes of the file, as far as it has one.
@@ -67,6 +72,7 @@ impl AuditFile {
         let mut audit = AuditFile {
             file: OwnFile::of(file)?,
             name: String::from_str(alloc, path)?,
+            appends: LineLog::new(),
         };
         audit.append(files, start_text(alloc, &sides.next, moment)?.as_slice())?;
         sync_folder(files, path)?;
@@ -75,15 +81,9 @@ impl AuditFile {
 
     fn append<R: Files>(&mut self, files: &R, lines: &[u8]) -> Result<(), FileFault> {
         let mut appending = Appending::begin();
-        appending.add();
-        for _ in 0..STEPS {
-            let Some(step) = appending.next() else {
-                break;
-            };
-            self.do_step(files, lines, step)?;
-            appending.done();
-        }
-        if appending.is_done() {
+        let is_kept = append_lines(self, files, &mut appending, lines)?
+            && sync_lines(self, files, &mut appending)?;
+        if is_kept {
             Ok(())
         } else {
             Err(FileFault::from(SyncError::Io))
@@ -104,6 +104,17 @@ impl AuditFile {
         lines: &[u8],
         step: AppendStep,
     ) -> Result<(), FileFault> {
+        self.try_lines(files, step, lines)
+    }
+
+    fn make_step<R: Files>(
+        &mut self,
+        files: &R,
+        lines: &[u8],
+        step: AppendStep,
+    ) -> Result<(), FileFault>
+        ensures { self.new.appends ≡ self.old.appends }
+    {
         match step {
             AppendStep::WriteLines => {
                 self.refuse_lost(files)?;
@@ -115,7 +126,9 @@ impl AuditFile {
     }
 
     // Who may read it may have been changed.
-    fn refuse_lost<R: Files>(&mut self, files: &R) -> Result<(), FileFault> {
+    fn refuse_lost<R: Files>(&mut self, files: &R) -> Result<(), FileFault>
+        ensures { self.new.appends ≡ self.old.appends }
+    {
         match self.file.leave(files, self.name.as_str())? {
             FileFate::Same | FileFate::Touched => Ok(()),
             FileFate::Changed | FileFate::Replaced => Err(stale_file()),
@@ -123,8 +136,15 @@ impl AuditFile {
     }
 }
 
-/// How many steps an append has.
-const STEPS: u32 = 3;
+impl<R: Files> LineCalls<R, AppendStep, FileFault> for AuditFile {
+    ghost tried = { λ it. noted_lines it.appends };
+
+    fn try_lines(&mut self, files: &R, step: AppendStep, lines: &[u8]) -> Result<(), FileFault> {
+        let done = self.make_step(files, lines, step);
+        self.appends.note(&step, lines, done.is_ok());
+        done
+    }
+}
 
 fn open_audit<R: Files<File = File>>(files: &R, path: &str) -> Result<File, FileFault> {
     let mut options = owner_only();

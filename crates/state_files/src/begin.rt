@@ -7,23 +7,17 @@ use crate::made_files::MadeFiles;
 use crate::previous_state::{fate_of_found, settle_previous};
 use crate::resume::resume_journal;
 use crate::state::{SeenState, see_state};
+use crate::std_calls::{ChangeWith, FileCalls};
 use closure_core::Closure;
 use command_exits::{CommandError, FileFault};
 use progress_line::ProgressMode;
 use replica_core::SyncError;
-use state_steps::{
-    BeginStep, Beginning, FileFate, FileStep, FoldEnd, FoundFiles, LostFile, NewFate,
-};
+use state_calls::begin;
+use state_steps::{Beginning, FileFate, FileStep, FoldEnd, FoundFiles, LostFile, NewFate};
 use std::alloc::{AllocError, Global};
 use std::fs::{File, Files};
 use std::io::Eprint;
 use std::time::Clock;
-
-/// How many steps there are at most between the loading and the journal.
-const SAVE_STEPS: u32 = 5;
-
-/// How many steps it takes to begin the journal.
-const JOURNAL_STEPS: u32 = 2;
 
 /// The files that a carry-over leaves.
 const CARRIED_FILES: FoundFiles = FoundFiles {
@@ -38,7 +32,7 @@ const CARRIED_FILES: FoundFiles = FoundFiles {
 #[derive(Drop)]
 pub struct StateBeginning {
     beginning: Beginning,
-    made: MadeFiles,
+    calls: FileCalls,
     has_journal: bool,
     // Whether it continues with the journal that was found, since the state could not be saved.
     is_resumed: bool,
@@ -66,7 +60,7 @@ impl StateBeginning {
         match Beginning::of(found, may_be_new) {
             Some(beginning) => Ok(Some(StateBeginning {
                 beginning,
-                made: MadeFiles::new(alloc, path, mode)?,
+                calls: FileCalls::new(MadeFiles::new(alloc, path, mode)?),
                 has_journal: found.has_journal,
                 is_resumed: false,
                 fate: None,
@@ -167,14 +161,8 @@ impl StateBeginning {
         closure: &C,
         path: &str,
     ) -> Result<(), FileFault> {
-        for _ in 0..SAVE_STEPS {
-            match self.beginning.next() {
-                Some(BeginStep::Change(FileStep::BeginJournal)) => break,
-                Some(BeginStep::Change(step)) => self.change(files, alloc, closure, path, step)?,
-                _ => break,
-            }
-        }
-        Ok(())
+        let until = Some(FileStep::BeginJournal);
+        self.change(files, alloc, closure, path, until)
     }
 
     /// Begins an empty journal; or continues with the journal that was found, if the state could
@@ -193,15 +181,10 @@ impl StateBeginning {
         if self.is_resumed {
             return resume_journal(files, alloc, path);
         }
-        for _ in 0..JOURNAL_STEPS {
-            let Some(BeginStep::Change(step)) = self.beginning.next() else {
-                break;
-            };
-            self.change(files, alloc, closure, path, step)?;
-        }
+        self.change(files, alloc, closure, path, None)?;
         let is_done = self.beginning.is_done();
         let state = self.state(files, path)?;
-        match self.made.take_journal() {
+        match self.calls.made.take_journal() {
             Some(file) if is_done => Journal::of_file(alloc, file, state, path),
             _ => Err(FileFault::from(SyncError::Io)),
         }
@@ -213,7 +196,7 @@ impl StateBeginning {
         files: &R,
         path: &str,
     ) -> Result<SeenState, FileFault> {
-        match self.made.take_snapshot() {
+        match self.calls.made.take_snapshot() {
             Some(file) => Ok(SeenState::of_file(file)),
             None => match self.loaded.take() {
                 Some(found) => Ok(found),
@@ -222,23 +205,26 @@ impl StateBeginning {
         }
     }
 
+    // The steps that are due, or those before this one.
     fn change<C: Closure, R: Files<File = File> + Clock + Eprint>(
         &mut self,
         files: &R,
         alloc: Global,
         closure: &C,
         path: &str,
-        step: FileStep,
+        until: Option<FileStep>,
     ) -> Result<(), FileFault> {
-        match self.made.do_step(files, alloc, closure, path, step) {
-            Ok(()) => {
-                self.beginning.done();
-                Ok(())
-            }
-            Err(fault) => {
-                let end = self.beginning.failed();
-                self.is_resumed = self.has_journal && end == FoldEnd::JournalContinues;
-                Err(fault)
+        let with = ChangeWith {
+            files,
+            alloc,
+            closure,
+            path,
+        };
+        match begin(&mut self.calls, &with, &mut self.beginning, until) {
+            Ok(()) => Ok(()),
+            Err(failed) => {
+                self.is_resumed = self.has_journal && failed.end == FoldEnd::JournalContinues;
+                Err(failed.fault)
             }
         }
     }

@@ -1,14 +1,15 @@
 //! A fold: what is held takes the place of the state file, piece by piece, and then the journal
 //! keeps only what came since.
-use crate::journal::Journal;
-use crate::lock::StateLock;
+use crate::journal::{Journal, StateAt};
 use crate::made_files::MadeFiles;
 use crate::own_file::OwnFile;
+use crate::std_calls::{ChangeWith, FileCalls, ShortenWith};
 use closure_core::Closure;
 use command_exits::FileFault;
 use fed_config::Config;
 use replica_core::SyncError;
 use snapshot_pieces::SnapshotPieces;
+use state_calls::{StepFault, try_fold, try_shorten};
 use state_steps::{FileStep, FoldEnd, Folding, LostFile, ShortenStep, Shortening, Since};
 use std::alloc::{AllocError, Global};
 use std::fs::{File, Files};
@@ -74,7 +75,7 @@ pub enum FoldResult {
 /// may be appended to the journal, which notes them.
 #[derive(Drop)]
 pub struct StateFold {
-    made: MadeFiles,
+    calls: FileCalls,
     folding: Folding,
     pieces: SnapshotPieces,
     // How long the journal was at the last piece.
@@ -102,7 +103,7 @@ impl StateFold {
         }
         journal.begin_fold(alloc);
         Ok(StateFold {
-            made,
+            calls: FileCalls::new(made),
             folding: Folding::begin(),
             pieces,
             journal_bytes: journal.bytes(),
@@ -126,7 +127,7 @@ impl StateFold {
         self.journal_bytes = journal.bytes();
         let size = PIECE_BYTES.max(came.saturating_mul(PIECE_GROWTH));
         let piece = self.pieces.next(alloc, closure, size as usize)?;
-        self.made.write_piece(files, piece.text.as_slice())?;
+        self.calls.made.write_piece(files, piece.text.as_slice())?;
         if piece.is_last {
             Ok(FoldPiece::Last)
         } else {
@@ -142,65 +143,64 @@ impl StateFold {
     /// [`FoldFault`] says what is to be done.
     pub fn end<C: Closure, R: Files<File = File> + Clock + Eprint>(
         mut self,
-        files: &R,
+        at: &StateAt<'_, R>,
         alloc: Global,
-        lock: &StateLock,
         closure: &C,
-        path: &str,
         journal: &mut Journal,
     ) -> Result<FoldResult, FoldFault> {
         let Some(since) = journal.take_since() else {
-            self.made.remove_new(files);
+            self.calls.made.remove_new(at.files);
             return Err(FoldFault::Kept(FileFault::from(SyncError::Io)));
         };
         self.folding.written(&since);
-        self.do_later_steps(files, alloc, lock, closure, path, journal)?;
+        self.do_later_steps(at, alloc, closure, journal)?;
         let is_empty = self.folding.is_done();
-        match self.made.take_journal() {
+        match self.calls.made.take_journal() {
             Some(file) if is_empty => Ok(begin_in_place(file, journal)),
-            _ => self.shorten(files, alloc, lock, closure.config(), path, journal, since),
+            _ => self.shorten(at, alloc, closure.config(), journal, since),
         }
     }
 
     fn do_later_steps<C: Closure, R: Files<File = File> + Clock + Eprint>(
         &mut self,
-        files: &R,
+        at: &StateAt<'_, R>,
         alloc: Global,
-        lock: &StateLock,
         closure: &C,
-        path: &str,
         journal: &mut Journal,
     ) -> Result<(), FoldFault> {
+        let with = ChangeWith {
+            files: at.files,
+            alloc,
+            closure,
+            path: at.path,
+        };
         for _ in 0..LATER_STEPS {
             let Some(step) = self.folding.next() else {
                 break;
             };
             // Then the journal has a new file.
             if step != FileStep::SyncJournal {
-                self.refuse_lost(files, lock, path, journal)?;
+                self.refuse_lost(at, journal)?;
             }
-            if let Err(fault) = self.made.do_step(files, alloc, closure, path, step) {
-                return Err(fold_fault(self.folding.failed(), fault));
+            if let Err(failed) = try_fold(&mut self.calls, &with, &mut self.folding) {
+                return Err(fold_fault(failed));
             }
-            if let Some(state) = self.made.take_snapshot() {
+            if let Some(state) = self.calls.made.take_snapshot() {
                 journal.see(state);
             }
-            self.folding.done();
         }
         Ok(())
     }
 
     fn refuse_lost<R: Files>(
         &mut self,
-        files: &R,
-        lock: &StateLock,
-        path: &str,
+        at: &StateAt<'_, R>,
         journal: &mut Journal,
     ) -> Result<(), FoldFault> {
-        match journal.lost_file(files, lock, path)? {
+        match journal.lost_file(at)? {
             None => Ok(()),
             Some(lost) => {
-                self.made.remove_new(files);
+                self.calls.made.remove_new(at.files);
                 Err(FoldFault::Lost(lost))
             }
         }
@@ -209,16 +209,20 @@ impl StateFold {
     // No line is appended meanwhile.
     fn shorten<R: Files<File = File>>(
         mut self,
-        files: &R,
+        at: &StateAt<'_, R>,
         alloc: Global,
-        lock: &StateLock,
         config: &Config,
-        path: &str,
         journal: &mut Journal,
         since: Since,
     ) -> Result<FoldResult, FoldFault> {
         let Some(lines) = since.into_text() else {
             return Ok(FoldResult::Long);
+        };
+        let with = ShortenWith {
+            files: at.files,
+            alloc,
+            config,
+            path: at.path,
         };
         let mut shortening = Shortening::begin();
         for _ in 0..SHORTEN_STEPS {
@@ -226,17 +230,14 @@ impl StateFold {
                 break;
             };
             if step != ShortenStep::SyncFolder {
-                self.refuse_lost(files, lock, path, journal)?;
+                self.refuse_lost(at, journal)?;
             }
-            let done = self
-                .made
-                .shorten(files, alloc, config, lines.as_slice(), path, step);
-            if let Err(fault) = done {
-                return Err(fold_fault(shortening.failed(), fault));
+            let done = try_shorten(&mut self.calls, &with, &mut shortening, lines.as_slice());
+            if let Err(failed) = done {
+                return Err(fold_fault(failed));
             }
-            shortening.done();
         }
-        match self.made.take_journal() {
+        match self.calls.made.take_journal() {
             Some(file) if shortening.is_done() => Ok(begin_in_place(file, journal)),
             _ => Err(FoldFault::Emptying(FileFault::from(SyncError::Io))),
         }
@@ -244,14 +245,14 @@ impl StateFold {
 
     /// Gives the fold up: no new snapshot is left.
     pub fn give_up<R: Files>(mut self, files: &R) {
-        self.made.remove_new(files);
+        self.calls.made.remove_new(files);
     }
 }
 
-fn fold_fault(end: FoldEnd, fault: FileFault) -> FoldFault {
-    match end {
-        FoldEnd::JournalContinues => FoldFault::Kept(fault),
-        FoldEnd::ReplicaEnds => FoldFault::Emptying(fault),
+fn fold_fault(failed: StepFault<FileFault>) -> FoldFault {
+    match failed.end {
+        FoldEnd::JournalContinues => FoldFault::Kept(failed.fault),
+        FoldEnd::ReplicaEnds => FoldFault::Emptying(failed.fault),
     }
 }
 

@@ -1,11 +1,15 @@
 //! The journal of a running replica: what came since the snapshot was written.
+ghost use Rattle.std.specs.Prelude.{◌++◌, List, ℕ, OnOk};
+
 use crate::file_names::journal_path;
 use crate::lock::StateLock;
 use crate::own_file::OwnFile;
 use crate::state::SeenState;
+use crate::std_calls::JournalCalls;
 use command_exits::FileFault;
 use replica_core::SyncError;
-use state_steps::{AppendStep, Appending, LostFile, Since, lost_of};
+use state_calls::{append_lines, sync_lines};
+use state_steps::{Appending, LostFile, Since};
 use std::alloc::Global;
 use std::fs::Files;
 
@@ -32,14 +36,20 @@ impl From<FileFault> for AppendFault {
     }
 }
 
+/// The place of a state: its lock, and the path of the state file.
+#[derive(Drop)]
+pub struct StateAt<'a, R> {
+    pub files: &'a R,
+    pub lock: &'a StateLock,
+    pub path: &'a str,
+}
+
 /// The journal's file, to which lines are appended, the state file next to it, and how many bytes
 /// the two have. [`Appending`] says what comes next: after an error nothing is appended any more.
 #[derive(Drop)]
 pub struct Journal {
-    file: OwnFile,
-    name: String,
+    calls: JournalCalls,
     appending: Appending,
-    state: SeenState,
     // How long it is when it is folded next, if folding it was refused before.
     fold_at: u64,
     // What was appended since the fold under way began; empty without a fold.
@@ -47,6 +57,9 @@ pub struct Journal {
 }
 
 impl Journal {
+    ghost use Rattle.state_files.specs.Journals.{AreFilesOf, CameIfAny, HasAsText};
+    ghost use Rattle.state_steps.specs.Files.{HasWholeLine, KeepsLine, StateDisk};
+
     /// The journal whose file was begun next to a state file that has all that is held.
     pub(crate) fn of_file(
         alloc: Global,
@@ -56,10 +69,8 @@ impl Journal {
     ) -> Result<Journal, FileFault> {
         let fold_at = LONG_JOURNAL.max(state.bytes() / 2);
         Ok(Journal {
-            file,
-            name: journal_path(alloc, path)?,
+            calls: JournalCalls::new(file, journal_path(alloc, path)?, state),
             appending: Appending::begin(),
-            state,
             fold_at,
             since: None,
         })
@@ -67,7 +78,7 @@ impl Journal {
 
     /// The state file was replaced by this one, which was written here.
     pub(crate) fn see(&mut self, state: OwnFile) {
-        self.state = SeenState::of_file(state);
+        self.calls.state = SeenState::of_file(state);
     }
 
     /// A fold begins: what is appended from now on is kept in memory too.
@@ -83,7 +94,7 @@ impl Journal {
 
     /// It has another file now, which has what came since the fold began: it continues in this one.
     pub(crate) fn begin_with(&mut self, file: OwnFile) {
-        self.file = file;
+        self.calls.file = file;
         self.since = None;
         self.appending = Appending::begin();
         self.fold_at = LONG_JOURNAL.max(self.snapshot_bytes() / 2);
@@ -91,108 +102,64 @@ impl Journal {
 
     /// Appends the lines. After an error what the disk holds is not known.
     ///
+    /// - `written`: they are in its file, after what was written before.
+    /// - `came`: they are noted, if a fold is under way.
+    ///
     /// # Errors
     /// `NoMemory` if the system says that memory ran out, and else `Io`; `Io` also if an earlier
     /// call failed.
-    pub fn append(&mut self, lines: &[u8]) -> Result<(), FileFault> {
+    pub fn append<R: Files>(&mut self, at: &StateAt<'_, R>, lines: &[u8]) -> Result<(), AppendFault>
+        ensures written { (first : StateDisk) (written : List ℕ)
+            → HasAsText self.old first written
+            → OnOk result (HasAsText self.new first (written ++ lines.now)) }
+        ensures came { (came : List ℕ) → CameIfAny self.old.since came
+            → OnOk result (CameIfAny self.new.since (came ++ lines.now)) }
+    {
         if lines.is_empty() {
             return Ok(());
         }
-        self.appending.add();
-        match self.appending.next() {
-            Some(AppendStep::WriteLines) => self.write(lines),
-            _ => Err(FileFault::from(SyncError::Io)),
+        if !append_lines(&mut self.calls, at, &mut self.appending, lines)? {
+            return Err(AppendFault::File(FileFault::from(SyncError::Io)));
         }
-    }
-
-    fn write(&mut self, lines: &[u8]) -> Result<(), FileFault> {
-        match self.file.write(lines) {
-            Ok(()) => {
-                self.appending.done();
-                if let Some(since) = &mut self.since {
-                    since.note(lines);
-                }
-                Ok(())
-            }
-            Err(fault) => {
-                self.appending.failed();
-                Err(fault)
-            }
+        if let Some(since) = &mut self.since {
+            since.note(lines);
         }
+        Ok(())
     }
 
     /// Has the system write to the disk what was appended, and looks whether the files of the lock,
     /// of the journal and of the state at the path are as they were left. Only then the lines may
     /// be acknowledged. After an error what the disk holds is not known.
     ///
+    /// - `acknowledged`: whatever a stop leaves from now on, each whole line that was written is
+    ///   kept.
+    ///
     /// # Errors
     /// - [`AppendFault::File`]: `NoMemory` if the system says that memory ran out, and else `Io`;
     ///   `Io` also if an earlier call failed,
     /// - [`AppendFault::Lost`]: others replaced or changed a file.
-    pub fn sync<R: Files>(
-        &mut self,
-        files: &R,
-        lock: &StateLock,
-        path: &str,
-    ) -> Result<(), AppendFault> {
-        if let Some(AppendStep::SyncLines) = self.appending.next() {
-            self.sync_lines()?;
-        }
-        if let Some(AppendStep::SeeNames) = self.appending.next() {
-            self.see_names(files, lock, path)?;
-        }
-        if self.appending.is_done() {
+    pub fn sync<R: Files>(&mut self, at: &StateAt<'_, R>) -> Result<(), AppendFault>
+        ensures acknowledged { (first : StateDisk) (written line : List ℕ)
+            → HasAsText self.old first written → HasWholeLine written line
+            → OnOk result (AreFilesOf self.new first (λ disk. KeepsLine disk line)) }
+    {
+        if sync_lines(&mut self.calls, at, &mut self.appending)? {
             Ok(())
         } else {
             Err(AppendFault::File(FileFault::from(SyncError::Io)))
         }
     }
 
-    fn sync_lines(&mut self) -> Result<(), FileFault> {
-        match self.file.file().sync_data() {
-            Ok(()) => {
-                self.appending.done();
-                Ok(())
-            }
-            Err(error) => {
-                self.appending.failed();
-                Err(FileFault::from(error))
-            }
-        }
-    }
-
-    fn see_names<R: Files>(
-        &mut self,
-        files: &R,
-        lock: &StateLock,
-        path: &str,
-    ) -> Result<(), AppendFault> {
-        let fault = match self.lost_file(files, lock, path) {
-            Ok(None) => {
-                self.appending.done();
-                return Ok(());
-            }
-            Ok(Some(lost)) => AppendFault::Lost(lost),
-            Err(fault) => AppendFault::File(fault),
-        };
-        self.appending.failed();
-        Err(fault)
-    }
-
-    /// The first of the lock, the journal and the state that is not as it was left, as [`lost_of`]
-    /// says.
+    /// The first of the lock, the journal and the state that is not as it was left, as
+    /// [`lost_of`](state_steps::lost_of) says.
     ///
     /// # Errors
     /// If the system does not say: `NoMemory` if memory ran out, and else `Io`.
     pub fn lost_file<R: Files>(
         &mut self,
-        files: &R,
-        lock: &StateLock,
-        path: &str,
+        at: &StateAt<'_, R>,
     ) -> Result<Option<LostFile>, FileFault> {
-        let lock = lock.fate(files)?;
-        let journal = self.file.leave(files, self.name.as_str())?;
-        Ok(lost_of(lock, journal, self.state.fate(files, path)?))
+        self.calls.lost_file(at)
     }
 
     /// Whether it is long enough to be folded.
@@ -209,11 +176,11 @@ impl Journal {
 
     /// How many bytes the snapshot has.
     pub fn snapshot_bytes(&self) -> u64 {
-        self.state.bytes()
+        self.calls.state.bytes()
     }
 
     /// How many bytes the journal has.
     pub fn bytes(&self) -> u64 {
-        self.file.bytes()
+        self.calls.file.bytes()
     }
 }

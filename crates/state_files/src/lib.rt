@@ -38,13 +38,14 @@ mod previous_state;
 mod resume;
 mod save;
 mod state;
+mod std_calls;
 
 pub use audit::AuditFile;
 pub use begin::{StateBeginning, begin_again};
 pub use begun_sides::{BegunSides, GivenConfigs};
 pub use file_names::{has_journal, journal_path};
 pub use fold::{FoldFault, FoldPiece, FoldResult, StateFold};
-pub use journal::{AppendFault, Journal};
+pub use journal::{AppendFault, Journal, StateAt};
 pub use load::load_state;
 pub use lock::{StateLock, is_marked, try_lock_state};
 pub use named_files::stale_file;

@@ -3,6 +3,7 @@ use crate::file_names::{journal_path, new_path, sync_folder};
 use crate::named_files::{remove_own, stale_file};
 use crate::new_file::{create_new, write_closure};
 use crate::own_file::OwnFile;
+use crate::std_calls::{ChangeWith, ShortenWith};
 use closure_core::Closure;
 use command_exits::FileFault;
 use fed_config::Config;
@@ -92,29 +93,24 @@ impl MadeFiles {
     /// left that never gets its name.
     pub(crate) fn do_step<C: Closure, R: Files<File = File> + Clock + Eprint>(
         &mut self,
-        files: &R,
-        alloc: Global,
-        closure: &C,
-        path: &str,
+        with: &ChangeWith<'_, C, R>,
         step: FileStep,
     ) -> Result<(), FileFault> {
-        let done = self.try_step(files, alloc, closure, path, step);
+        let done = self.try_step(with, step);
         if done.is_err() && step.leaves_new() {
-            self.remove_new(files);
+            self.remove_new(with.files);
         }
         done
     }
 
     fn try_step<C: Closure, R: Files<File = File> + Clock + Eprint>(
         &mut self,
-        files: &R,
-        alloc: Global,
-        closure: &C,
-        path: &str,
+        with: &ChangeWith<'_, C, R>,
         step: FileStep,
     ) -> Result<(), FileFault> {
+        let (files, alloc, path) = (with.files, with.alloc, with.path);
         match step {
-            FileStep::WriteSnapshot => self.write_snapshot(files, alloc, closure, path),
+            FileStep::WriteSnapshot => self.write_snapshot(files, alloc, with.closure, path),
             FileStep::SyncSnapshot => settle(&mut self.new),
             FileStep::ReplaceSnapshot => {
                 self.snapshot = rename_new(files, &mut self.new, self.new_name.as_str(), path)?;
@@ -125,7 +121,9 @@ impl MadeFiles {
                 self.refuse_other_state(files, path)?;
                 remove_own(files, self.journal_name.as_str())
             }
-            FileStep::BeginJournal => self.begin_journal(files, alloc, closure.config(), path),
+            FileStep::BeginJournal => {
+                self.begin_journal(files, alloc, with.closure.config(), path)
+            }
             FileStep::SyncJournal => {
                 settle(&mut self.journal)?;
                 sync_folder(files, path)
@@ -158,38 +156,32 @@ impl MadeFiles {
     /// its first line and these lines. If it fails before that, no new file is left.
     pub(crate) fn shorten<R: Files<File = File>>(
         &mut self,
-        files: &R,
-        alloc: Global,
-        config: &Config,
+        with: &ShortenWith<'_, R>,
         lines: &[u8],
-        path: &str,
         step: ShortenStep,
     ) -> Result<(), FileFault> {
         let done = match step {
-            ShortenStep::WriteJournal => self.write_journal(files, alloc, config, lines, path),
+            ShortenStep::WriteJournal => self.write_journal(with, lines),
             ShortenStep::SyncNew => settle(&mut self.new),
-            ShortenStep::ReplaceJournal => self.replace_journal(files),
-            ShortenStep::SyncFolder => sync_folder(files, path),
+            ShortenStep::ReplaceJournal => self.replace_journal(with.files),
+            ShortenStep::SyncFolder => sync_folder(with.files, with.path),
         };
         if done.is_err() {
-            self.remove_new(files);
+            self.remove_new(with.files);
         }
         done
     }
 
     fn write_journal<R: Files<File = File>>(
         &mut self,
-        files: &R,
-        alloc: Global,
-        config: &Config,
+        with: &ShortenWith<'_, R>,
         lines: &[u8],
-        path: &str,
     ) -> Result<(), FileFault> {
-        let mut first = Vec::new(alloc);
-        begin_journal(alloc, config, &mut first)?;
+        let mut first = Vec::new(with.alloc);
+        begin_journal(with.alloc, with.config, &mut first)?;
         let file = self
             .new
-            .insert(create_new(files, self.new_name.as_str(), path)?);
+            .insert(create_new(with.files, self.new_name.as_str(), with.path)?);
         file.write(first.as_slice())?;
         file.write(lines)
     }

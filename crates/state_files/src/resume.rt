@@ -1,19 +1,18 @@
 //! A replica continues with the journal that it found.
 use crate::access::owner_only;
-use crate::file_names::{journal_path, sync_folder};
+use crate::file_names::journal_path;
 use crate::journal::Journal;
 use crate::named_files::{foreign_file, is_plain_file};
 use crate::own_file::OwnFile;
 use crate::state::see_state;
+use crate::std_calls::{ResumeCalls, ResumeWith};
 use command_exits::FileFault;
 use replica_core::SyncError;
-use state_steps::{CountedLines, ResumeStep, Resuming};
+use state_calls::resume;
+use state_steps::CountedLines;
 use std::alloc::Global;
 use std::fs::{File, Files};
 use std::os::unix::fs::FileExt;
-
-/// How many steps there are.
-const STEPS: u32 = 3;
 
 /// How many bytes of the journal are read at a time.
 const READ_BYTES: usize = 65_536;
@@ -34,18 +33,9 @@ pub(crate) fn resume_journal<R: Files<File = File>>(
     if whole == 0 {
         return Err(FileFault::from(SyncError::Io));
     }
-    let mut resuming = Resuming::begin();
-    for _ in 0..STEPS {
-        let Some(step) = resuming.next() else {
-            break;
-        };
-        if let Err(fault) = do_step(files, &file, path, whole, step) {
-            resuming.failed();
-            return Err(fault);
-        }
-        resuming.done();
-    }
-    let file = OwnFile::of(file)?;
+    let mut calls = ResumeCalls::new(file, whole);
+    resume(&mut calls, &ResumeWith { files, path })?;
+    let file = OwnFile::of(calls.file)?;
     let mut journal = Journal::of_file(alloc, file, see_state(files, path)?, path)?;
     journal.put_off();
     Ok(journal)
@@ -63,22 +53,6 @@ fn open_journal<R: Files<File = File>>(
     let mut options = owner_only();
     options.read(true).append(true);
     Ok(options.open(files, name.as_str())?)
-}
-
-fn do_step<R: Files>(
-    files: &R,
-    file: &File,
-    path: &str,
-    whole: u64,
-    step: ResumeStep,
-) -> Result<(), FileFault> {
-    match step {
-        ResumeStep::SyncFound | ResumeStep::SyncCut => {
-            file.sync_all()?;
-            sync_folder(files, path)
-        }
-        ResumeStep::CutLine => Ok(file.set_len(whole)?),
-    }
 }
 
 // How many bytes the whole lines have.

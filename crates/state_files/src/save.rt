@@ -1,9 +1,11 @@
 //! What a command does at its end: what is held takes the place of the state file.
 use crate::made_files::MadeFiles;
+use crate::std_calls::{ChangeWith, FileCalls};
 use closure_core::Closure;
 use command_exits::FileFault;
 use progress_line::ProgressMode;
 use replica_core::SyncError;
+use state_calls::save;
 use state_steps::Saving;
 use std::alloc::Global;
 use std::fs::{File, Files};
@@ -70,17 +72,12 @@ fn save_within<C: Closure, R: Files<File = File> + Clock + Eprint>(
     mode: ProgressMode,
     steps: u32,
 ) -> Result<Saving, FileFault> {
-    let mut made = MadeFiles::new(alloc, path, mode)?;
-    let mut saving = Saving::begin();
-    for _ in 0..steps {
-        let Some(step) = saving.next() else {
-            break;
-        };
-        if let Err(fault) = made.do_step(files, alloc, closure, path, step) {
-            saving.failed();
-            return Err(fault);
-        }
-        saving.done();
-    }
-    Ok(saving)
+    let mut calls = FileCalls::new(MadeFiles::new(alloc, path, mode)?);
+    let with = ChangeWith {
+        files,
+        alloc,
+        closure,
+        path,
+    };
+    save(&mut calls, &with, steps)
 }

@@ -1,0 +1,127 @@
+-- Lemmas on what may be there after one more try.
+use native.Mathlib.Numerals.{unary_clauses}
+use Rattle.std.specs.Prelude.{◌≢◌, OnErr, OnOk}
+use Rattle.std.proofs.Common.{◌≡◌, Result, Ok, Err, ◌∙◌, ◌+◌, ℕ, zero, suc, Bool, List, [], ◌∷◌, Option, None, Some, ap, arith, refl, subst, sym}
+use Rattle.state_calls.specs.Tries.{HasTried, HoldsSince, MayBe}
+use Rattle.state_steps.specs.Files.{HasWholeLine}
+use Rattle.state_steps.specs.Steps.{StateTexts, WritesLine}
+use Rattle.state_steps.specs.Appends.{append_step, written_after}
+use Rattle.state_steps.specs.Begins.{begin_change, begin_step}
+use Rattle.state_steps.specs.Carries.{carry_step}
+use Rattle.state_steps.specs.Resumes.{following_resume, resume_step, resume_steps_left}
+use Rattle.state_steps.specs.declared.appending.AppendStep.{AppendStep}
+use Rattle.state_steps.specs.declared.appending.AppendStep.TheVariants.{WriteLines, SyncLines, SeeNames}
+use Rattle.state_steps.specs.declared.appending.AppendStage.{AppendStage}
+use Rattle.state_steps.specs.declared.appending.AppendStage as append
+use Rattle.state_steps.specs.declared.beginning.BeginStage.{BeginStage}
+use Rattle.state_steps.specs.declared.beginning.BeginStage as stages
+use Rattle.state_steps.specs.declared.beginning.BeginStep as begin
+use Rattle.state_steps.specs.declared.carrying_over.CarryStep.{CarryStep}
+use Rattle.state_steps.specs.declared.carrying_over.CarryStage.{CarryStage}
+use Rattle.state_steps.specs.declared.carrying_over.CarryStage as carry
+use Rattle.state_steps.specs.declared.file_step.FileStep.{FileStep}
+use Rattle.state_steps.specs.declared.file_step.FileStep.TheVariants.{WriteSnapshot, SyncSnapshot, ReplaceSnapshot}
+use Rattle.state_steps.specs.declared.file_step.FileStep.TheVariants.{SyncFolder, RemoveJournal, BeginJournal, SyncJournal}
+use Rattle.state_steps.specs.declared.resuming.ResumeStep.{ResumeStep}
+use Rattle.state_steps.specs.declared.resuming.ResumeStep.TheVariants.{SyncFound, CutLine, SyncCut}
+use Rattle.state_steps.specs.declared.resuming.ResumeStage.{ResumeStage}
+use Rattle.state_steps.specs.declared.resuming.ResumeStage as resume
+
+pub last_try : {P D : Type 0} (Makes : P × Bool → D → D → Type 0) (step : P) (done : Bool) (before after : List (P × Bool)) (first disk : D)
+    → after ≡ (step, done) ∷ before → MayBe Makes after first disk
+    → (was : D) × MayBe Makes before first was × Makes (step, done) was disk
+last_try Makes step done before after first disk tried may = subst (λ tries. MayBe Makes tries first disk) tried may
+
+-- ---- what holds all the time
+
+pub no_try : {P : Type 0} (Holds : List (P × Bool) → Type 0) (tries : List (P × Bool)) → Holds tries → HoldsSince Holds tries tries
+no_try Holds tries holds = ([], refl, holds)
+
+pub one_try : {P : Type 0} (Holds : List (P × Bool) → Type 0) (due : Option P) (done : Bool) (before now after : List (P × Bool))
+    → HasTried due done now after → HoldsSince Holds before now → Holds after → HoldsSince Holds before after
+one_try Holds None done before now after tried since holds = subst (HoldsSince Holds before) (sym tried.1) since
+one_try Holds (Some step) done before now after tried since holds =
+    let is = tried ∙ ap (λ tries. (step, done) ∷ tries) since.1 in ((step, done) ∷ since.0, is, (subst Holds is holds, since.2))
+
+-- ---- what is written
+
+pub writes_line : (texts : StateTexts) (due : Option FileStep) (line : List ℕ) → HasWholeLine texts.snapshot line → WritesLine texts due line
+writes_line texts None line has = tt
+writes_line texts (Some WriteSnapshot) line has = has
+writes_line texts (Some SyncSnapshot) line has = tt
+writes_line texts (Some ReplaceSnapshot) line has = tt
+writes_line texts (Some SyncFolder) line has = tt
+writes_line texts (Some RemoveJournal) line has = tt
+writes_line texts (Some BeginJournal) line has = tt
+writes_line texts (Some SyncJournal) line has = tt
+
+-- ---- how far a replica came that continues
+
+abbrev pub resumed_at : ℕ → ResumeStage
+resumed_at zero = resume.TheVariants.Due SyncFound
+resumed_at (suc zero) = resume.TheVariants.Due CutLine
+resumed_at (suc (suc zero)) = resume.TheVariants.Due SyncCut
+resumed_at (suc (suc (suc more))) = resume.TheVariants.Done
+
+pub resumed_first : (stage : ResumeStage) → resume_steps_left stage ≡ 3 → stage ≡ resumed_at zero
+resumed_first (resume.TheVariants.Due SyncFound) three = refl
+resumed_first (resume.TheVariants.Due CutLine) three = absurd (omega (arith, three))
+resumed_first (resume.TheVariants.Due SyncCut) three = absurd (omega (arith, three))
+resumed_first resume.TheVariants.Done three = absurd (omega (arith, three))
+resumed_first resume.TheVariants.Failed three = absurd (omega (arith, three))
+
+pub resumed_next : (count : ℕ) → following_resume (resumed_at count) ≡ resumed_at (count + 1)
+resumed_next zero = refl
+resumed_next (suc zero) = refl
+resumed_next (suc (suc zero)) = refl
+resumed_next (suc (suc (suc more))) = simp unary_clauses refl
+
+-- ---- what is appended
+
+pub sync_other : SyncLines ≢ WriteLines
+sync_other same = cc
+
+pub see_other : SeeNames ≢ WriteLines
+see_other same = cc
+
+pub none_written : (stage : AppendStage) (step : AppendStep) (lines written : List ℕ) → stage ≡ append.TheVariants.Due step → step ≢ WriteLines
+    → written_after lines stage written ≡ written
+none_written append.TheVariants.OnDisk step lines written due other = refl
+none_written (append.TheVariants.Due WriteLines) step lines written due other = absurd (other (cc))
+none_written (append.TheVariants.Due SyncLines) step lines written due other = refl
+none_written (append.TheVariants.Due SeeNames) step lines written due other = refl
+none_written append.TheVariants.Failed step lines written due other = refl
+
+-- ---- what holds after each result
+
+pub either_way : {A E : Type 0} {P : Type 0} (result : Result A E) → OnOk result P → OnErr result P → P
+either_way (Ok value) ok err = ok
+either_way (Err fault) ok err = err
+
+pub on_err : {A E : Type 0} {P : Type 0} (result : Result A E) → P → OnErr result P
+on_err (Ok value) holds = tt
+on_err (Err fault) holds = holds
+
+-- ---- the stage, when a step is due
+
+pub append_due : (stage : AppendStage) (step : AppendStep) → Some step ≡ append_step stage → stage ≡ append.TheVariants.Due step
+append_due append.TheVariants.OnDisk step due = cc
+append_due (append.TheVariants.Due other) step due = cc
+append_due append.TheVariants.Failed step due = cc
+
+pub resume_due : (stage : ResumeStage) (step : ResumeStep) → Some step ≡ resume_step stage → stage ≡ resume.TheVariants.Due step
+resume_due (resume.TheVariants.Due other) step due = cc
+resume_due resume.TheVariants.Done step due = cc
+resume_due resume.TheVariants.Failed step due = cc
+
+pub carry_due : (stage : CarryStage) (step : CarryStep) → Some step ≡ carry_step stage → stage ≡ carry.TheVariants.Due step
+carry_due (carry.TheVariants.Due other) step due = cc
+carry_due carry.TheVariants.Done step due = cc
+carry_due carry.TheVariants.Failed step due = cc
+
+pub begin_due : (stage : BeginStage) (step : FileStep) → Some (begin.TheVariants.Change step) ≡ begin_step stage → begin_change stage ≡ Some step
+begin_due stages.TheVariants.LoadAndSave step due = cc
+begin_due stages.TheVariants.Load step due = cc
+begin_due (stages.TheVariants.Change other) step due = cc
+begin_due stages.TheVariants.Done step due = cc
+begin_due stages.TheVariants.Failed step due = cc

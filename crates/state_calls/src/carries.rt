@@ -1,0 +1,44 @@
+//! The steps in which a state is carried over to another configuration.
+ghost use Rattle.std.specs.Prelude.{◌≡◌, List, ℕ, OnOk, is_ok};
+ghost use Rattle.state_steps.specs.Carries.{AreApart, CarryDisk, CarryKeeps, CarryTexts};
+ghost use Rattle.state_steps.specs.Carries.{IsCarryDueOn, carry_step, following_carry};
+ghost use Rattle.state_calls.specs.Tries.{AfterTries, HasTried, MakesCarried};
+
+use crate::calls::StepCalls;
+use state_steps::{CarryStep, CarryingOver};
+
+/// Does the step that is due, and says to the machine what came of it. If none is due, nothing is
+/// done.
+pub fn try_carry<S, E: Drop, T: StepCalls<S, CarryStep, E>>(
+    calls: &mut T,
+    with: &S,
+    carrying: &mut CarryingOver,
+) -> Result<(), E>
+    ensures tried { HasTried (carry_step carrying.old.stage) (is_ok result) (T.tried calls.old)
+        (T.tried calls.new) }
+    ensures due { (texts : CarryTexts) (first : CarryDisk)
+        → AfterTries (MakesCarried texts) (T.tried calls.old) first
+        (IsCarryDueOn texts carrying.old.stage)
+        → OnOk result (AfterTries (MakesCarried texts) (T.tried calls.new) first
+        (IsCarryDueOn texts carrying.new.stage)) }
+    ensures keeps { (texts : CarryTexts) (first : CarryDisk) (line : List ℕ) → AreApart texts
+        → AfterTries (MakesCarried texts) (T.tried calls.old) first
+        (λ disk. CarryKeeps texts carrying.old disk line)
+        → AfterTries (MakesCarried texts) (T.tried calls.new) first
+        (λ disk. CarryKeeps texts carrying.new disk line) }
+    ensures next { OnOk result (carrying.new.stage ≡ following_carry carrying.old.stage) }
+{
+    let Some(step) = carrying.next() else {
+        return Ok(());
+    };
+    match calls.try_step(with, step) {
+        Ok(()) => {
+            carrying.done();
+            Ok(())
+        }
+        Err(fault) => {
+            carrying.failed();
+            Err(fault)
+        }
+    }
+}
