@@ -8,8 +8,7 @@ use progress_line::ProgressMode;
 use replica_core::SyncError;
 use state_files::{
     AppendFault, AppendStep, AuditFile, FoldFault, FoldPiece, FoldResult, Journal, KeepStep,
-    Keeping, LostFile, OnDisk, StateAt, StateFold, StateLock, begin_again, save_snapshot,
-    stale_file,
+    Keeping, LostFile, OnDisk, StateFold, StateLock, begin_again, save_snapshot, stale_file,
 };
 use std::alloc::Global;
 use std::fs::{File, Files};
@@ -176,11 +175,7 @@ impl KeptFiles {
         lines: &[&[u8]],
         path: &str,
     ) -> Result<(), AppendFault> {
-        let at = StateAt {
-            files,
-            lock: &self.lock,
-            path,
-        };
+        let at = self.lock.at(files, path);
         if lines.iter().all(|part| part.is_empty()) {
             return self.journal.sync(&at);
         }
@@ -284,11 +279,7 @@ impl KeptFiles {
         closure: &C,
         path: &str,
     ) -> Result<bool, FileFault> {
-        let at = StateAt {
-            files: rt,
-            lock: &self.lock,
-            path,
-        };
+        let at = self.lock.at(rt, path);
         match self.journal.lost_file(&at) {
             Ok(None) => return Ok(true),
             Ok(Some(lost)) => self.mend(rt, alloc, errors, closure, path, lost)?,
@@ -330,11 +321,7 @@ impl KeptFiles {
         path: &str,
         fold: StateFold,
     ) -> Result<(), FileFault> {
-        let at = StateAt {
-            files: rt,
-            lock: &self.lock,
-            path,
-        };
+        let at = self.lock.at(rt, path);
         match fold.end(&at, alloc, closure, &mut self.journal) {
             Ok(FoldResult::Short) => self.note_fold(rt, alloc, errors),
             Ok(FoldResult::Long) => {
@@ -356,11 +343,7 @@ impl KeptFiles {
     /// The replica ends: a snapshot that is being written is given up, unless another command has
     /// the state.
     pub fn end<R: Files>(&mut self, files: &R, path: &str) {
-        let at = StateAt {
-            files,
-            lock: &self.lock,
-            path,
-        };
+        let at = self.lock.at(files, path);
         if let Some(fold) = self.fold.take()
             && let Ok(None) = self.journal.lost_file(&at)
         {

@@ -1,12 +1,13 @@
 -- Lemmas on what may be there after one more try.
 use native.Mathlib.Numerals.{unary_clauses}
 use Rattle.std.specs.Prelude.{◌≢◌, OnErr, OnOk}
-use Rattle.std.proofs.Common.{◌≡◌, Result, Ok, Err, ◌∙◌, ◌+◌, ℕ, zero, suc, Bool, List, [], ◌∷◌, Option, None, Some, ap, arith, refl, subst, sym}
+use Rattle.std.proofs.Math.Arith.{lt_of_le-ne}
+use Rattle.std.proofs.Common.{◌≡◌, ◌≤◌, ◌<◌, ◌-◌, Result, Ok, Err, ◌∙◌, ◌+◌, ℕ, zero, suc, Bool, List, [], ◌∷◌, Option, None, Some, ap, arith, refl, subst, sym}
 use Rattle.state_calls.specs.Tries.{HasTried, HoldsSince, MayBe}
 use Rattle.state_steps.specs.Files.{HasWholeLine}
 use Rattle.state_steps.specs.Steps.{StateTexts, WritesLine}
 use Rattle.state_steps.specs.Appends.{append_step, written_after}
-use Rattle.state_steps.specs.Begins.{begin_change, begin_step}
+use Rattle.state_steps.specs.Begins.{begin_change, begin_step, begin_steps_left}
 use Rattle.state_steps.specs.Carries.{carry_step}
 use Rattle.state_steps.specs.Resumes.{following_resume, resume_step, resume_steps_left}
 use Rattle.state_steps.specs.declared.appending.AppendStep.{AppendStep}
@@ -15,6 +16,7 @@ use Rattle.state_steps.specs.declared.appending.AppendStage.{AppendStage}
 use Rattle.state_steps.specs.declared.appending.AppendStage as append
 use Rattle.state_steps.specs.declared.beginning.BeginStage.{BeginStage}
 use Rattle.state_steps.specs.declared.beginning.BeginStage as stages
+use Rattle.state_steps.specs.declared.beginning.BeginStage.TheVariants.{Change}
 use Rattle.state_steps.specs.declared.beginning.BeginStep as begin
 use Rattle.state_steps.specs.declared.carrying_over.CarryStep.{CarryStep}
 use Rattle.state_steps.specs.declared.carrying_over.CarryStage.{CarryStage}
@@ -125,3 +127,37 @@ begin_due stages.TheVariants.Load step due = cc
 begin_due (stages.TheVariants.Change other) step due = cc
 begin_due stages.TheVariants.Done step due = cc
 begin_due stages.TheVariants.Failed step due = cc
+
+-- ---- a beginning does not pass the step at which it is to stop
+
+abbrev pub change_at : ℕ → Option FileStep
+change_at (suc zero) = Some SyncJournal
+change_at (suc (suc zero)) = Some BeginJournal
+change_at (suc (suc (suc zero))) = Some RemoveJournal
+change_at (suc (suc (suc (suc zero)))) = Some SyncFolder
+change_at (suc (suc (suc (suc (suc zero))))) = Some ReplaceSnapshot
+change_at (suc (suc (suc (suc (suc (suc zero)))))) = Some SyncSnapshot
+change_at (suc (suc (suc (suc (suc (suc (suc zero))))))) = Some WriteSnapshot
+change_at _ = None
+
+pub at_change : (step : FileStep) → change_at (begin_steps_left (Change step)) ≡ Some step
+at_change WriteSnapshot = refl
+at_change SyncSnapshot = refl
+at_change ReplaceSnapshot = refl
+at_change SyncFolder = refl
+at_change RemoveJournal = refl
+at_change BeginJournal = refl
+at_change SyncJournal = refl
+
+never : {A : Type 0} {a : A} → None ≡ Some a → ⊥
+never is = cc
+
+pub not_passed : (until due : FileStep) (stage : BeginStage) → Some until ≢ Some due → begin_change stage ≡ Some due
+    → begin_steps_left (Change until) ≤ begin_steps_left stage → begin_steps_left (Change until) ≤ begin_steps_left stage - 1
+not_passed until due (Change next) differs is le =
+    let less : begin_steps_left (Change until) < begin_steps_left (Change next) =
+    lt_of_le-ne le (λ same. differs (sym (at_change until) ∙ ap change_at same ∙ at_change next ∙ is)) in omega (arith, less)
+not_passed until due stages.TheVariants.LoadAndSave differs is le = absurd (never is)
+not_passed until due stages.TheVariants.Load differs is le = absurd (never is)
+not_passed until due stages.TheVariants.Done differs is le = absurd (never is)
+not_passed until due stages.TheVariants.Failed differs is le = absurd (never is)

@@ -29,7 +29,8 @@ pub fn append_lines<S, E: Drop, T: LineCalls<S, AppendStep, E>>(
     lines: &[u8],
 ) -> Result<bool, E>
     ensures written { IfOk result (λ is. (IsTrue is → appending.new.stage ≡ Due SyncLines)
-        × (is ≡ false → (appending.old.stage ≡ Failed) × (appending.new.stage ≡ Failed))) }
+        × (is ≡ false → (appending.old.stage ≡ Failed) × (appending.new.stage ≡ Failed)
+        × (T.tried calls.new ≡ T.tried calls.old))) }
     ensures due { (written : List ℕ) (first : StateDisk)
         → AfterTries MakesAppended (T.tried calls.old) first
         (IsAppendedOn written appending.old.stage)
@@ -62,7 +63,7 @@ pub fn append_lines<S, E: Drop, T: LineCalls<S, AppendStep, E>>(
 ///
 /// - `done`: it is so unless a step failed, or lines were announced and not written.
 /// - `acknowledged`: then each whole line of what was written is kept.
-/// - `keeps`, `failed`: each line that was kept is kept.
+/// - `keeps`: each line that was kept is kept.
 ///
 /// # Errors
 /// A step failed. Nothing may be acknowledged from then on.
@@ -72,8 +73,8 @@ pub fn sync_lines<S, E: Drop, T: LineCalls<S, AppendStep, E>>(
     appending: &mut Appending,
 ) -> Result<bool, E>
     ensures done { IfOk result (λ is. (IsTrue is ↔ (appending.new.stage ≡ OnDisk))
-        × (is ≡ false → (appending.old.stage ≡ Failed)
-        ⊎ (appending.old.stage ≡ Due WriteLines))) }
+        × (is ≡ false → (appending.new.stage ≡ appending.old.stage)
+        × ((appending.old.stage ≡ Failed) ⊎ (appending.old.stage ≡ Due WriteLines)))) }
     ensures due { (written : List ℕ) (first : StateDisk)
         → AfterTries MakesAppended (T.tried calls.old) first
         (IsAppendedOn written appending.old.stage)
@@ -123,9 +124,9 @@ fn try_if_due<S, E: Drop, T: LineCalls<S, AppendStep, E>>(
     }
 }
 
-/// Does the step that is due with these lines, and says to the machine what came of it. If none is
-/// due, nothing is done.
-pub fn try_append<S, E: Drop, T: LineCalls<S, AppendStep, E>>(
+// Does the step that is due with these lines, and says to the machine what came of it. If none is
+// due, nothing is done.
+fn try_append<S, E: Drop, T: LineCalls<S, AppendStep, E>>(
     calls: &mut T,
     with: &S,
     appending: &mut Appending,

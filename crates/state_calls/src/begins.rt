@@ -1,8 +1,11 @@
 //! The steps in which a replica begins.
-ghost use Rattle.std.specs.Prelude.{◌≡◌, ◌≢◌, ◌-◌, ◌⊎◌, List, ℕ, IfErr, None, OnOk, is_ok};
+ghost use Rattle.std.specs.Prelude.{◌≡◌, ◌≢◌, ◌-◌, ◌≤◌, ◌⊎◌, List, ℕ, IfErr, None, OnOk, Some};
+ghost use Rattle.std.specs.Prelude.{is_ok};
 ghost use Rattle.state_steps.specs.Begins.{BeginKeeps, IsBeginDueOn, begin_change, begin_end};
 ghost use Rattle.state_steps.specs.Begins.{begin_steps_left};
 ghost use Rattle.state_steps.specs.Files.{HasWholeLine, StateDisk};
+ghost use Rattle.state_steps.specs.declared.beginning.BeginStage.TheVariants.{Change};
+ghost use Rattle.state_steps.specs.declared.file_step.FileStep.{FileStep};
 ghost use Rattle.state_steps.specs.Steps.{StateTexts, WritesLine};
 ghost use Rattle.state_calls.specs.Tries.{AfterTries, HasTried, HoldsSince, MakesFiles};
 ghost use Rattle.state_calls.specs.Tries.{TriesKeep};
@@ -15,6 +18,7 @@ use state_steps::{BeginStep, Beginning, FileStep, laws};
 /// which is written has is kept.
 ///
 /// - `due`: the files are as they have to be for the next step.
+/// - `until`: that step is not done.
 ///
 /// # Errors
 /// A step failed; what is to be done is said.
@@ -41,6 +45,9 @@ pub fn begin<S, E: Drop, T: StepCalls<S, FileStep, E>>(
         (T.tried calls.new) }
     ensures over { OnOk result ((begin_change beginning.new.stage ≡ None)
         ⊎ (begin_change beginning.new.stage ≡ until)) }
+    ensures until { (step : FileStep) → until ≡ Some step
+        → begin_steps_left (Change step) ≤ begin_steps_left beginning.old.stage
+        → OnOk result (begin_steps_left (Change step) ≤ begin_steps_left beginning.new.stage) }
 {
     laws::stops();
     'steps: while let Some(BeginStep::Change(step)) = beginning.next() {
@@ -52,9 +59,9 @@ pub fn begin<S, E: Drop, T: StepCalls<S, FileStep, E>>(
     Ok(())
 }
 
-/// Does the change of files that is due in a beginning, and says to the beginning what came of it.
-/// If none is due, nothing is done.
-pub fn try_begin<S, E: Drop, T: StepCalls<S, FileStep, E>>(
+// Does the change of files that is due in a beginning, and says to the beginning what came of it.
+// If none is due, nothing is done.
+fn try_begin<S, E: Drop, T: StepCalls<S, FileStep, E>>(
     calls: &mut T,
     with: &S,
     beginning: &mut Beginning,

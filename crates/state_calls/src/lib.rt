@@ -16,12 +16,12 @@ mod resumes;
 mod saves;
 mod shortens;
 
-pub use appends::{append_lines, sync_lines, try_append};
-pub use begins::{begin, try_begin};
+pub use appends::{append_lines, sync_lines};
+pub use begins::begin;
 pub use calls::{LineCalls, StepCalls, StepFault};
 pub use carries::try_carry;
 pub use folds::try_fold;
 pub use logs::{LineLog, StepLog};
-pub use resumes::{resume, try_resume};
-pub use saves::{save, try_save};
+pub use resumes::resume;
+pub use saves::save;
 pub use shortens::try_shorten;

@@ -37,9 +37,9 @@ pub fn resume<S, E: Drop, T: StepCalls<S, ResumeStep, E>>(calls: &mut T, with: &
     Ok(())
 }
 
-/// Does the step that is due, and says to the machine what came of it. If none is due, nothing is
-/// done.
-pub fn try_resume<S, E: Drop, T: StepCalls<S, ResumeStep, E>>(
+// Does the step that is due, and says to the machine what came of it. If none is due, nothing is
+// done.
+fn try_resume<S, E: Drop, T: StepCalls<S, ResumeStep, E>>(
     calls: &mut T,
     with: &S,
     resuming: &mut Resuming,

@@ -40,8 +40,8 @@ pub fn save<S, E: Drop, T: StepCalls<S, FileStep, E>>(
     Ok(saving)
 }
 
-/// Does the step of a save that is due, and says to the save what came of it.
-pub fn try_save<S, E: Drop, T: StepCalls<S, FileStep, E>>(
+// Does the step of a save that is due, and says to the save what came of it.
+fn try_save<S, E: Drop, T: StepCalls<S, FileStep, E>>(
     calls: &mut T,
     with: &S,
     saving: &mut Saving,

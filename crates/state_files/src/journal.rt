@@ -1,5 +1,5 @@
 //! The journal of a running replica: what came since the snapshot was written.
-ghost use Rattle.std.specs.Prelude.{◌++◌, List, ℕ, OnOk};
+ghost use Rattle.std.specs.Prelude.{◌≡◌, ◌∷◌, ◌++◌, ◌⊎◌, [], List, ℕ, IfOk, OnErr, OnOk};
 
 use crate::file_names::journal_path;
 use crate::lock::StateLock;
@@ -58,15 +58,22 @@ pub struct Journal {
 
 impl Journal {
     ghost use Rattle.state_files.specs.Journals.{AreFilesOf, CameIfAny, HasAsText};
-    ghost use Rattle.state_steps.specs.Files.{HasWholeLine, KeepsLine, StateDisk};
+    ghost use Rattle.state_steps.specs.Files.{HasWholeLine, KeepsLine, StateDisk, kept_file};
+    ghost use Rattle.state_steps.specs.declared.appending.AppendStage.TheVariants.{Due, Failed};
+    ghost use Rattle.state_steps.specs.declared.appending.AppendStep.TheVariants.{WriteLines};
 
     /// The journal whose file was begun next to a state file that has all that is held.
+    ///
+    /// - `begun`: it has what its file has, all of which is on the disk.
     pub(crate) fn of_file(
         alloc: Global,
         file: OwnFile,
         state: SeenState,
         path: &str,
-    ) -> Result<Journal, FileFault> {
+    ) -> Result<Journal, FileFault>
+        ensures begun { IfOk result (λ journal. (first : StateDisk) (written : List ℕ)
+            → first.journal ≡ kept_file written ∷ [] → HasAsText journal first written) }
+    {
         let fold_at = LONG_JOURNAL.max(state.bytes() / 2);
         Ok(Journal {
             calls: JournalCalls::new(file, journal_path(alloc, path)?, state),
@@ -93,8 +100,13 @@ impl Journal {
     }
 
     /// It has another file now, which has what came since the fold began: it continues in this one.
-    pub(crate) fn begin_with(&mut self, file: OwnFile) {
-        self.calls.file = file;
+    ///
+    /// - `begun`: it has what that file has, all of which is on the disk.
+    pub(crate) fn begin_with(&mut self, file: OwnFile)
+        ensures begun { (first : StateDisk) (written : List ℕ)
+            → first.journal ≡ kept_file written ∷ [] → HasAsText self.new first written }
+    {
+        self.calls.begin_with(file);
         self.since = None;
         self.appending = Appending::begin();
         self.fold_at = LONG_JOURNAL.max(self.snapshot_bytes() / 2);
@@ -104,6 +116,7 @@ impl Journal {
     ///
     /// - `written`: they are in its file, after what was written before.
     /// - `came`: they are noted, if a fold is under way.
+    /// - `over`: after an error nothing more is appended.
     ///
     /// # Errors
     /// `NoMemory` if the system says that memory ran out, and else `Io`; `Io` also if an earlier
@@ -114,6 +127,7 @@ impl Journal {
             → OnOk result (HasAsText self.new first (written ++ lines.now)) }
         ensures came { (came : List ℕ) → CameIfAny self.old.since came
             → OnOk result (CameIfAny self.new.since (came ++ lines.now)) }
+        ensures over { OnErr result (self.new.appending.stage ≡ Failed) }
     {
         if lines.is_empty() {
             return Ok(());
@@ -133,6 +147,8 @@ impl Journal {
     ///
     /// - `acknowledged`: whatever a stop leaves from now on, each whole line that was written is
     ///   kept.
+    /// - `refused`: there is an error only if a step failed, or lines were announced and not
+    ///   written.
     ///
     /// # Errors
     /// - [`AppendFault::File`]: `NoMemory` if the system says that memory ran out, and else `Io`;
@@ -142,6 +158,8 @@ impl Journal {
         ensures acknowledged { (first : StateDisk) (written line : List ℕ)
             → HasAsText self.old first written → HasWholeLine written line
             → OnOk result (AreFilesOf self.new first (λ disk. KeepsLine disk line)) }
+        ensures refused { OnErr result ((self.new.appending.stage ≡ Failed)
+            ⊎ (self.new.appending.stage ≡ Due WriteLines)) }
     {
         if sync_lines(&mut self.calls, at, &mut self.appending)? {
             Ok(())

@@ -1,6 +1,7 @@
 //! The lock of a state file.
 use crate::access::owner_only;
 use crate::file_names::lock_path;
+use crate::journal::StateAt;
 use crate::named_files::{foreign_file, found, is_plain_file, may_be_left_of};
 use crate::own_file::OwnFile;
 use command_exits::FileFault;
@@ -30,6 +31,15 @@ pub struct StateLock {
 }
 
 impl StateLock {
+    /// The place of the state at the path, which this lock is of.
+    pub fn at<'a, R>(&'a self, files: &'a R, path: &'a str) -> StateAt<'a, R> {
+        StateAt {
+            files,
+            lock: self,
+            path,
+        }
+    }
+
     /// What became of the file that is locked.
     ///
     /// # Errors

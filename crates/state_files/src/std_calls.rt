@@ -2,7 +2,7 @@
 //! was done. No contract says that a step does to the files what `state_steps` says of it: that is
 //! read here and in the files that are called, and shown by runs in which calls are refused and the
 //! program is killed. All else about the order of the steps is proved over whatever does them.
-ghost use Rattle.std.specs.Prelude.{◌≡◌};
+ghost use Rattle.std.specs.Prelude.{◌≡◌, []};
 ghost use Rattle.state_calls.specs.Logs.{noted_lines, noted_steps};
 
 use crate::file_names::sync_folder;
@@ -105,13 +105,23 @@ pub(crate) struct JournalCalls {
 
 impl JournalCalls {
     /// The journal with this name in this file, next to this state file.
-    pub(crate) fn new(file: OwnFile, name: String, state: SeenState) -> JournalCalls {
+    pub(crate) fn new(file: OwnFile, name: String, state: SeenState) -> JournalCalls
+        ensures { noted_lines result.appends ≡ [] }
+    {
         JournalCalls {
             file,
             name,
             state,
             appends: LineLog::new(),
         }
+    }
+
+    /// The journal has this file now: the account begins again.
+    pub(crate) fn begin_with(&mut self, file: OwnFile)
+        ensures { noted_lines self.new.appends ≡ [] }
+    {
+        self.file = file;
+        self.appends = LineLog::new();
     }
 
     /// The first of the lock, the journal and the state that is not as it was left, as [`lost_of`]
@@ -165,7 +175,7 @@ impl<'a, R: Files> LineCalls<StateAt<'a, R>, AppendStep, AppendFault> for Journa
     }
 }
 
-/// What takes a journal that was found: the path of the state file.
+/// What it takes to continue with a journal that was found: the path of the state file.
 #[derive(Drop)]
 pub(crate) struct ResumeWith<'a, R> {
     pub(crate) files: &'a R,

@@ -1,7 +1,9 @@
-use Rattle.std.proofs.Common.{false, true}
-use Rattle.state_steps.specs.Begins.{begin_change}
+use Rattle.std.specs.Prelude.{◌≢◌}
+use Rattle.std.proofs.Common.{◌≡◌, ◌≤◌, ◌∙◌, None, Some, ap, false, true, rules, subst, sym}
+use Rattle.state_steps.specs.declared.beginning.BeginStage.TheVariants.{Change}
+use Rattle.state_steps.specs.Begins.{begin_change, begin_steps_left}
 use Rattle.state_calls.specs.Tries.{MakesFiles, TriesKeep}
-use Rattle.state_calls.proofs.TryFacts.{no_try, one_try, writes_line}
+use Rattle.state_calls.proofs.TryFacts.{begin_due, no_try, not_passed, one_try, writes_line}
 use Rattle.state_calls.proofs.begins.begin.Goals as goal
 
 pub steps-init : goal.steps-init
@@ -12,6 +14,7 @@ steps-init g c = record {
     no_try (TriesKeep (MakesFiles texts) first line) (g.T.StepCalls.tried c.args.calls.now)
         (λ disk may. c.stops.ensures.begin texts c.args.beginning.now disk line (keeps disk may)),
   );
+  until = λ step is le. le;
 }
 
 pub steps-preserved : goal.steps-preserved
@@ -28,6 +31,14 @@ steps-preserved g c =
                 (tried c.try_begin.new.calls) c.in_ok-try_begin.ensures.tried until.1
                 (λ disk may. c.stops.ensures.begin texts c.try_begin.new.beginning disk line (keeps disk may)),
           );
+      until = λ step is le.
+          let differs : c.args.until ≢ Some c.in-Some-Change.step = (let eq = c.if-eq.ensures in search rules) in
+          let change = begin_due c.steps.beginning.stage c.in-Some-Change.step
+          (sym (ap Some c.in-Some-Change.field-0-is) ∙ c.in-Some-Change.ensures) in
+          let left = not_passed step c.in-Some-Change.step c.steps.beginning.stage (λ same. differs (is ∙ same)) change
+          (c.steps.invariant.until step is le) in
+          subst (λ count. begin_steps_left (Change step) ≤ count)
+          (sym (c.in_ok-try_begin.ensures.steps (λ none. let never : None ≡ Some c.in-Some-Change.step = sym none ∙ change in cc))) left;
     }
 
 pub returns-in_err-try_begin-clause-keeps : goal.returns-in_err-try_begin-clause-keeps

@@ -1,5 +1,7 @@
 -- The files are as they have to be for the next step, and no line was lost.
-use Rattle.std.proofs.Common.{ℕ, List}
+use Rattle.std.proofs.Common.{◌≡◌, ◌≤◌, ℕ, List, Some}
+use Rattle.state_steps.specs.declared.beginning.BeginStage.TheVariants.{Change}
+use Rattle.state_steps.specs.declared.file_step.FileStep.{FileStep}
 use Rattle.state_steps.specs.Begins.{BeginKeeps, IsBeginDueOn, begin_steps_left}
 use Rattle.state_steps.specs.Files.{HasWholeLine, StateDisk}
 use Rattle.state_steps.specs.Steps.{StateTexts}
@@ -16,6 +18,8 @@ invariant-steps g l = record {
       → HasWholeLine texts.snapshot line
       → AfterTries (MakesFiles texts) (g.T.StepCalls.tried l.calls) first (λ disk. BeginKeeps texts l.beginning disk line)
       × HoldsSince (TriesKeep (MakesFiles texts) first line) (g.T.StepCalls.tried l.fn.calls) (g.T.StepCalls.tried l.calls);
+  until : (step : FileStep) → l.until ≡ Some step → begin_steps_left (Change step) ≤ begin_steps_left l.fn.beginning.stage
+      → begin_steps_left (Change step) ≤ begin_steps_left l.beginning.stage;
 }
 
 abbrev pub decreases-steps : goal.decreases-steps
