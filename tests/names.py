@@ -53,8 +53,8 @@ COMMANDS = {"state_readers.rt": "what the commands share that show what is held"
             "state_writers.rt": "what the commands share that change what is held"}
 
 # The crates without contracts, and the most positional arguments that a relation of a public contract has.
-SHELL = ("fedbundle_cli", "subcommands", "command_faults", "command_streams", "replica_client", "replica_loop",
-         "replica_connections", "replica_events", "replica_sockets", "peer_talks")
+SHELL = ("fedbundle_cli", "subcommands", "replica_loop", "replica_connections", "replica_events", "replica_sockets",
+         "peer_talks")
 MOST_ARGUMENTS = 4
 
 # Relations with more: of private contracts until their crate was cut in two, and one whose plan its session has too.

@@ -156,7 +156,7 @@ SCRIPTS = [
     Script("rows/planted.py", "", BY_HAND, "rt", "", f"tests/rows/programs/simulation crates/bucket_sums crates/peer_talks {CORE}"),
     Script("system/calls.py", "", BY_HAND, "cc nm rt", "", f"{ROWS} {CORE}"),
     Script("system/calls.py", "all", BY_HAND, "cc nm rt", "", f"{ROWS} {CORE} crates/command_rows crates/floor_rows"),
-    Script("system/peers.py", "slow", BY_HAND, "", "", "crates/replica_client crates/replica_sync crates/replica_sockets"),
+    Script("system/peers.py", "slow", BY_HAND, "", "", "crates/subcommands crates/replica_sync crates/replica_sockets"),
     Script("system/refusals.py", "all", BY_HAND, "cc nm", "", "crates/state_* crates/command_* crates/subcommands"),
     Script("system/replica.py", "20 three status limits wait idle log descriptors slow crowd signal refusals folds", BY_HAND,
            "cc nm", "", REPLICA),

@@ -2,3 +2,4 @@ mod WordsFacts
 mod OptionTextFacts
 mod SessionsFacts
 mod KeyTextFacts
+mod NarrowFacts

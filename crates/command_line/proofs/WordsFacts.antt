@@ -4,7 +4,7 @@ use Rattle.std.proofs.Common.{get_or, drop, take, drop-cons, add-one, fold, Opti
 use Rattle.std.proofs.Common.{sym, ap, ◌∙◌, append_assoc, subst, inl, inr}
 use Rattle.std.proofs.lemmas.List.Folds.{list_all_at, list_all_more}
 use Rattle.std.specs.List.{list_all}
-use Rattle.clap.specs.Words.{HasKind, IsAmong, Row, Text, fault_of, is_simple, is_simple_and_free, kind_of, subcommand_of}
+use Rattle.clap.specs.Words.{HasKind, IsAmong, Row, Text, fault_of, kind_of, subcommand_of}
 use Rattle.clap.specs.declared.error.Error.{Error}
 use Rattle.clap.specs.declared.error.kind.ErrorKind.TheVariants.{OutOfMemory}
 use Rattle.command_line.specs.declared.command_name.CommandName.{CommandName}
@@ -80,10 +80,6 @@ plain_leaf command.Pull = refl
 plain_leaf command.Replica = refl
 plain_leaf command.Stop = refl
 
--- the command is a simple one: only for such a one clap's contract says what is read of arguments
-pub simple_command : is_simple the_command ≡ true
-simple_command = refl
-
 -- two things that are read of one match, as a pair
 abbrev pub both : {B : Type 0} → (B → Text) → (B → List Row) → B → Text × List Row
 both name rows b = (name b, rows b)
@@ -99,11 +95,6 @@ pub no_parts : {B : Type 0} (name : B → Text) (rows : B → List Row) (o : Opt
     → option_map (both name rows) o ≡ None
 no_parts name rows None e = refl
 no_parts name rows (Some b) e = absurd (cc)
-
--- no option has a rule on another: only for such a command clap's contract says at which arguments
--- it gives an error
-pub free_command : is_simple_and_free the_command ≡ true
-free_command = refl
 
 -- the text of each subcommand names it
 pub named_text : (name : CommandName) → named (name_text name) ≡ Some name

@@ -16,11 +16,14 @@ use Rattle.command_line.specs.declared.command_name.OptionName.TheVariants.{Most
 use Rattle.command_line.specs.declared.command_name.OptionName.TheVariants.{Wait}
 use Rattle.command_line.specs.declared.command_name.OptionName.TheVariants.{MostReceipts}
 use Rattle.command_line.specs.declared.command_name.OptionName.TheVariants.{MostRecords}
+use Rattle.command_line.specs.declared.command_name.OptionName.TheVariants.{ExpiresWithin}
+use Rattle.command_line.specs.declared.command_name.OptionName.TheVariants.{PeerQuiet}
 use Rattle.command_line.specs.declared.command_name.TakenOption.{TakenOption}
 use Rattle.command_line.specs.declared.option_error.OptionError.{OptionError}
 use Rattle.command_line.specs.declared.option_error.OptionError.TheVariants.{BadNumber}
 use Rattle.command_line.specs.declared.option_texts.Manner.{Manner}
 use Rattle.command_line.specs.declared.option_texts.MostHeld.{MostHeld}
+use Rattle.command_line.specs.declared.option_texts.WarnTimes.{WarnTimes}
 use Rattle.command_line.specs.declared.option_texts.BundleFormat.{BundleFormat}
 use Rattle.command_line.specs.declared.option_texts.BundleFormat.TheVariants.{Json, Pem}
 use Rattle.command_line.specs.declared.option_texts.OutputForm.{OutputForm}
@@ -158,3 +161,39 @@ SaysNoMostHeld name texts (BadNumber MostRecords) =
     ((n : ℕ) × SaysMostReceipts (option_said name texts MostReceipts) (Some n))
     × SaysMostRecords (option_said name texts MostRecords) None
 SaysNoMostHeld name texts error = ⊥
+
+-- ---- what a replica is warned of
+
+-- How many days before its end a certificate is warned of: 7, or up to a century.
+abbrev pub SaysDays : Option (List ℕ) → Option ℕ → Type 0
+SaysDays = SaysNumber 7 36525
+
+-- How many seconds a peer may be quiet: 600, or up to a year.
+abbrev pub SaysQuiet : Option (List ℕ) → Option ℕ → Type 0
+SaysQuiet = SaysNumber 600 31536000
+
+-- what the arguments say of when something is warned of
+pub record SaysWarnTimes (name : CommandName) (texts : List (Option (List ℕ)))
+    (times : WarnTimes) : Type 0 where
+  pub days : SaysDays (option_said name texts ExpiresWithin) (Some times.expires_within)
+  pub quiet : SaysQuiet (option_said name texts PeerQuiet) (Some times.peer_quiet)
+
+-- The days are not a number in their range; or they are one or are left out, and the seconds are
+-- not a number in their range.
+abbrev pub SaysNoWarnTimes : CommandName → List (Option (List ℕ)) → OptionError → Type 0
+SaysNoWarnTimes name texts (BadNumber ExpiresWithin) =
+    SaysDays (option_said name texts ExpiresWithin) None
+SaysNoWarnTimes name texts (BadNumber PeerQuiet) =
+    ((n : ℕ) × SaysDays (option_said name texts ExpiresWithin) (Some n))
+    × SaysQuiet (option_said name texts PeerQuiet) None
+SaysNoWarnTimes name texts error = ⊥
+
+-- ---- how often a replica pulls, and how many bytes it takes
+
+-- After how many seconds it pulls again: 60, or a number from 1 to a day.
+abbrev pub SaysEvery : Option (List ℕ) → Option ℕ → Type 0
+SaysEvery = SaysCount 60 86400
+
+-- How many bytes requests and their replies may have together: 512 MiB, or any number of 64 bits.
+abbrev pub SaysRequestBytes : Option (List ℕ) → Option ℕ → Type 0
+SaysRequestBytes = SaysNumber 536870912 18446744073709551615

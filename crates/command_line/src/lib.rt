@@ -16,9 +16,9 @@ pub use command_name::{CommandName, OptionName, TakenOption};
 pub use help_texts::VERSION;
 pub use option_error::OptionError;
 pub use option_texts::{
-    BundleFormat, ExplanationForm, Manner, MostHeld, OutputForm, count_given, given, is_flag_given,
-    limits_given, manner_of, number_given, read_bundle_format, read_explanation_form, read_key,
-    read_output_form, wanted,
+    BundleFormat, ExplanationForm, Manner, MostHeld, OutputForm, WarnTimes, every_given, given,
+    is_flag_given, limits_given, manner_of, read_bundle_format, read_explanation_form, read_key,
+    read_output_form, request_bytes_given, wanted, warn_times_given,
 };
 pub use sessions::read_sessions;
 pub use words::{Call, WordsError, command_of, read_request, read_words};

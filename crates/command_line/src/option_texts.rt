@@ -9,7 +9,11 @@ ghost use Rattle.command_line.specs.OptionTexts.{SaysBundleFormat, SaysExplanati
 ghost use Rattle.command_line.specs.OptionTexts.{SaysNoBundleFormat, option_said};
 ghost use Rattle.command_line.specs.OptionTexts.{SaysExplanationIn, SaysNoExplanationIn};
 ghost use Rattle.command_line.specs.OptionTexts.{SaysNoOutputForm, SaysOutputForm, said_with};
+ghost use Rattle.command_line.specs.OptionTexts.{SaysEvery, SaysNoWarnTimes, SaysRequestBytes};
+ghost use Rattle.command_line.specs.OptionTexts.{SaysWarnTimes};
 ghost use Rattle.command_line.specs.Words.{is_text};
+ghost use Rattle.command_line.specs.declared.command_name.OptionName.TheVariants.{Every};
+ghost use Rattle.command_line.specs.declared.command_name.OptionName.TheVariants.{MostRequestBytes};
 ghost use Rattle.command_line.specs.declared.option_error.OptionError.TheVariants.{BadKey};
 ghost use Rattle.command_line.specs.declared.option_error.OptionError.TheVariants.{BadNumber};
 ghost use Rattle.command_line.specs.declared.option_error.OptionError.TheVariants.{Usage};
@@ -37,6 +41,25 @@ const MOST_RECEIPTS: u64 = 4_194_304;
 const USUAL_RECORDS: u64 = 4_096;
 
 const MOST_RECORDS: u64 = 65_536;
+
+/// How many days before its end a certificate is warned of if nothing else is said, and at most.
+const EXPIRES_WITHIN: u64 = 7;
+
+const MAX_EXPIRES_WITHIN: u64 = 36_525;
+
+/// How many seconds a peer may be quiet if nothing else is said, and at most.
+const PEER_QUIET: u64 = 600;
+
+const MAX_PEER_QUIET: u64 = 31_536_000;
+
+/// How many seconds after a pull began the next one from that peer begins if nothing else is said,
+/// and at most.
+const EVERY_SECONDS: u64 = 60;
+
+const MAX_EVERY_SECONDS: u64 = 86_400;
+
+/// How many bytes requests and their replies may have together if nothing else is said.
+const REQUEST_BYTES: u64 = 536_870_912;
 
 /// How `bundle` writes a document.
 #[derive(Clone, Copy, Debug, PartialEq, Eq)]
@@ -86,6 +109,15 @@ pub struct MostHeld {
     pub receipts: u64,
     /// The most records of distrust.
     pub records: u64,
+}
+
+/// When something is warned of that is not wrong yet.
+#[derive(Clone, Copy, Debug, PartialEq, Eq)]
+pub struct WarnTimes {
+    /// How many days before its end a certificate is warned of.
+    pub expires_within: u64,
+    /// How many seconds a peer may be quiet.
+    pub peer_quiet: u64,
 }
 
 /// The text that the arguments give the option of this name, if they give it one.
@@ -185,51 +217,70 @@ pub fn limits_given(call: &Call<'_>) -> Result<MostHeld, OptionError>
     Ok(MostHeld { receipts, records })
 }
 
-/// The number of an option: that of its text, which is at most `most`, or `otherwise` if the
-/// arguments leave it out.
+/// What the arguments say of when something is warned of: 7 days before the end of a certificate,
+/// or the number of `--expires-within`, of at most 36,525; and after 600 quiet seconds of a peer,
+/// or the number of `--peer-quiet`, of at most 31,536,000.
 ///
 /// # Errors
-/// The text is not a number, or it is a greater one.
-pub fn number_given(
-    call: &Call<'_>,
-    option: OptionName,
-    otherwise: u64,
-    most: u64,
-) -> Result<u64, OptionError>
-    ensures ok { IfOk result (λ number. SaysNumber otherwise most
-        (option_said call.now.name (map (option_map (λ t. t.now)) call.now.texts.items) option)
-        (Some number)) }
-    ensures refused { IfErr result (λ error. (error ≡ BadNumber option) × SaysNumber otherwise most
-        (option_said call.now.name (map (option_map (λ t. t.now)) call.now.texts.items) option)
-        None) }
+/// A text is not a number, or a number out of its range.
+pub fn warn_times_given(call: &Call<'_>) -> Result<WarnTimes, OptionError>
+    ensures ok { IfOk result (SaysWarnTimes call.now.name
+        (map (option_map (λ t. t.now)) call.now.texts.items)) }
+    ensures refused { IfErr result (λ error. (option : OptionName) × (error ≡ BadNumber option)) }
+    ensures none { IfErr result (SaysNoWarnTimes call.now.name
+        (map (option_map (λ t. t.now)) call.now.texts.items)) }
 {
-    match number_up_to(given(call, option), otherwise, most) {
-        Some(number) => Ok(number),
-        None => Err(OptionError::BadNumber(option)),
+    let days = given(call, OptionName::ExpiresWithin);
+    let quiet = given(call, OptionName::PeerQuiet);
+    let Some(expires_within) = number_up_to(days, EXPIRES_WITHIN, MAX_EXPIRES_WITHIN) else {
+        return Err(OptionError::BadNumber(OptionName::ExpiresWithin));
+    };
+    let Some(peer_quiet) = number_up_to(quiet, PEER_QUIET, MAX_PEER_QUIET) else {
+        return Err(OptionError::BadNumber(OptionName::PeerQuiet));
+    };
+    Ok(WarnTimes {
+        expires_within,
+        peer_quiet,
+    })
+}
+
+/// How many seconds after a pull began the next one from that peer begins: 60, or the number of
+/// `--every`, from 1 to 86,400.
+///
+/// # Errors
+/// The text is not a number, or a number out of its range.
+pub fn every_given(call: &Call<'_>) -> Result<u64, OptionError>
+    ensures ok { IfOk result (λ seconds. SaysEvery (option_said call.now.name
+        (map (option_map (λ t. t.now)) call.now.texts.items) Every) (Some seconds)) }
+    ensures refused { IfErr result (λ error. (error ≡ BadNumber Every)
+        × SaysEvery (option_said call.now.name
+        (map (option_map (λ t. t.now)) call.now.texts.items) Every) None) }
+{
+    let every = given(call, OptionName::Every);
+    match count_up_to(every, EVERY_SECONDS, MAX_EVERY_SECONDS) {
+        Some(seconds) => Ok(seconds),
+        None => Err(OptionError::BadNumber(OptionName::Every)),
     }
 }
 
-/// The same for a number that is at least 1.
+/// How many bytes requests and their replies may have together: 536,870,912, or the number of
+/// `--most-request-bytes`.
 ///
 /// # Errors
-/// The text is not a number, or is one out of its range.
-pub fn count_given(
-    call: &Call<'_>,
-    option: OptionName,
-    otherwise: u64,
-    most: u64,
-) -> Result<u64, OptionError>
-    ensures ok { IfOk result (λ number. SaysCount otherwise most
-        (option_said call.now.name (map (option_map (λ t. t.now)) call.now.texts.items) option)
-        (Some number)) }
-    ensures refused { IfErr result (λ error. (error ≡ BadNumber option) × SaysCount otherwise most
-        (option_said call.now.name (map (option_map (λ t. t.now)) call.now.texts.items) option)
-        None) }
+/// The text is not a number of 64 bits.
+pub fn request_bytes_given(call: &Call<'_>) -> Result<u64, OptionError>
+    ensures ok { IfOk result (λ bytes. SaysRequestBytes (option_said call.now.name
+        (map (option_map (λ t. t.now)) call.now.texts.items) MostRequestBytes) (Some bytes)) }
+    ensures refused { IfErr result (λ error. (error ≡ BadNumber MostRequestBytes)
+        × SaysRequestBytes (option_said call.now.name
+        (map (option_map (λ t. t.now)) call.now.texts.items) MostRequestBytes) None) }
 {
-    match count_up_to(given(call, option), otherwise, most) {
-        Some(count) => Ok(count),
-        None => Err(OptionError::BadNumber(option)),
-    }
+    number_up_to(
+        given(call, OptionName::MostRequestBytes),
+        REQUEST_BYTES,
+        u64::MAX,
+    )
+    .ok_or(OptionError::BadNumber(OptionName::MostRequestBytes))
 }
 
 // The number of the text, or the other one if there is no text, if it is at least 1.

@@ -1,14 +1,14 @@
 //! Reads the arguments of the command line. `specs/Words` has the command as `clap` knows it.
-ghost use Rattle.std.specs.Prelude.{◌≡◌, ℕ, false, IfOk, IfSome, map, option_map};
+ghost use Rattle.std.specs.Prelude.{◌≡◌, ◌∷◌, ℕ, List, false, fold, IfOk, IfSome, map, option_map};
 ghost use Rattle.std.specs.List.{list_all};
-ghost use Rattle.clap.specs.Words.{app_of, found_of, kind_of, rule_of, rows_of};
+ghost use Rattle.clap.specs.Words.{Text, app_of, found_of, kind_of, rule_of, rows_of};
 ghost use Rattle.clap.specs.declared.error.kind.ErrorKind.TheVariants.{InvalidSubcommand};
 ghost use Rattle.clap.specs.declared.error.kind.ErrorKind.TheVariants.{OutOfMemory};
 ghost use Rattle.command_line.specs.Checks.{ReadsWords};
-ghost use Rattle.command_line.specs.Inside.WordsErrors.{KeepsKind, ParsesWords};
+ghost use Rattle.command_line.specs.Inside.WordsErrors.{KeepsKind, ParsesWords, ReadsAsAll};
 ghost use Rattle.command_line.specs.Words.{asks_running, given_taken, is_given, is_given_as};
 ghost use Rattle.command_line.specs.Words.{is_settled_in, leaf, name_text, named, rule_of_option};
-ghost use Rattle.command_line.specs.Words.{settled_at, the_command};
+ghost use Rattle.command_line.specs.Words.{bare_app, settled_at, the_command, with_name};
 ghost use Rattle.command_line.specs.declared.words.WordsError.TheVariants.{NoMemory};
 ghost use Rattle.command_line.specs.declared.words.WordsPlace.TheVariants.{CommandLine, Request};
 
@@ -111,7 +111,7 @@ fn parse_words<'a>(
 ) -> Result<Call<'a>, WordsError<'a>>
     ensures { ParsesWords place (map (λ w. w.now) words.now) result }
 {
-    let Ok(command) = command(alloc) else {
+    let Ok(command) = command_for(alloc, words) else {
         return Err(WordsError::NoMemory);
     };
     let matches = match command.try_get_matches_from(words) {
@@ -169,22 +169,55 @@ fn name_all(alloc: Global, error: &clap::Error) -> Result<clap::Error, AllocErro
         message.push_str(" ")?;
         message.push_str(name.text())?;
     }
-    command(alloc)?.error(ErrorKind::InvalidSubcommand, message.as_str())
+    whole_command(alloc)?.error(ErrorKind::InvalidSubcommand, message.as_str())
 }
 
-fn command<'a>(alloc: Global) -> Result<Command<'a>, AllocError>
+// The whole command, or only the subcommand with whose name the arguments begin: the others are not
+// looked at then, and to make them would take most of the time.
+fn command_for<'a>(alloc: Global, words: &[&str]) -> Result<Command<'a>, AllocError>
+    ensures { IfOk result (λ c. ReadsAsAll (map (λ w. w.now) words.now) (app_of c)) }
+{
+    match first_name(words) {
+        Some(name) => command_with(alloc, &[name]),
+        None => whole_command(alloc),
+    }
+}
+
+fn whole_command<'a>(alloc: Global) -> Result<Command<'a>, AllocError>
     ensures { IfOk result (λ c. app_of c ≡ the_command) }
 {
-    let mut command = Command::new(alloc, "fedbundle")
+    command_with(alloc, COMMANDS.as_slice())
+}
+
+fn first_name(words: &[&str]) -> Option<CommandName>
+    ensures { IfSome result (λ name. (rest : List Text) × (map (λ w. w.now) words.now
+        ≡ name_text name ∷ rest)) }
+{
+    match words {
+        [first, ..] => command_of(first),
+        [] => None,
+    }
+}
+
+fn command_with<'a>(alloc: Global, names: &[CommandName]) -> Result<Command<'a>, AllocError>
+    ensures { IfOk result (λ c. app_of c ≡ fold with_name bare_app names.now) }
+{
+    let mut command = bare_command(alloc);
+    'names: for &name in names {
+        command = command.subcommand(subcommand(alloc, name)?)?;
+    }
+    Ok(command)
+}
+
+fn bare_command<'a>(alloc: Global) -> Command<'a>
+    ensures { app_of result ≡ bare_app }
+{
+    Command::new(alloc, "fedbundle")
         .version(help_texts::VERSION)
         .about("Holds the federated trust bundles of one replica")
         .override_usage(help_texts::USAGE)
         .after_help(help_texts::NOTES)
-        .no_binary_name(true);
-    'names: for &name in COMMANDS.as_slice() {
-        command = command.subcommand(subcommand(alloc, name)?)?;
-    }
-    Ok(command)
+        .no_binary_name(true)
 }
 
 fn subcommand<'a>(alloc: Global, name: CommandName) -> Result<Command<'a>, AllocError>

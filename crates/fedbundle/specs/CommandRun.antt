@@ -1,6 +1,6 @@
 -- What a run of a command does to its devices and to what is held, in the terms that the promises
 -- of all commands share.
-use Rattle.std.specs.Prelude.{◌≡◌, ℕ, ◌+◌, List, Option, Bool, true}
+use Rattle.std.specs.Prelude.{◌≡◌, ℕ, ◌+◌, List}
 use Rattle.std.specs.Io.KnownBytes.{Appends, IsAtEnd}
 use Rattle.byte_lines.specs.Device.{TakesUpTo, AppendsBeginning}
 use Rattle.bundle_doc.specs.Bundle.{Bundle, IsDocument, document_limit}

@@ -34,7 +34,8 @@ use Rattle.fedbundle.specs.Distrust.{ShowsDistrust}
 use Rattle.fedbundle.specs.Explain.{RunsExplain, explanation_call}
 use Rattle.command_line.specs.OptionTexts.{SaysBundleFormat, SaysExplanationIn, SaysOutputForm}
 use Rattle.command_line.specs.OptionTexts.{SaysNoBundleFormat, SaysNoExplanationIn}
-use Rattle.command_line.specs.OptionTexts.{SaysFlag, SaysNoOutputForm, SaysNumber, option_said}
+use Rattle.command_line.specs.OptionTexts.{SaysFlag, SaysNoOutputForm, option_said}
+use Rattle.command_line.specs.OptionTexts.{SaysNoWarnTimes, SaysWarnTimes}
 use Rattle.fedbundle.specs.OptionValues.{SaysBadMoment, SaysMoment, SaysNoStatusFormat}
 use Rattle.fedbundle.specs.OptionValues.{SaysStatusFormat}
 use Rattle.fedbundle.specs.Polls.{ReadsLog, RefusesLines, RefusesLog, RunsPollsIn, polls_call}
@@ -46,12 +47,14 @@ use Rattle.command_line.specs.declared.command_name.CommandName.TheVariants as c
 use Rattle.command_line.specs.declared.command_name.OptionName.{OptionName}
 use Rattle.command_line.specs.declared.command_name.OptionName.TheVariants.{Domain, Format, Keys}
 use Rattle.command_line.specs.declared.command_name.OptionName.TheVariants.{Now, Short}
-use Rattle.command_line.specs.declared.command_name.OptionName.TheVariants.{ExpiresWithin, Polls}
-use Rattle.command_line.specs.declared.command_name.OptionName.TheVariants.{PeerQuiet}
+use Rattle.command_line.specs.declared.command_name.OptionName.TheVariants.{Polls}
+use Rattle.command_line.specs.declared.option_error.OptionError.{OptionError}
+use Rattle.command_line.specs.declared.option_texts.WarnTimes.{WarnTimes}
 use Rattle.command_exits.specs.declared.error.CommandError.{CommandError}
 use Rattle.command_exits.specs.declared.error.CommandError.TheVariants.{Io, NoMemory, Poll}
 use Rattle.command_exits.specs.declared.exits.Exit.{Exit}
-use Rattle.command_exits.specs.declared.exits.Exit.TheVariants.{BadMoment, BadNumber, NoBundle}
+use Rattle.command_exits.specs.Exits.{exit_of_option}
+use Rattle.command_exits.specs.declared.exits.Exit.TheVariants.{BadMoment, NoBundle}
 use Rattle.command_exits.specs.declared.exits.Exit.TheVariants.{NotAccepted}
 use Rattle.command_exits.specs.declared.exits.Exit.TheVariants.{Refused, Usage}
 use Rattle.command_line.specs.declared.option_texts.BundleFormat.{BundleFormat}
@@ -150,16 +153,16 @@ abbrev pub EndsAtSecond : Option (List ℕ) → Exit → Type 0
 EndsAtSecond None exit = ⊥
 EndsAtSecond (Some text) exit = ReadsSeconds text None × (exit ≡ BadMoment)
 
-abbrev pub SaysDays : Option (List ℕ) → Option ℕ → Type 0
-SaysDays = SaysNumber 7 36525
-
-abbrev pub SaysQuiet : Option (List ℕ) → Option ℕ → Type 0
-SaysQuiet = SaysNumber 600 31536000
+-- They say no times of which something is warned.
+pub record EndsAtTimes (name : CommandName) (texts : List (Option (List ℕ)))
+    (exit : Exit) : Type 0 where
+  pub error : OptionError
+  pub none : SaysNoWarnTimes name texts error
+  pub is : exit ≡ exit_of_option error
 
 abbrev pub EndsAtLimits : CommandName → List (Option (List ℕ)) → Exit → Type 0
-EndsAtLimits name texts exit = EndsAtSecond (second_said name texts) exit
-    ⊎ (((exit ≡ BadNumber ExpiresWithin) × SaysDays (option_said name texts ExpiresWithin) None)
-    ⊎ ((exit ≡ BadNumber PeerQuiet) × SaysQuiet (option_said name texts PeerQuiet) None))
+EndsAtLimits name texts exit =
+    EndsAtSecond (second_said name texts) exit ⊎ EndsAtTimes name texts exit
 
 abbrev pub EndsAtStatus : ShownCall → Exit → Type 0
 EndsAtStatus call exit = ((exit ≡ Usage) × SaysNoStatusFormat (shown_said call Format))
@@ -202,13 +205,17 @@ abbrev pub SaysSecond : ℤ → Option (List ℕ) → ℤ → Type 0
 SaysSecond otherwise None second = second ≡ otherwise
 SaysSecond otherwise (Some text) second = ReadsSeconds text (Some second)
 
--- A certificate is warned of 7 days before its end, and a peer after 10 quiet minutes, if the
--- arguments do not say otherwise.
+abbrev pub times_of : WarnLimits → WarnTimes
+times_of limits = record {
+  expires_within = limits.expires_within;
+  peer_quiet = limits.peer_quiet;
+}
+
+-- By which limits is warned: the arguments say that, and the other second if they say none.
 pub record SaysLimits (moment : ℤ) (name : CommandName) (texts : List (Option (List ℕ)))
     (limits : WarnLimits) : Type 0 where
   pub second : SaysSecond moment (second_said name texts) limits.moment
-  pub days : SaysDays (option_said name texts ExpiresWithin) (Some limits.expires_within)
-  pub quiet : SaysQuiet (option_said name texts PeerQuiet) (Some limits.peer_quiet)
+  pub times : SaysWarnTimes name texts (times_of limits)
 
 -- what is held, the limits, what a running replica says of itself, and how that is written
 pub record StatusSight : Type 0 where

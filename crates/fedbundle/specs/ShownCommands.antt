@@ -3,12 +3,9 @@
 use Rattle.std.specs.Prelude.{◌≡◌, ◌≢◌, ◌↔◌, ◌⊎◌, ℕ, ◌++◌, List, [], length, codes, decimal, Bool}
 use Rattle.std.specs.Prelude.{true, false, Option, Some, None}
 use Rattle.std.specs.Prelude.{Result, Ok, Err, IfOk, IsTrue, if◌then◌else◌}
-use Rattle.byte_lines.specs.Device.{TakesUpTo}
 use Rattle.config_view.specs.ConfigJson.{IsConfigJson}
 use Rattle.config_view.specs.ConfigText.{IsConfigDifference, IsConfigText}
 use Rattle.fed_config.specs.Configuration.{Configuration, config_id_of}
-use Rattle.fed_config.specs.Reading.{IsConfig, RefusesConfigBytes}
-use Rattle.fed_config.specs.declared.error.ConfigError.{ConfigError}
 use Rattle.migration.specs.declared.carrying.Choice.{Choice}
 use Rattle.migration.specs.declared.carrying.Choice.TheVariants.{All, RecordsOnly as OnlyRecords}
 use Rattle.receipt_core.specs.Acceptance.{Meaning}
@@ -39,7 +36,7 @@ use Rattle.fedbundle.specs.Shown.{IsUntouched, RefusesUnread, RefusesUnwritten, 
 use Rattle.fedbundle.specs.Shown.{SaysChosen, ShownCall, ShowsBy, exit_if_done, shown_said}
 use Rattle.command_exits.specs.ConfigSource.{ReadsConfig}
 use Rattle.command_exits.specs.declared.error.CommandError.{CommandError}
-use Rattle.command_exits.specs.declared.error.CommandError.TheVariants.{Config, Io, NoMemory, Sync}
+use Rattle.command_exits.specs.declared.error.CommandError.TheVariants.{Io, NoMemory, Sync}
 use Rattle.command_exits.specs.declared.exits.Exit.{Exit}
 use Rattle.command_exits.specs.declared.exits.Exit.TheVariants.{Refused, Usage}
 

@@ -39,8 +39,8 @@ pub use command_exits::{
 pub use command_line::{
     BundleFormat, Call, CommandName, ExplanationForm, Manner, MostHeld, OptionError, OptionName,
     OutputForm, WordsError, command_of, given, is_flag_given, limits_given, manner_of,
-    number_given, read_bundle_format, read_explanation_form, read_key, read_output_form,
-    read_request, read_sessions, read_words, wanted,
+    read_bundle_format, read_explanation_form, read_key, read_output_form, read_request,
+    read_sessions, read_words, wanted,
 };
 pub use counts::write_counted;
 pub use distrust::{distrusted_text, run_distrust, show_distrust};

@@ -14,21 +14,11 @@ use crate::shown::Shown;
 use byte_lines::{Sink, Source};
 use closure_core::Closure;
 use command_exits::{CommandError, Exit};
-use command_line::{Call, OptionName, given, number_given};
+use command_line::{Call, OptionName, given, warn_times_given};
 use poll_log::{PollLog, read_polls, read_seconds};
 use status_view::{RunningStatus, StatusFormat};
 use status_warnings::{Fetch, WarnLimits, Watch, fetches_of, write_warned_status};
 use std::alloc::Global;
-
-/// How many days before its end `status` warns of a certificate, and how many may be said.
-const EXPIRES_WITHIN: u64 = 7;
-
-const MOST_DAYS: u64 = 36_525;
-
-/// How many seconds a peer may be quiet before `status` warns of it, and how many may be said.
-const PEER_QUIET: u64 = 600;
-
-const MOST_QUIET: u64 = 31_536_000;
 
 /// What is looked at in addition to what is held and how domains are fetched, and how that is
 /// written.
@@ -67,10 +57,12 @@ fn limits_of(call: &Call<'_>, moment: i64) -> Result<WarnLimits, Exit>
     ensures ok { IfOk result (SaysLimits moment call.now.name (texts_of_call call.now)) }
     ensures refused { IfErr result (EndsAtLimits call.now.name (texts_of_call call.now)) }
 {
+    let moment = second_of(call, moment)?;
+    let times = warn_times_given(call)?;
     Ok(WarnLimits {
-        moment: second_of(call, moment)?,
-        expires_within: number_given(call, OptionName::ExpiresWithin, EXPIRES_WITHIN, MOST_DAYS)?,
-        peer_quiet: number_given(call, OptionName::PeerQuiet, PEER_QUIET, MOST_QUIET)?,
+        moment,
+        expires_within: times.expires_within,
+        peer_quiet: times.peer_quiet,
     })
 }
 

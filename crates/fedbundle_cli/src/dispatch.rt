@@ -2,12 +2,12 @@
 // (`replica`), or it carries out the command with its own files and streams (`subcommands`).
 use crate::replica_settings;
 use command_exits::{CommandError, Exit};
-use command_faults::{end_without_call, status_of};
 use command_line::{Call, CommandName, OptionName, WordsError, given, manner_of, read_words};
-use command_streams::options::config_of;
-use command_streams::{print_clap, texts_of, words_of_process};
-use replica_client::ask_running;
 use subcommands::carry_out_here;
+use subcommands::faults::{end_without_call, status_of};
+use subcommands::process::options::config_of;
+use subcommands::process::{print_clap, texts_of, words_of_process};
+use subcommands::replica_client::ask_running;
 
 /// What the arguments ask for, done: the exit status 0, or 1 if an input was refused and the rest
 /// is done.

@@ -7,8 +7,8 @@ mod dispatch;
 mod replica_settings;
 
 use command_exits::{CommandError, Exit};
-use command_streams::{ClosedStreams, print_exit};
 use std::process::ExitCode;
+use subcommands::process::{ClosedStreams, print_exit};
 
 fn main(rt: HostRuntime) -> ExitCode {
     let ended = match run(&rt) {

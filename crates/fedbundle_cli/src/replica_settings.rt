@@ -1,38 +1,18 @@
 // `replica`: what the arguments say of it, read, and the replica run.
 use command_exits::{CommandError, Exit};
 use command_line::{
-    Call, OptionError, OptionName, VERSION, count_given, given, is_flag_given, manner_of,
-    number_given, wanted,
+    Call, OptionName, VERSION, every_given, given, is_flag_given, manner_of, request_bytes_given,
+    wanted, warn_times_given,
 };
-use command_streams::options::may_listen;
-use command_streams::{options, progress_mode, warn_of_anywhere};
 use fed_config::Config;
-use local_answers::PageLimits;
 use progress_line::ProgressMode;
 use replica_loop::{Settings, run_replica};
 use state_files::GivenConfigs;
 use std::alloc::Global;
 use std::net::SocketAddr;
 use std::time::Duration;
-
-/// How many seconds after a pull began the next one from that peer begins if nothing else is said,
-/// and at most.
-const EVERY_SECONDS: u64 = 60;
-
-const MAX_EVERY_SECONDS: u64 = 86_400;
-
-/// How many bytes requests and their replies may have together if nothing else is said.
-const MOST_REQUEST_BYTES: u64 = 536_870_912;
-
-/// How many days before its end the pages warn of a certificate, and how many seconds a peer may be
-/// quiet, if nothing else is said; and at most.
-const EXPIRES_WITHIN: u64 = 7;
-
-const MAX_EXPIRES_WITHIN: u64 = 36_525;
-
-const PEER_QUIET: u64 = 600;
-
-const MAX_PEER_QUIET: u64 = 31_536_000;
+use subcommands::process::options::may_listen;
+use subcommands::process::{options, progress_mode, warn_of_anywhere};
 
 /// From how many replicas one pulls at most.
 const MOST_PEERS: usize = 16;
@@ -87,12 +67,12 @@ fn settings_of<'a, 'p>(
         listen: listen_of(call)?,
         health: health_of(call)?,
         health_names: lists.names.as_slice(),
-        page_limits: page_limits_of(call)?,
+        warn_times: warn_times_given(call)?,
         version: first_line(VERSION),
         peers: lists.peers.as_slice(),
-        every: Duration::from_secs(every_of(call)?),
+        every: Duration::from_secs(every_given(call)?),
         most_bytes: manner.most_bytes,
-        most_request_bytes: request_bytes_of(call)?,
+        most_request_bytes: request_bytes_given(call)?,
         is_new: is_flag_given(given(call, OptionName::New)),
         is_verbose: manner.is_verbose,
         progress,
@@ -123,24 +103,6 @@ fn health_of(call: &Call<'_>) -> Result<Option<SocketAddr>, Exit> {
     } else {
         Err(Exit::BadAddress)
     }
-}
-
-fn page_limits_of(call: &Call<'_>) -> Result<PageLimits, Exit> {
-    let days = OptionName::ExpiresWithin;
-    let seconds = OptionName::PeerQuiet;
-    Ok(PageLimits {
-        expires_within: number_given(call, days, EXPIRES_WITHIN, MAX_EXPIRES_WITHIN)?,
-        peer_quiet: number_given(call, seconds, PEER_QUIET, MAX_PEER_QUIET)?,
-    })
-}
-
-fn every_of(call: &Call<'_>) -> Result<u64, OptionError> {
-    count_given(call, OptionName::Every, EVERY_SECONDS, MAX_EVERY_SECONDS)
-}
-
-fn request_bytes_of(call: &Call<'_>) -> Result<u64, OptionError> {
-    let option = OptionName::MostRequestBytes;
-    number_given(call, option, MOST_REQUEST_BYTES, u64::MAX)
 }
 
 fn peers_of(alloc: Global, text: Option<&str>) -> Result<Vec<SocketAddr>, Exit> {

@@ -6,25 +6,27 @@ use Rattle.std.specs.List.{list_all, starts_with}
 use Rattle.std.specs.Char.{is_ascii_digit, is_ascii_lowercase}
 use Rattle.std.specs.Str.{bytes_eq}
 use Rattle.health_pages.specs.declared.asked_page.AskedPage.{AskedPage}
+use Rattle.health_pages.specs.declared.asked_page.FixedPage.TheVariants.{Index, Style, Script, Live}
+use Rattle.health_pages.specs.declared.asked_page.HeldPage.TheVariants.{Metrics, Status, Report}
+use Rattle.health_pages.specs.declared.asked_page.HeldPage.TheVariants.{Keys, Graph}
 use Rattle.health_pages.specs.declared.asked_page.Page.{Page}
-use Rattle.health_pages.specs.declared.asked_page.Page.TheVariants.{Index, Style, Script, Metrics}
-use Rattle.health_pages.specs.declared.asked_page.Page.TheVariants.{Live, Ready, Status, Report}
-use Rattle.health_pages.specs.declared.asked_page.Page.TheVariants.{Keys, Graph}
+use Rattle.health_pages.specs.declared.asked_page.Page.TheVariants.{Fixed, Ready, Held}
 
 abbrev pub page_path : Page → List ℕ
-page_path Index = codes "/"
-page_path Style = codes "/page.css"
-page_path Script = codes "/page.js"
-page_path Metrics = codes "/metrics"
-page_path Live = codes "/live"
+page_path (Fixed Index) = codes "/"
+page_path (Fixed Style) = codes "/page.css"
+page_path (Fixed Script) = codes "/page.js"
+page_path (Fixed Live) = codes "/live"
 page_path Ready = codes "/ready"
-page_path Status = codes "/status.json"
-page_path Report = codes "/report.json"
-page_path Keys = codes "/keys.json"
-page_path Graph = codes "/graph.dot"
+page_path (Held Metrics) = codes "/metrics"
+page_path (Held Status) = codes "/status.json"
+page_path (Held Report) = codes "/report.json"
+page_path (Held Keys) = codes "/keys.json"
+page_path (Held Graph) = codes "/graph.dot"
 
 abbrev pub all_pages : List Page
-all_pages = Index ∷ Style ∷ Script ∷ Metrics ∷ Live ∷ Ready ∷ Status ∷ Report ∷ Keys ∷ Graph ∷ []
+all_pages = Fixed Index ∷ Fixed Style ∷ Fixed Script ∷ Held Metrics ∷ Fixed Live ∷ Ready
+    ∷ Held Status ∷ Held Report ∷ Held Keys ∷ Held Graph ∷ []
 
 -- the page whose path it is
 abbrev pub page_of : List ℕ → Option Page
@@ -45,7 +47,7 @@ domain_prefix = codes "/graph.dot?domain="
 
 -- the graph of the domain that the bytes are, if they are a name
 abbrev pub graph_of : List ℕ → Option (Page × Option (List ℕ))
-graph_of name = if is_name name then Some (Graph, Some name) else None
+graph_of name = if is_name name then Some (Held Graph, Some name) else None
 
 abbrev pub graph_at : List ℕ → Option (Page × Option (List ℕ))
 graph_at target = if starts_with nat_eq target domain_prefix

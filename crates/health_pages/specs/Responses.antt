@@ -1,7 +1,9 @@
 -- A response as bytes (RFC 9112, section 4)
 use Rattle.std.specs.Prelude.{ℕ, List, [], ◌++◌, Bool, codes, decimal, if◌then◌else◌, length}
-use Rattle.health_pages.specs.declared.asked_page.Page.{Page}
-use Rattle.health_pages.specs.declared.asked_page.Page.TheVariants as page
+use Rattle.health_pages.specs.declared.asked_page.FixedPage.{FixedPage}
+use Rattle.health_pages.specs.declared.asked_page.FixedPage.TheVariants as fixed
+use Rattle.health_pages.specs.declared.asked_page.HeldPage.{HeldPage}
+use Rattle.health_pages.specs.declared.asked_page.HeldPage.TheVariants as held
 use Rattle.health_pages.specs.declared.asked_page.PageFault.{PageFault}
 use Rattle.health_pages.specs.declared.asked_page.PageFault.TheVariants as fault
 use Rattle.health_pages.specs.declared.response.ContentType.{ContentType}
@@ -105,14 +107,15 @@ page_fault_text fault.BadHost = codes "host not named by --health-host\n"
 
 -- ---- what the pages are
 
-abbrev pub page_type : Page → ContentType
-page_type page.Index = Html
-page_type page.Style = Style
-page_type page.Script = Script
-page_type page.Metrics = Metrics
-page_type page.Live = Text
-page_type page.Ready = Text
-page_type page.Status = Json
-page_type page.Report = Json
-page_type page.Keys = Json
-page_type page.Graph = Graph
+abbrev pub fixed_type : FixedPage → ContentType
+fixed_type fixed.Index = Html
+fixed_type fixed.Style = Style
+fixed_type fixed.Script = Script
+fixed_type fixed.Live = Text
+
+abbrev pub held_type : HeldPage → ContentType
+held_type held.Metrics = Metrics
+held_type held.Status = Json
+held_type held.Report = Json
+held_type held.Keys = Json
+held_type held.Graph = Graph

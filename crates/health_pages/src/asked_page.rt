@@ -7,36 +7,48 @@ ghost use Rattle.health_pages.specs.Pages.{is_name_byte, page_at, page_of, page_
 use std::alloc::{AllocError, Global};
 use std::str;
 
-/// What can be asked for.
+/// A page that never changes.
 #[derive(Clone, Copy, Debug, PartialEq, Eq)]
-pub enum Page {
+pub enum FixedPage {
     /// The page for people, its style and its script.
     Index,
     Style,
     Script,
-    /// What is measured, in the text format of Prometheus.
-    Metrics,
     /// Whether the replica runs.
     Live,
-    /// Whether a peer hears it, if it has peers.
-    Ready,
+}
+
+/// A page that shows what is held.
+#[derive(Clone, Copy, Debug, PartialEq, Eq)]
+pub enum HeldPage {
+    /// What is measured, in the text format of Prometheus.
+    Metrics,
     Status,
     Report,
     Keys,
     Graph,
 }
 
+/// What can be asked for.
+#[derive(Clone, Copy, Debug, PartialEq, Eq)]
+pub enum Page {
+    Fixed(FixedPage),
+    /// Whether a peer hears it, if it has peers.
+    Ready,
+    Held(HeldPage),
+}
+
 static PAGES: [Page; 10] = [
-    Page::Index,
-    Page::Style,
-    Page::Script,
-    Page::Metrics,
-    Page::Live,
+    Page::Fixed(FixedPage::Index),
+    Page::Fixed(FixedPage::Style),
+    Page::Fixed(FixedPage::Script),
+    Page::Held(HeldPage::Metrics),
+    Page::Fixed(FixedPage::Live),
     Page::Ready,
-    Page::Status,
-    Page::Report,
-    Page::Keys,
-    Page::Graph,
+    Page::Held(HeldPage::Status),
+    Page::Held(HeldPage::Report),
+    Page::Held(HeldPage::Keys),
+    Page::Held(HeldPage::Graph),
 ];
 
 /// What comes before the domain in the target of its graph.
@@ -48,16 +60,16 @@ impl Page {
         ensures { result.now ≡ page_path self }
     {
         match self {
-            Page::Index => "/",
-            Page::Style => "/page.css",
-            Page::Script => "/page.js",
-            Page::Metrics => "/metrics",
-            Page::Live => "/live",
+            Page::Fixed(FixedPage::Index) => "/",
+            Page::Fixed(FixedPage::Style) => "/page.css",
+            Page::Fixed(FixedPage::Script) => "/page.js",
+            Page::Held(HeldPage::Metrics) => "/metrics",
+            Page::Fixed(FixedPage::Live) => "/live",
             Page::Ready => "/ready",
-            Page::Status => "/status.json",
-            Page::Report => "/report.json",
-            Page::Keys => "/keys.json",
-            Page::Graph => "/graph.dot",
+            Page::Held(HeldPage::Status) => "/status.json",
+            Page::Held(HeldPage::Report) => "/report.json",
+            Page::Held(HeldPage::Keys) => "/keys.json",
+            Page::Held(HeldPage::Graph) => "/graph.dot",
         }
     }
 }
@@ -144,7 +156,7 @@ fn graph_of(alloc: Global, name: &[u8]) -> Result<Option<AskedPage>, AllocError>
     }
     match str::from_utf8(name) {
         Ok(name) => Ok(Some(AskedPage {
-            page: Page::Graph,
+            page: Page::Held(HeldPage::Graph),
             domain: Some(String::from_str(alloc, name)?),
         })),
         Err(_) => Ok(None),

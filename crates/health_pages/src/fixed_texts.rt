@@ -1,38 +1,48 @@
 //! Bodies that never change.
-ghost use Rattle.std.specs.Prelude.{◌≡◌, option_map};
+ghost use Rattle.std.specs.Prelude.{◌≡◌};
 ghost use Rattle.health_pages.specs.FixedTexts.{fixed_text};
-ghost use Rattle.health_pages.specs.Responses.{fault_status, page_fault_text, page_type};
+ghost use Rattle.health_pages.specs.Responses.{fault_status, fixed_type, held_type};
+ghost use Rattle.health_pages.specs.Responses.{page_fault_text};
 
-use crate::asked_page::{Page, PageFault};
+use crate::asked_page::{FixedPage, HeldPage, PageFault};
 use crate::page_files::{INDEX_HTML, PAGE_CSS, PAGE_JS};
 use crate::response::{ContentType, ResponseStatus};
 
 /// The body of a page that never changes.
-pub fn fixed_text<'a>(page: Page) -> Option<&'a str>
-    ensures { option_map (λ text. text.now) result ≡ fixed_text page }
+pub fn fixed_text<'a>(page: FixedPage) -> &'a str
+    ensures { result.now ≡ fixed_text page }
 {
     match page {
-        Page::Index => Some(INDEX_HTML),
-        Page::Style => Some(PAGE_CSS),
-        Page::Script => Some(PAGE_JS),
-        Page::Live => Some("live\n"),
-        _ => None,
+        FixedPage::Index => INDEX_HTML,
+        FixedPage::Style => PAGE_CSS,
+        FixedPage::Script => PAGE_JS,
+        FixedPage::Live => "live\n",
     }
 }
 
-impl Page {
+impl FixedPage {
     /// What the body of the page is.
     pub fn content_type(self) -> ContentType
-        ensures { result ≡ page_type self }
+        ensures { result ≡ fixed_type self }
     {
         match self {
-            Page::Index => ContentType::Html,
-            Page::Style => ContentType::Style,
-            Page::Script => ContentType::Script,
-            Page::Metrics => ContentType::Metrics,
-            Page::Live | Page::Ready => ContentType::Text,
-            Page::Status | Page::Report | Page::Keys => ContentType::Json,
-            Page::Graph => ContentType::Graph,
+            FixedPage::Index => ContentType::Html,
+            FixedPage::Style => ContentType::Style,
+            FixedPage::Script => ContentType::Script,
+            FixedPage::Live => ContentType::Text,
+        }
+    }
+}
+
+impl HeldPage {
+    /// What the body of the page is.
+    pub fn content_type(self) -> ContentType
+        ensures { result ≡ held_type self }
+    {
+        match self {
+            HeldPage::Metrics => ContentType::Metrics,
+            HeldPage::Status | HeldPage::Report | HeldPage::Keys => ContentType::Json,
+            HeldPage::Graph => ContentType::Graph,
         }
     }
 }

@@ -22,7 +22,7 @@ mod page_files;
 mod response;
 mod response_sending;
 
-pub use asked_page::{AskedPage, Page, PageFault};
+pub use asked_page::{AskedPage, FixedPage, HeldPage, Page, PageFault};
 pub use fixed_responses::{crowd_response, memory_response};
 pub use fixed_texts::fixed_text;
 pub use head_bytes::HeadBytes;

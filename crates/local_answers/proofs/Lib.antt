@@ -9,4 +9,3 @@ mod ChangingFacts
 mod ChangeEventFacts
 mod PieceEventFacts
 mod LookFacts
-mod PageFacts

@@ -1,14 +1,14 @@
 -- The first request of a stream by its places, and the requests after it.
-use Rattle.std.proofs.Common.{◌≡◌, ◌≢◌, ℕ, zero, suc, ◌+◌, ◌-◌, ◌<◌, ◌≤◌, List, [], ◌∷◌, ◌++◌}
-use Rattle.std.proofs.Common.{length, take, drop, map, string_bytes, codes, Option, None, Some, get_or, drop-cons, add-one, unwrap_or}
+use Rattle.std.proofs.Common.{◌≡◌, ℕ, suc, ◌+◌, ◌-◌, ◌<◌, ◌≤◌, List, [], ◌∷◌, ◌++◌}
+use Rattle.std.proofs.Common.{length, take, drop, map, string_bytes, codes, get_or, drop-cons, add-one, unwrap_or}
 use Rattle.std.proofs.Common.{inl, inr, refl, sym, ap, ap₂, ◌∙◌, subst, append_assoc, length-append, length-take, length-drop, arith}
 use Rattle.std.proofs.Math.Seq.{take-append_seam, drop-append_seam}
 use Rattle.std.proofs.lemmas.List.{append-nil, take-append-drop}
-use Rattle.serde_json.specs.Data.{Data, null, boolean, number, string, array, object, Items, no_items, item}
+use Rattle.serde_json.specs.Data.{Data, string, array, Items, no_items, item}
 use Rattle.serde_json.specs.View.{items_of}
 use Rattle.byte_lines.specs.Lines.{HasNoFeed}
-use Rattle.byte_lines.specs.Ahead.{AtFeed, IsFeed}
-use Rattle.request_lines.specs.RequestLines.{IsOfWords, IsRequestLine, RefusesInput, RefusesLine, SaysInput, SaysWords, request_limit, words_value}
+use Rattle.byte_lines.specs.Ahead.{IsFeed}
+use Rattle.request_lines.specs.RequestLines.{IsOfWords, IsRequestLine, RefusesInput, RefusesLine, SaysInput, SaysWords, words_value}
 use Rattle.request_lines.specs.declared.request_error.RequestError.{RequestError}
 use Rattle.request_lines.specs.declared.request_error.RequestError.TheVariants.{TooLong, BadLine}
 use Rattle.request_lines.specs.declared.request_error.RequestError.TheVariants as line_error
@@ -17,7 +17,7 @@ use Rattle.request_lines.specs.declared.request_line.InputEnd.TheVariants.{Bytes
 use Rattle.request_lines.proofs.CountedFacts.{one_counted}
 use Rattle.local_answers.specs.Replies.{words_fault}
 use Rattle.local_answers.specs.RequestStream.{Asking, AwaitsBytes, EndsInput, GivesAll, GivesFirst}
-use Rattle.local_answers.specs.RequestStream.{HasFirst, LacksInput, GivesNoRequest, SplitsInto, input_limit}
+use Rattle.local_answers.specs.RequestStream.{HasFirst, GivesNoRequest, SplitsInto, input_limit}
 use Rattle.local_answers.specs.Inside.StreamSteps.{AwaitsInput, AwaitsLine, HasInput, IsAtPlaces, RefusesCountOf, RefusesLength}
 use Rattle.local_answers.specs.declared.request_fault.RequestFault.{RequestFault}
 use Rattle.local_answers.specs.declared.request_fault.RequestFault.TheVariants.{WordsTooLong, InputTooLong, NoWords}

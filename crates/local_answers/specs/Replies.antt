@@ -1,5 +1,5 @@
 -- What is sent back: a first line, standard output and standard error.
-use Rattle.std.specs.Prelude.{◌≡◌, ℕ, List, codes, length}
+use Rattle.std.specs.Prelude.{ℕ, List, codes, length}
 use Rattle.request_lines.specs.RequestLines.{reply_line}
 use Rattle.request_lines.specs.declared.request_error.RequestError.{RequestError}
 use Rattle.request_lines.specs.declared.request_error.RequestError.TheVariants.{TooLong, BadLine}

@@ -9,8 +9,8 @@
 //! and the second what is replied. `looking` answers at a socket at which nothing can be changed. A
 //! change is journalled by `new_lines`. `reply` is what is sent back, and `reply_sending` says
 //! when. `call_words` is for clients. `page_answers` has the pages of the address for health and
-//! metrics, with what `page_source` has in addition to what is held, and `readiness` says whether a
-//! peer is heard.
+//! metrics: those that show what is held are in `held_pages`, with what `page_source` has in
+//! addition to it, and `readiness` says whether a peer is heard.
 #![tactic(auto)]
 
 mod asked;
@@ -19,6 +19,7 @@ mod carrying_out;
 mod changing_calls;
 mod changing_replies;
 mod fallen_counts;
+mod held_pages;
 pub mod laws;
 mod looking;
 mod new_lines;
@@ -35,7 +36,7 @@ pub use call_words::request_words;
 pub use carrying_out::answer_request;
 pub use looking::answer_look;
 pub use page_answers::answer_page;
-pub use page_source::{PageLimits, PageSource};
+pub use page_source::PageSource;
 pub use reply::Reply;
 pub use reply_sending::Sending;
 pub use request_fault::RequestFault;

@@ -1,15 +1,7 @@
 //! What pages are made of in addition to what is held, and what comes of it.
+use command_line::WarnTimes;
 use health_pages::{ContentType, LoopCounts, ResponseStatus};
 use status_view::RunningStatus;
-
-/// By which limits pages warn.
-#[derive(Clone, Copy, Debug, PartialEq, Eq)]
-pub struct PageLimits {
-    /// How many days before its end a certificate is warned of.
-    pub expires_within: u64,
-    /// How many seconds a peer may be quiet.
-    pub peer_quiet: u64,
-}
 
 /// What pages show in addition to what is held.
 #[derive(Clone, Copy, Debug)]
@@ -20,7 +12,8 @@ pub struct PageSource<'a> {
     pub counts: LoopCounts,
     /// The version of the program.
     pub version: &'a str,
-    pub limits: PageLimits,
+    /// When pages warn.
+    pub warn_times: WarnTimes,
 }
 
 /// The parts of a response.

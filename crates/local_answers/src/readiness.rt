@@ -72,12 +72,13 @@ fn quiet_warnings(alloc: Global, source: &PageSource<'_>) -> Result<Vec<Warning>
     find_warnings(alloc, &warn_limits(source), &seen)
 }
 
-fn warn_limits(source: &PageSource<'_>) -> WarnLimits
+/// By which limits a page warns.
+pub(crate) fn warn_limits(source: &PageSource<'_>) -> WarnLimits
     ensures { result ≡ warn_limits source.now }
 {
     WarnLimits {
         moment: source.running.moment,
-        expires_within: source.limits.expires_within,
-        peer_quiet: source.limits.peer_quiet,
+        expires_within: source.warn_times.expires_within,
+        peer_quiet: source.warn_times.peer_quiet,
     }
 }

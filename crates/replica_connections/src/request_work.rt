@@ -20,8 +20,8 @@ pub(crate) fn work_of(words: &[String]) -> Work {
 /// What a request for this page is.
 pub(crate) fn work_of_page(page: Page) -> Work {
     match page {
-        Page::Index | Page::Style | Page::Script | Page::Live | Page::Ready => Work::Short,
-        Page::Metrics | Page::Status | Page::Report | Page::Keys | Page::Graph => Work::Long,
+        Page::Fixed(_) | Page::Ready => Work::Short,
+        Page::Held(_) => Work::Long,
     }
 }
 

@@ -1,5 +1,5 @@
 //! What the arguments say of a replica.
-use local_answers::PageLimits;
+use command_line::WarnTimes;
 use progress_line::ProgressMode;
 use replica_sockets::ListenPlaces;
 use std::net::SocketAddr;
@@ -22,8 +22,8 @@ pub struct Settings<'a, 'p> {
     pub health: Option<SocketAddr>,
     /// The names by which that may be asked.
     pub health_names: &'p [&'a str],
-    /// By which limits these warn.
-    pub page_limits: PageLimits,
+    /// When these warn.
+    pub warn_times: WarnTimes,
     /// The version of the program, which they show.
     pub version: &'static str,
     /// From which replicas this one pulls.

@@ -8,10 +8,11 @@ use crate::turn_counts::TurnCounts;
 use change_view::NewEntries;
 use closure_core::Closure;
 use command_exits::{Exit, FileFault, Step};
+use command_line::WarnTimes;
 use fair_turns::Work;
 use fed_config::ConfigId;
 use health_pages::LoopCounts;
-use local_answers::{PageLimits, PageSource};
+use local_answers::PageSource;
 use mio::Events;
 use mio::net::TcpStream;
 use peer_talks::{
@@ -74,7 +75,7 @@ pub(crate) struct RunningReplica {
     // since.
     has_reported: bool,
     counts: TurnCounts,
-    page_limits: PageLimits,
+    warn_times: WarnTimes,
     version: &'static str,
 }
 
@@ -115,7 +116,7 @@ impl RunningReplica {
             ends_at: None,
             has_reported: false,
             counts: TurnCounts::new(began),
-            page_limits: settings.page_limits,
+            warn_times: settings.warn_times,
             version: settings.version,
         })
     }
@@ -374,7 +375,7 @@ impl RunningReplica {
         let around = Surroundings {
             now: self.now,
             room: self.table.room(),
-            pages: page_source(running, counts, self.version, self.page_limits),
+            pages: page_source(running, counts, self.version, self.warn_times),
             page_names: names,
         };
         self.table.carry_out(rt, alloc, held, &around, work);
@@ -519,13 +520,13 @@ fn page_source<'a>(
     running: RunningStatus<'a>,
     counts: LoopCounts,
     version: &'a str,
-    limits: PageLimits,
+    warn_times: WarnTimes,
 ) -> PageSource<'a> {
     PageSource {
         running,
         counts,
         version,
-        limits,
+        warn_times,
     }
 }
 

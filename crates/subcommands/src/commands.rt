@@ -14,10 +14,10 @@ mod serve;
 mod state_readers;
 mod state_writers;
 
+use crate::process::options::config_of;
 use closure_core::Closure;
 use command_exits::Exit;
 use command_line::{Call, CommandName, OptionName, given, is_flag_given};
-use command_streams::options::config_of;
 use fed_config::Config;
 use trust_closure::{ExchangeClosure, IndexedClosure};
 

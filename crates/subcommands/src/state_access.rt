@@ -1,11 +1,11 @@
 //! The state file as the commands use it: its lock, which is waited for within a limit, what it
 //! holds, and how much may be added to that.
+use crate::process::{error_lines, is_verbose_unasked, progress_mode};
 use closure_core::Closure;
 use command_exits::{CommandError, Exit, Step};
 use command_line::{
     Call, CommandName, Manner, OptionName, given, is_flag_given, manner_of, wanted,
 };
-use command_streams::{error_lines, is_verbose_unasked, progress_mode};
 use fed_config::Config;
 use state_files::{
     StateLock, has_journal, is_marked, load_state, save_state, state_bytes, try_lock_state,

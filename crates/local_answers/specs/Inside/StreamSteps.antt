@@ -3,7 +3,7 @@ use Rattle.std.specs.Prelude.{◌≡◌, ℕ, ◌+◌, ◌<◌, ◌≤◌, List,
 use Rattle.request_lines.specs.RequestLines.{SaysWords, request_limit}
 use Rattle.request_lines.specs.declared.request_line.InputEnd.{InputEnd}
 use Rattle.request_lines.specs.declared.request_line.InputEnd.TheVariants.{Bytes, Stream}
-use Rattle.local_answers.specs.RequestStream.{FirstParts, HasFirst, LacksInput, PassesInput}
+use Rattle.local_answers.specs.RequestStream.{HasFirst, LacksInput, PassesInput}
 use Rattle.local_answers.specs.RequestStream.{input_limit}
 use Rattle.local_answers.specs.declared.request_fault.RequestFault.{RequestFault}
 use Rattle.local_answers.specs.declared.request_fault.RequestFault.TheVariants.{InputTooLong}

@@ -1,9 +1,9 @@
 //! `canon`: a bundle in its canonical form.
 use crate::commands::observe::read_bundle;
+use crate::faults::status_of_bundle;
+use crate::process::output;
 use command_exits::Exit;
-use command_faults::status_of_bundle;
 use command_line::{Call, OptionName, OutputForm, given, read_output_form, wanted};
-use command_streams::output;
 use fedbundle::{read_domain, run_canon_bytes};
 use spiffe_name::TrustDomain;
 

@@ -1,7 +1,7 @@
 //! `config`: what a configuration says, or in what two differ.
+use crate::process::{input, options, output};
 use command_exits::Exit;
 use command_line::{Call, OptionName, given};
-use command_streams::{input, options, output};
 use fed_config::Config;
 use fedbundle::run_config;
 

@@ -1,9 +1,9 @@
 //! `diff`: what only one of two state files holds, printed.
+use crate::process::output;
 use crate::state_access::{StateAccess, leave, load, state_access_of};
 use closure_core::Closure;
 use command_exits::Exit;
 use command_line::{Call, OptionName, wanted};
-use command_streams::output;
 use fed_config::Config;
 use fedbundle::run_diff;
 

@@ -1,9 +1,9 @@
 //! `distrust`: records of distrust, made, for one key or for each known key with a public key.
 use crate::commands::state_writers::{Coming, change};
+use crate::process::line_errors;
 use closure_core::Closure;
 use command_exits::Exit;
 use command_line::{Call, OptionName, given, manner_of};
-use command_streams::line_errors;
 use fed_config::Config;
 use fedbundle::{Keeper, distrusted_text, read_given_keys, run_distrust, show_distrust};
 

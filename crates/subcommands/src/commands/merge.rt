@@ -1,12 +1,12 @@
 //! `merge`: what another replica holds, taken.
 use crate::commands::state_writers::{Coming, change};
 use crate::limited_reader::LimitedReader;
+use crate::process::progress_mode;
 use crate::state_access::{leave, room_left, state_access_of};
 use byte_lines::FromRead;
 use closure_core::Closure;
 use command_exits::{CommandError, Exit};
 use command_line::Call;
-use command_streams::progress_mode;
 use fed_config::Config;
 use progress_line::{LongWork, WatchedReader, WorkProgress};
 use replica_sync::read_snapshot;

@@ -1,12 +1,12 @@
 //! `observe`: a bundle as it was fetched, taken.
 use crate::commands::state_writers::{Coming, change};
+use crate::faults::status_of_bundle;
+use crate::process::{input, output};
 use bundle_doc::MAX_DOCUMENT_BYTES;
 use byte_lines::{FromRead, read_up_to};
 use closure_core::Closure;
 use command_exits::{CommandError, Exit};
-use command_faults::status_of_bundle;
 use command_line::{Call, OptionName, wanted};
-use command_streams::{input, output};
 use fed_config::Config;
 use fedbundle::{read_domain, read_verdict, run_observe};
 

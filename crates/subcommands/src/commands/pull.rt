@@ -3,15 +3,15 @@
 //! buckets. With `--sums` it begins with sums, and asks about those that differ; a peer that does
 //! not know sums is then asked about all, on a second connection.
 use crate::connection::{Connection, connect};
+use crate::faults::status_of;
 use crate::limited_reader::LimitedReader;
+use crate::process::{options, output_line, progress_mode};
 use crate::state_access::{StateAccess, leave, load, lock, room_left, save, state_access_of};
 use bucket_sums::{QuietPulling, SummedClosure, pull_quietly};
 use byte_lines::{FromRead, FromWrite};
 use closure_core::Closure;
 use command_exits::{CommandError, Exit, Step};
-use command_faults::status_of;
 use command_line::{Call, OptionName, given, is_flag_given, wanted};
-use command_streams::{options, output_line, progress_mode};
 use fed_config::Config;
 use fedbundle::{run_pull, write_counted};
 use progress_line::{LongWork, WatchedReader, WorkProgress};

@@ -1,9 +1,9 @@
 //! `report` of lines: what a replica that took the receipts accepts.
+use crate::process::{input, line_errors, output};
 use crate::state_access::leave;
 use closure_core::Closure;
 use command_exits::{CommandError, Exit};
 use command_line::{Call, OptionName, given, read_output_form};
-use command_streams::{input, line_errors, output};
 use fed_config::Config;
 use fedbundle::run_report_into;
 

@@ -2,16 +2,16 @@
 //! address, and opens the socket before a session begins.
 use crate::connection::{Connection, accept, listen};
 use crate::open_line::{LineReader, OpenLine};
+use crate::process::options::config_of;
+use crate::process::{
+    error_lines, options, output_line, print_exit, progress_mode, warn_of_anywhere,
+};
 use crate::state_access::{load, state_access_of};
 use bucket_sums::{SummedClosure, serve_quietly};
 use byte_lines::{FromRead, FromWrite};
 use closure_core::Closure;
 use command_exits::{CommandError, Exit};
 use command_line::{Call, OptionName, wanted};
-use command_streams::options::config_of;
-use command_streams::{
-    error_lines, options, output_line, print_exit, progress_mode, warn_of_anywhere,
-};
 use fed_config::Config;
 use fedbundle::write_served;
 use progress_line::{LongWork, WatchedWriter, WorkProgress};

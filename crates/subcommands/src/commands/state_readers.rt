@@ -1,12 +1,12 @@
 //! The subcommands that show what a state file holds, and write no file: they take no lock. The
 //! replica is made and given back in one place, and each command only borrows it.
 use crate::commands::diff;
+use crate::process::{input, line_errors, options, output_progress_mode};
 use crate::state_access::{leave, load, state_access_of};
 use byte_lines::{FromWrite, Source};
 use closure_core::Closure;
 use command_exits::Exit;
 use command_line::{Call, CommandName, OptionName, given};
-use command_streams::{input, line_errors, options, output_progress_mode};
 use fed_config::Config;
 use fedbundle::{Shown, run_shown};
 use progress_line::{LongWork, ProgressMode, WatchedWriter, WorkProgress};

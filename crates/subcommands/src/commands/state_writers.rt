@@ -2,12 +2,12 @@
 //! the state is taken, and an error of that is reported after those of the lock, the state and the
 //! options. The replica is made and given back in one place, and each command only borrows it.
 use crate::commands::{distrust, observe};
+use crate::process::{output, output_line};
 use crate::state_access::{leave, load, lock, save, state_access_of};
 use byte_lines::write_all;
 use closure_core::Closure;
 use command_exits::{CommandError, Exit};
 use command_line::Call;
-use command_streams::{output, output_line};
 use fed_config::Config;
 use fedbundle::take_other;
 

@@ -1,4 +1,4 @@
-use Rattle.std.proofs.Common.{ℕ, ◌+◌, ◌-◌, drop, length, subst, take}
+use Rattle.std.proofs.Common.{◌+◌, ◌-◌, drop, length, subst, take}
 use Rattle.std.proofs.lemmas.Result.{err_from_is_err_and}
 use Rattle.std.specs.Prelude.{MatchOption}
 use Rattle.local_answers.specs.Inside.StreamSteps.{AwaitsInput, HasInput, RefusesLength}
