@@ -86,6 +86,8 @@ ALL_PIECES = [("read", 1, "pieces", 0), ("write", 1, "pieces", 0)]
 MOST_BYTES = 20_000
 
 TELLS_MEMORY = re.compile(rb"fedbundle: (.* )?(E2|N6|B8|C9|G4|V2|P3|S10) NoMemory( taken [0-9]+)?\n\Z")
+UNSAID = b"fedbundle: no memory to say what changes\n"
+BAD_NAME = re.compile(rb"fedbundle: N[0-9]+ [A-Za-z]+\n")
 TELLS_DEVICE = re.compile(rb"fedbundle: (.* )?(E3|V1|P6|S9) Io( taken [0-9]+)?\n\Z")
 
 
@@ -102,27 +104,55 @@ def tells_faults(seen):
     return len(lines) > 1 and all(map(max, memory, device)) and seen.status == (4 if any(memory) else 3)
 
 
+def without_more(text):
+    """Standard error without the lines that explain an error, which follow it after two spaces if they can be had."""
+    return b"".join(line for line in text.splitlines(keepends=True) if not line.startswith(b"  "))
+
+
+def shows_effect(run):
+    """Whether standard error has what a distrust changes. That it cannot be said keeps no key from being distrusted."""
+    return run.words[:1] == ["distrust"] and "--verbose" in run.words
+
+
+def errors_of(run, whole):
+    """What may stand on standard error: what the run without a refusal writes there, or if that shows what a distrust changes,
+    a line that there is no memory for it."""
+    return [without_more(whole.err)] + [UNSAID] * shows_effect(run)
+
+
+def reads_arguments_first(run, seen):
+    """Whether an observe ends for one of its arguments, which it reads before its input."""
+    return run.words[:1] == ["observe"] and seen.status == 1 and BAD_NAME.match(seen.err)
+
+
 def answers(run, seen, whole, fault):
     """Whether status and standard error are an answer that this refusal may have."""
     kind, number, how, error = fault
-    same = seen.answer() == whole.answer()
+    err, right = without_more(seen.err), errors_of(run, whole)
+    same = (seen.status, seen.out, seen.state) == (whole.status, whole.out, whole.state) and err in right
     if not seen.met or how in ("piece", "pieces"):
         return same
     # A pull that cannot write its sums continues without them, on another connection.
     if run.name == "sessions/pull" and kind == "write" and number == 1 and how != "lasting" and same:
         return True
-    if run.steps and tells_faults(seen):
+    if (run.steps and tells_faults(seen)) or (kind == "read" and reads_arguments_first(run, seen)):
         return True
-    last = last_line(seen.err)
-    before_last = seen.err[: len(seen.err) - len(last)]
-    tells_memory = seen.status == 4 and TELLS_MEMORY.match(last) and whole.err.startswith(before_last)
-    tells_device = seen.status == 3 and TELLS_DEVICE.match(last) and whole.err.startswith(before_last)
+    # A line that explains an error is left out if it cannot be had.
+    if same and seen.err != whole.err:
+        return True
+    if kind == "write" and how != "lasting" and seen.descriptor == 2 and shows_effect(run):
+        if (seen.status, seen.out, seen.state) == (whole.status, whole.out, whole.state) and right[0].startswith(err):
+            return True
+    last = last_line(err)
+    begins = any(text.startswith(err[: len(err) - len(last)]) for text in right)
+    tells_memory = seen.status == 4 and TELLS_MEMORY.match(last) and begins
+    tells_device = seen.status == 3 and TELLS_DEVICE.match(last) and begins
     if kind == "alloc":
         return same or tells_memory
     if kind == "close" and same:
         return True
     if kind == "write" and (how == "lasting" or seen.descriptor == 2):
-        return seen.status == 3 and whole.err.startswith(TELLS_DEVICE.sub(b"", seen.err))
+        return seen.status == 3 and any(text.startswith(TELLS_DEVICE.sub(b"", err)) for text in right)
     if error == errno.ENOMEM and kind in TELLING_MEMORY:
         return tells_memory
     return tells_device or (error == errno.ENOMEM and tells_memory)

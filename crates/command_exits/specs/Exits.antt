@@ -37,7 +37,7 @@ IsExitLine (EmptyPath option) line = line ≡ codes "fedbundle: usage\n"
 IsExitLine (BadNumber option) line = line ≡ codes "fedbundle: usage\n"
 IsExitLine BadKey line = line ≡ codes "fedbundle: bad key\n"
 IsExitLine BadMoment line = line ≡ codes "fedbundle: bad moment\n"
-IsExitLine BadAddress line = line ≡ codes "fedbundle: bad address\n"
+IsExitLine (BadAddress option) line = line ≡ codes "fedbundle: bad address\n"
 IsExitLine NoBundle line = line ≡ codes "fedbundle: no current bundle\n"
 IsExitLine NotAccepted line = line ≡ codes "fedbundle: not accepted\n"
 IsExitLine NoKnownKey line = line ≡ codes "fedbundle: no known key\n"
@@ -62,4 +62,5 @@ abbrev pub exit_of_option : OptionError → Exit
 exit_of_option unread.Usage = Usage
 exit_of_option (unread.BadNumber name) = BadNumber name
 exit_of_option unread.BadKey = BadKey
+exit_of_option (unread.BadAddress name) = BadAddress name
 exit_of_option (unread.EmptyPath name) = EmptyPath name

@@ -28,9 +28,10 @@ pub enum Exit {
     BadKey,
     /// `--now` is not a time.
     BadMoment,
-    /// `--listen`, `--peer` or one of `--peers` is not the address of a socket, or has port 0
-    /// although others have to know the port; or a name of `--health-host` is empty or has a port.
-    BadAddress,
+    /// `--listen`, `--health`, `--peer` or one of `--peers` is not the address of a socket, or has
+    /// port 0 although others have to know the port, or a replica may not listen there; or a name
+    /// of `--health-host` is empty or has a port.
+    BadAddress(OptionName),
     /// The domain has no current bundle.
     NoBundle,
     /// The document is not accepted.
@@ -114,7 +115,7 @@ pub fn exit_status(exit: &Exit) -> u8
 {
     match exit {
         Exit::Usage | Exit::EmptyPath(_) | Exit::BadNumber(_) => 2,
-        Exit::BadKey | Exit::BadMoment | Exit::BadAddress => 1,
+        Exit::BadKey | Exit::BadMoment | Exit::BadAddress(_) => 1,
         Exit::NoBundle | Exit::NotAccepted | Exit::NoKnownKey | Exit::TooManyBytes => 1,
         Exit::Locked | Exit::ReplicaRuns | Exit::SocketTaken => 3,
         Exit::NoReplica | Exit::NoReply => 3,
@@ -135,7 +136,7 @@ pub fn write_exit<W: Sink>(exit: &Exit, sink: &mut W) -> Result<(), CommandError
         Exit::Usage | Exit::EmptyPath(_) | Exit::BadNumber(_) => b"fedbundle: usage\n",
         Exit::BadKey => b"fedbundle: bad key\n",
         Exit::BadMoment => b"fedbundle: bad moment\n",
-        Exit::BadAddress => b"fedbundle: bad address\n",
+        Exit::BadAddress(_) => b"fedbundle: bad address\n",
         Exit::NoBundle => b"fedbundle: no current bundle\n",
         Exit::NotAccepted => b"fedbundle: not accepted\n",
         Exit::NoKnownKey => b"fedbundle: no known key\n",
@@ -171,6 +172,7 @@ impl From<OptionError> for Exit {
             OptionError::Usage => Exit::Usage,
             OptionError::BadNumber(option) => Exit::BadNumber(option),
             OptionError::BadKey => Exit::BadKey,
+            OptionError::BadAddress(option) => Exit::BadAddress(option),
             OptionError::EmptyPath(option) => Exit::EmptyPath(option),
         }
     }

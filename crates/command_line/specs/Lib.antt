@@ -3,6 +3,7 @@
 pub mod OptionRows
 pub mod Words
 pub mod OptionTexts
+pub mod Addresses
 pub mod Checks
 pub mod Sessions
 pub mod Inside

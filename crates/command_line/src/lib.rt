@@ -3,6 +3,7 @@
 //! what the texts of options say.
 #![tactic(auto)]
 
+mod addresses;
 mod checks;
 mod command_name;
 mod help_texts;
@@ -12,6 +13,7 @@ mod option_texts;
 mod sessions;
 mod words;
 
+pub use addresses::{health_given, listen_given, may_listen, read_address, read_known_address};
 pub use command_name::{CommandName, OptionName, TakenOption};
 pub use help_texts::VERSION;
 pub use option_error::OptionError;

@@ -13,4 +13,6 @@ pub enum OptionError {
     EmptyPath(OptionName),
     /// The text of `--key` is not 64 lower-case hexadecimal digits.
     BadKey,
+    /// The text is not that of an address, or a replica may not listen there.
+    BadAddress(OptionName),
 }

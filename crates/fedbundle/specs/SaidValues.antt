@@ -38,7 +38,18 @@ pub record SaysVerdict (name : CommandName) (texts : List (Option (List ℕ)))
   pub key : option_said name texts Key ≡ Some digits
   pub is_key : IsKeyText digits verdict.key
 
+-- A domain is chosen by its name, if there is one.
+abbrev pub SaysChosen : (text chosen : Option (List ℕ)) → Type 0
+SaysChosen None chosen = chosen ≡ None
+SaysChosen (Some text) chosen = (chosen ≡ Some text) × IsDomainText text
+
 -- ---- arguments that say none
+
+-- The name is not that of a domain.
+abbrev pub SaysNoName : (text : Option (List ℕ)) → Exit → Type 0
+SaysNoName None exit = ⊥
+SaysNoName (Some text) exit = (why : NameError) × (exit ≡ Refused (Name why))
+    × RefusesDomain text why
 
 -- The arguments leave out this option, which the command needs.
 pub record EndsWithout (option : OptionName) (name : CommandName)

@@ -2,7 +2,7 @@
 -- sink gets that, or the arguments or the command's function refuse it.
 use Rattle.std.specs.Prelude.{◌≡◌, ◌⊎◌, ℕ, ℤ, List, [], Bool, true, false, Option, Some, None}
 use Rattle.std.specs.Prelude.{Result, Ok, Err, IfOk, if◌then◌else◌, option_map}
-use Rattle.spiffe_name.specs.TrustDomain.{IsDomainText, RefusesDomain}
+use Rattle.spiffe_name.specs.TrustDomain.{IsDomainText}
 use Rattle.receipt_core.specs.Acceptance.{Meaning}
 use Rattle.bundle_view.specs.Report.{IsReport}
 use Rattle.json_reports.specs.ReportJson.{IsReportJson}
@@ -40,7 +40,8 @@ use Rattle.fedbundle.specs.OptionValues.{SaysBadMoment, SaysMoment, SaysNoStatus
 use Rattle.fedbundle.specs.OptionValues.{SaysStatusFormat}
 use Rattle.fedbundle.specs.Polls.{ReadsLog, RefusesLines, RefusesLog, RunsPollsIn, polls_call}
 use Rattle.fedbundle.specs.SaidKeys.{KeysCall, SaysKeys, SaysNoKeys}
-use Rattle.fedbundle.specs.SaidValues.{EndsAtDomain, EndsAtName, EndsWithout, texts_of_call}
+use Rattle.fedbundle.specs.SaidValues.{EndsAtDomain, EndsWithout, SaysChosen, SaysNoName}
+use Rattle.fedbundle.specs.SaidValues.{texts_of_call}
 use Rattle.command_line.specs.declared.option_texts.ExplanationForm.{ExplanationForm}
 use Rattle.command_line.specs.declared.command_name.CommandName.{CommandName}
 use Rattle.command_line.specs.declared.command_name.CommandName.TheVariants as command
@@ -126,7 +127,7 @@ EndsAtReport call exit = (exit ≡ Usage) × SaysNoOutputForm (shown_said call F
 
 -- those of `list` and of `graph` a domain that is not a name,
 abbrev pub EndsAtChosen : CommandName → List (Option (List ℕ)) → Exit → Type 0
-EndsAtChosen name texts exit = EndsAtName RefusesDomain Domain name texts exit
+EndsAtChosen name texts exit = SaysNoName (chosen_said name texts) exit
 
 -- and those of `list` no form,
 abbrev pub EndsAtList : ShownCall → Exit → Type 0
@@ -320,10 +321,6 @@ pub record ShowsPollsSaid (call : ShownCall) (run : CommandRun)
   pub is : result ≡ exit_if_done answer
 
 -- what is held, or the keys, in the form that they say; of the domain that they choose
-abbrev pub SaysChosen : Option (List ℕ) → Option (List ℕ) → Type 0
-SaysChosen None chosen = chosen ≡ None
-SaysChosen (Some text) chosen = (chosen ≡ Some text) × IsDomainText text
-
 pub record ShowsListSaid (call : ShownCall) (sink : DeviceRun)
     (result : Result ℕ Exit) : Type 0 where
   pub form : OutputForm

@@ -18,7 +18,6 @@ use Rattle.reseeding.specs.declared.new_floors.FloorChoice.{FloorChoice}
 use Rattle.reseeding.specs.declared.new_floors.FloorChoice.TheVariants.{Kept, Raised}
 use Rattle.reseeding.specs.declared.new_start.Reseeded.{Reseeded}
 use Rattle.reseeding.specs.declared.new_start.Reseeded.TheVariants.{Refusals, Seeded}
-use Rattle.spiffe_name.specs.TrustDomain.{RefusesDomain}
 use Rattle.command_line.specs.OptionTexts.{SaysFlag, SaysNoOutputForm, SaysOutputForm, option_said}
 use Rattle.command_line.specs.declared.command_name.CommandName.{CommandName}
 use Rattle.command_line.specs.declared.command_name.CommandName.TheVariants as command
@@ -31,9 +30,9 @@ use Rattle.fedbundle.specs.CommandRun.{CommandRun, CutsOff, IsReadOut}
 use Rattle.command_exits.specs.DeviceRuns.{DeviceRun, HasFailed}
 use Rattle.fedbundle.specs.CommandRun.{IsAsSound, PrintsText}
 use Rattle.fedbundle.specs.Migrate.{Move, RunsMigrate, move_to}
-use Rattle.fedbundle.specs.SaidValues.{EndsAtName, EndsWithout}
+use Rattle.fedbundle.specs.SaidValues.{EndsWithout, SaysChosen, SaysNoName}
 use Rattle.fedbundle.specs.Shown.{IsUntouched, RefusesUnread, RefusesUnwritten, RunsWriter}
-use Rattle.fedbundle.specs.Shown.{SaysChosen, ShownCall, ShowsBy, exit_if_done, shown_said}
+use Rattle.fedbundle.specs.Shown.{ShownCall, ShowsBy, exit_if_done, shown_said}
 use Rattle.command_exits.specs.ConfigSource.{ReadsConfig}
 use Rattle.command_exits.specs.declared.error.CommandError.{CommandError}
 use Rattle.command_exits.specs.declared.error.CommandError.TheVariants.{Io, NoMemory, Sync}
@@ -211,7 +210,7 @@ allowed_said name texts = option_said name texts Allow
 
 -- The domain that the arguments allow is not a name.
 abbrev pub EndsAtAllowed : CommandName → List (Option (List ℕ)) → Exit → Type 0
-EndsAtAllowed name texts exit = EndsAtName RefusesDomain Allow name texts exit
+EndsAtAllowed name texts exit = SaysNoName (allowed_said name texts) exit
 
 -- by the flag for floors
 abbrev pub SaysFloorChoice : Option (List ℕ) → FloorChoice → Type 0

@@ -54,7 +54,7 @@ pub use polls::run_polls_in;
 pub use pull::run_pull;
 pub use report::{run_report, run_report_into, run_report_with};
 pub use said_keys::{Keeper, read_given_keys};
-pub use said_values::{read_domain, read_verdict};
+pub use said_values::{read_chosen, read_domain, read_verdict};
 pub use serve::{run_serve, write_served};
 pub use shown::{Shown, run_shown};
 pub use shown_config::run_config;

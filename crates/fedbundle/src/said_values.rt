@@ -1,10 +1,10 @@
 //! The values that the texts of options say, read.
-ghost use Rattle.std.specs.Prelude.{◌≡◌, IfErr, IfOk};
+ghost use Rattle.std.specs.Prelude.{◌≡◌, IfErr, IfOk, option_map};
 ghost use Rattle.spiffe_name.specs.SpiffeId.{IsId, RefusesId};
 ghost use Rattle.spiffe_name.specs.TrustDomain.{IsDomainText, RefusesDomain};
 ghost use Rattle.spiffe_name.specs.declared.error.NameError.{NameError};
 ghost use Rattle.fedbundle.specs.SaidValues.{SaysNoRecord, SaysNoVerdict, SaysRecord, SaysVerdict};
-ghost use Rattle.fedbundle.specs.SaidValues.{texts_of_call};
+ghost use Rattle.fedbundle.specs.SaidValues.{SaysChosen, SaysNoName, texts_of_call};
 ghost use Rattle.command_exits.specs.declared.error.CommandError.TheVariants.{Name};
 ghost use Rattle.command_exits.specs.declared.exits.Exit.TheVariants.{Refused};
 
@@ -27,6 +27,20 @@ pub fn read_domain(alloc: Global, text: &str) -> Result<TrustDomain, Exit>
     match TrustDomain::read(alloc, text) {
         Ok(domain) => Ok(domain),
         Err(error) => Err(Exit::Refused(CommandError::Name(error))),
+    }
+}
+
+/// The trust domain of this name, or none without a name.
+///
+/// # Errors
+/// As [`read_domain`] has them.
+pub fn read_chosen(alloc: Global, text: Option<&str>) -> Result<Option<TrustDomain>, Exit>
+    ensures ok { IfOk result (SaysChosen (option_map (λ t. t.now) text.entry)) }
+    ensures refused { IfErr result (SaysNoName (option_map (λ t. t.now) text.entry)) }
+{
+    match text {
+        Some(text) => Ok(Some(read_domain(alloc, text)?)),
+        None => Ok(None),
     }
 }
 

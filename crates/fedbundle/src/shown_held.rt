@@ -1,16 +1,15 @@
 //! What is held, and which document vouches for which, by what the arguments of `list` and `graph`
 //! say.
-ghost use Rattle.std.specs.Prelude.{◌≡◌, false, IfErr, IfOk, option_copied};
+ghost use Rattle.std.specs.Prelude.{◌≡◌, false, option_copied};
 ghost use Rattle.key_view.specs.KeysText.{IsKeysText};
 ghost use Rattle.replica_view.specs.HeldJson.{IsHeldJson};
 ghost use Rattle.replica_view.specs.HeldTexts.{IsHeldText};
 ghost use Rattle.replica_view.specs.TrustGraph.{IsGraphText};
 ghost use Rattle.command_exits.specs.DeviceRuns.{device_run};
-ghost use Rattle.fedbundle.specs.SaidValues.{texts_of_call};
-ghost use Rattle.fedbundle.specs.Shown.{EndsAtChosen, IsListIn, RunsWriter, SaysChosen, ShowsGraph};
-ghost use Rattle.fedbundle.specs.Shown.{ShowsList, chosen_said, keys_form, shown_call};
+ghost use Rattle.fedbundle.specs.Shown.{IsListIn, RunsWriter, ShowsGraph, ShowsList, keys_form};
+ghost use Rattle.fedbundle.specs.Shown.{shown_call};
 
-use crate::said_values::read_domain;
+use crate::said_values::read_chosen;
 use crate::shown::Shown;
 use byte_lines::{Sink, write_all};
 use closure_core::Closure;
@@ -40,7 +39,7 @@ pub(crate) fn list<C: Closure, W: Sink>(
 {
     let form = read_output_form(given(shown.call, OptionName::Format))?;
     let is_of_keys = is_flag_given(given(shown.call, OptionName::Keys));
-    let chosen = chosen_domain(alloc, shown.call)?;
+    let chosen = read_chosen(alloc, given(shown.call, OptionName::Domain))?;
     let listing = Listing { form, is_of_keys };
     list_in(alloc, closure, listing, chosen.as_ref(), sink)?;
     Ok(0)
@@ -56,19 +55,9 @@ pub(crate) fn graph<C: Closure, W: Sink>(
     ensures { ShowsGraph (shown_call shown.entry (C.state closure.now).meaning)
         (device_run W.contents W.has_failed sink.old sink.new) result }
 {
-    let chosen = chosen_domain(alloc, shown.call)?;
+    let chosen = read_chosen(alloc, given(shown.call, OptionName::Domain))?;
     graph_of(alloc, closure, chosen.as_ref(), sink)?;
     Ok(0)
-}
-
-fn chosen_domain(alloc: Global, call: &Call<'_>) -> Result<Option<TrustDomain>, Exit>
-    ensures ok { IfOk result (SaysChosen (chosen_said call.now.name (texts_of_call call.now))) }
-    ensures refused { IfErr result (EndsAtChosen call.now.name (texts_of_call call.now)) }
-{
-    match given(call, OptionName::Domain) {
-        Some(text) => Ok(Some(read_domain(alloc, text)?)),
-        None => Ok(None),
-    }
 }
 
 fn list_in<C: Closure, W: Sink>(

@@ -1,21 +1,20 @@
 //! What goes along to another configuration, and a configuration for a new start, by what the
 //! arguments of `migrate` and of `reseed` say. Both write on two sinks.
-ghost use Rattle.std.specs.Prelude.{◌≡◌, ◌++◌, IfErr, IfOk, Ok, OnOk, option_copied};
+ghost use Rattle.std.specs.Prelude.{◌≡◌, ◌++◌, IfOk, Ok, OnOk, option_copied};
 ghost use Rattle.std.specs.Prelude.{decimal, option_map};
 ghost use Rattle.fedbundle.specs.CommandRun.{run_of};
 ghost use Rattle.command_exits.specs.DeviceRuns.{device_run};
 ghost use Rattle.fedbundle.specs.Migrate.{move_to};
-ghost use Rattle.fedbundle.specs.SaidValues.{texts_of_call};
-ghost use Rattle.fedbundle.specs.Shown.{SaysChosen, shown_call};
-ghost use Rattle.fedbundle.specs.ShownCommands.{EndsAtAllowed, EndsMove, MovesToRead};
+ghost use Rattle.fedbundle.specs.Shown.{shown_call};
+ghost use Rattle.fedbundle.specs.ShownCommands.{EndsMove, MovesToRead};
 ghost use Rattle.fedbundle.specs.ShownCommands.{PrintsBoth, PrintsWhole};
 ghost use Rattle.fedbundle.specs.ShownCommands.{ReseedsInto, SaysChoice, ShowsMigration, ShowsMove};
 ghost use Rattle.reseeding.specs.declared.new_floors.FloorChoice.TheVariants.{Raised};
-ghost use Rattle.fedbundle.specs.ShownCommands.{SaysFloorChoice, ShowsReseed, allowed_said};
+ghost use Rattle.fedbundle.specs.ShownCommands.{SaysFloorChoice, ShowsReseed};
 ghost use Rattle.fedbundle.specs.ShownCommands.{ReseedsFloored, stay_line};
 
 use crate::migrate::run_migrate;
-use crate::said_values::read_domain;
+use crate::said_values::read_chosen;
 use crate::shown::Shown;
 use byte_lines::{Sink, Source, push_number, write_all};
 use closure_core::Closure;
@@ -115,7 +114,7 @@ pub(crate) fn reseed_of<C: Closure, W: Sink, E: Sink>(
         (device_run W.contents W.has_failed sink.old sink.new)
         (device_run E.contents E.has_failed line_errors.old line_errors.new) result }
 {
-    let allowed = allowed_domain(alloc, shown.call)?;
+    let allowed = read_chosen(alloc, given(shown.call, OptionName::Allow))?;
     reseed_floored(alloc, closure, shown, allowed.as_ref(), sink, line_errors)
 }
 
@@ -143,16 +142,6 @@ fn floors_of(text: Option<&str>) -> FloorChoice
         FloorChoice::Raised
     } else {
         FloorChoice::Kept
-    }
-}
-
-fn allowed_domain(alloc: Global, call: &Call<'_>) -> Result<Option<TrustDomain>, Exit>
-    ensures ok { IfOk result (SaysChosen (allowed_said call.now.name (texts_of_call call.now))) }
-    ensures refused { IfErr result (EndsAtAllowed call.now.name (texts_of_call call.now)) }
-{
-    match given(call, OptionName::Allow) {
-        Some(text) => Ok(Some(read_domain(alloc, text)?)),
-        None => Ok(None),
     }
 }
 

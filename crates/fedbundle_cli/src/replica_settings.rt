@@ -1,8 +1,8 @@
 // `replica`: what the arguments say of it, read, and the replica run.
 use command_exits::{CommandError, Exit};
 use command_line::{
-    Call, OptionName, VERSION, every_given, given, is_flag_given, manner_of, request_bytes_given,
-    wanted, warn_times_given,
+    Call, OptionName, VERSION, every_given, given, health_given, is_flag_given, listen_given,
+    manner_of, read_known_address, request_bytes_given, wanted, warn_times_given,
 };
 use fed_config::Config;
 use progress_line::ProgressMode;
@@ -11,7 +11,6 @@ use state_files::GivenConfigs;
 use std::alloc::Global;
 use std::net::SocketAddr;
 use std::time::Duration;
-use subcommands::process::options::may_listen;
 use subcommands::process::{options, progress_mode, warn_of_anywhere};
 
 /// From how many replicas one pulls at most.
@@ -64,8 +63,8 @@ fn settings_of<'a, 'p>(
         socket: wanted(call, OptionName::Socket)?,
         read_socket: given(call, OptionName::ReadSocket),
         audit: given(call, OptionName::Audit),
-        listen: listen_of(call)?,
-        health: health_of(call)?,
+        listen: listen_given(call)?,
+        health: health_given(call)?,
         health_names: lists.names.as_slice(),
         warn_times: warn_times_given(call)?,
         version: first_line(VERSION),
@@ -79,32 +78,6 @@ fn settings_of<'a, 'p>(
     })
 }
 
-// Whoever reaches the address is given all that is held, so that is to be wanted.
-fn listen_of(call: &Call<'_>) -> Result<Option<SocketAddr>, Exit> {
-    let Some(text) = given(call, OptionName::Listen) else {
-        return Ok(None);
-    };
-    let address = options::known_address(text)?;
-    if may_listen(call, address) {
-        Ok(Some(address))
-    } else {
-        Err(Exit::BadAddress)
-    }
-}
-
-// Whoever reaches the address sees what is held. The system chooses the port if that is 0.
-fn health_of(call: &Call<'_>) -> Result<Option<SocketAddr>, Exit> {
-    let Some(text) = given(call, OptionName::Health) else {
-        return Ok(None);
-    };
-    let address = options::address(text)?;
-    if may_listen(call, address) {
-        Ok(Some(address))
-    } else {
-        Err(Exit::BadAddress)
-    }
-}
-
 fn peers_of(alloc: Global, text: Option<&str>) -> Result<Vec<SocketAddr>, Exit> {
     let mut peers = Vec::new(alloc);
     let Some(text) = text else {
@@ -114,7 +87,7 @@ fn peers_of(alloc: Global, text: Option<&str>) -> Result<Vec<SocketAddr>, Exit> 
         if peers.len() == MOST_PEERS {
             return Err(Exit::BadNumber(OptionName::Peers));
         }
-        let address = options::known_address(address)?;
+        let address = read_known_address(OptionName::Peers, address)?;
         if peers.push(address).is_err() {
             return Err(Exit::Refused(CommandError::NoMemory));
         }

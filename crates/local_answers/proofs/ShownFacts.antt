@@ -7,7 +7,6 @@ use Rattle.fedbundle.specs.CommandRun.{CommandRun, WritesNothing}
 use Rattle.command_exits.specs.DeviceRuns.{DeviceRun}
 use Rattle.fedbundle.specs.CurrentBundle.{RunsBundle, RunsBundlePem}
 use Rattle.fedbundle.specs.Distrust.{ShowsDistrust}
-use Rattle.command_exits.specs.Exits.{AppendsExit, exit_status_of}
 use Rattle.fedbundle.specs.Explain.{ExplanationCall, RunsExplain, explanation_call}
 use Rattle.fedbundle.specs.Polls.{RunsPollsIn, polls_call}
 use Rattle.fedbundle.specs.Shown.{IsReportIn, RunsWriter, ShownCall, ShowsBundle, ShowsBy, ShowsEffect, ShowsExplanation}
@@ -32,15 +31,11 @@ use Rattle.command_line.specs.declared.option_texts.BundleFormat.{BundleFormat}
 use Rattle.command_line.specs.declared.option_texts.BundleFormat.TheVariants.{Json, Pem}
 use Rattle.command_line.specs.declared.option_texts.OutputForm.{OutputForm}
 use Rattle.command_line.specs.declared.option_texts.OutputForm.TheVariants as output
-use Rattle.local_answers.specs.RequestRun.{Answers, AnswersShown, CallRun, Ends, EndsAnyhow, EndsOver, IsEnded, IsWith}
+use Rattle.local_answers.specs.RequestRun.{Answers, AnswersShown, CallRun, Ends, EndsAnyhow, EndsOver, IsWith}
 use Rattle.local_answers.specs.RequestRun.{exit_over_memory, memory_exit, shown_in}
 use Rattle.local_answers.specs.declared.reply.Reply.{Reply}
 
--- ---- memory
-
--- what was written into empty memory is all that it holds
-all_held : (empty text filled : List ℕ) → empty ≡ [] → filled ≡ empty ++ text → text ≡ filled
-all_held empty text filled none written = sym (written ∙ ap (λ l. l ++ text) none)
+-- ---- errors
 
 -- any error except one of a device is reported as it is
 pub exit_of_other : (e : CommandError) → (e ≡ Io → ⊥) → Refused e ≡ memory_exit e
@@ -320,19 +315,6 @@ shown_done run devices line_errors output with_it status reply source empty fill
   };
   replied = with;
 }
-
--- ---- the reply
-
--- the line of an exit, written into empty memory, as what is replied
-pub ended_with : (exit : Exit) (reply : Reply) (empty line errors output : List ℕ) (status : ℕ) → AppendsExit exit (Some empty) (Some line)
-    → empty ≡ [] → errors ≡ line → output ≡ [] → status ≡ exit_status_of exit → IsWith reply output errors status → IsEnded reply exit
-ended_with exit reply empty line errors output status written none is nothing right with = (
-  written.0,
-  written.1,
-  subst (λ s. IsWith reply [] written.0 s) right
-      (subst (λ l. IsWith reply [] l status) (is ∙ sym (all_held empty written.0 line none written.2))
-      (subst (λ l. IsWith reply l errors status) nothing with)),
-)
 
 -- ---- calls
 

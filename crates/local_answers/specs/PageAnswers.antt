@@ -2,8 +2,6 @@
 use Rattle.std.specs.Prelude.{◌≡◌, ◌⊎◌, ℕ, List, [], ◌++◌, ◌==◌, ◌&&◌, Bool, codes}
 use Rattle.std.specs.Prelude.{flat_map, if◌then◌else◌, length, MatchBool, nat_lt}
 use Rattle.std.specs.Prelude.{Option, Some, None}
-use Rattle.spiffe_name.specs.TrustDomain.{IsDomainText, RefusesDomain}
-use Rattle.spiffe_name.specs.declared.error.NameError.{NameError}
 use Rattle.receipt_core.specs.Acceptance.{Meaning}
 use Rattle.json_reports.specs.ReportJson.{IsReportJson}
 use Rattle.key_view.specs.KeysText.{IsKeysText}
@@ -16,9 +14,8 @@ use Rattle.status_warnings.specs.Warnings.{quiet_warning}
 use Rattle.status_warnings.specs.declared.seen.WarnLimits.{WarnLimits}
 use Rattle.status_warnings.specs.declared.warning_kinds.Warning.{Warning}
 use Rattle.command_exits.specs.Exits.{IsExitLine, exit_status_of}
-use Rattle.command_exits.specs.declared.error.CommandError.TheVariants.{Name}
 use Rattle.command_exits.specs.declared.exits.Exit.{Exit}
-use Rattle.command_exits.specs.declared.exits.Exit.TheVariants.{Refused}
+use Rattle.fedbundle.specs.SaidValues.{SaysChosen, SaysNoName}
 use Rattle.health_pages.specs.FixedTexts.{fixed_text}
 use Rattle.health_pages.specs.LoopMetrics.{loop_metrics}
 use Rattle.health_pages.specs.Responses.{fixed_type, held_type, response_text}
@@ -91,18 +88,7 @@ pub record ShowsHeld (run : PageRun) (page : HeldPage) (chosen : Option (List �
   pub is_text : IsHeldPage run page chosen text
   pub is : IsAnswer Done (held_type page) text answer
 
--- ---- the domain that is named
-
--- It is chosen by its name, if that is one.
-abbrev pub ChoosesDomain : (named chosen : Option (List ℕ)) → Type 0
-ChoosesDomain None chosen = chosen ≡ None
-ChoosesDomain (Some name) chosen = (chosen ≡ Some name) × IsDomainText name
-
--- It is not the name of a domain.
-abbrev pub NamesNoDomain : (named : Option (List ℕ)) → Exit → Type 0
-NamesNoDomain None exit = ⊥
-NamesNoDomain (Some name) exit = (why : NameError) × (exit ≡ Refused (Name why))
-    × RefusesDomain name why
+-- ---- a name that is refused
 
 -- a refusal, by the exit status of a command: 4 if memory ran out
 abbrev pub refusal_status : ℕ → ResponseStatus
@@ -118,13 +104,13 @@ pub record IsRefusal (exit : Exit) (answer : PageAnswer) : Type 0 where
 pub record ShowsChosen (run : PageRun) (page : HeldPage) (named : Option (List ℕ))
     (answer : PageAnswer) : Type 0 where
   pub chosen : Option (List ℕ)
-  pub is_chosen : ChoosesDomain named chosen
+  pub is_chosen : SaysChosen named chosen
   pub shows : ShowsHeld run page chosen answer
 
 -- Or the name is refused.
 pub record RefusesPage (named : Option (List ℕ)) (answer : PageAnswer) : Type 0 where
   pub exit : Exit
-  pub none : NamesNoDomain named exit
+  pub none : SaysNoName named exit
   pub refuses : IsRefusal exit answer
 
 abbrev pub AnswersHeld : PageRun → HeldPage → (named : Option (List ℕ)) → PageAnswer → Type 0

@@ -255,7 +255,12 @@ fn said_of<C: Closure>(
     }
 }
 
-fn effect_of<C: Closure>(
+/// What is said of what distrusting the keys changes: the text of [`show_distrust`], or a line that
+/// there is no memory for it.
+///
+/// # Errors
+/// Memory ran out also for that line.
+pub fn effect_of<C: Closure>(
     alloc: Global,
     closure: &C,
     given: &GivenKeys,

@@ -1,19 +1,20 @@
 //! Pages that show what is held: each is the text of a command.
-ghost use Rattle.std.specs.Prelude.{◌≡◌, IfErr, IfOk, option_copied, option_map};
+ghost use Rattle.std.specs.Prelude.{◌≡◌, IfOk, option_copied, option_map};
 ghost use Rattle.json_reports.specs.ReportJson.{IsReportJson};
 ghost use Rattle.replica_view.specs.TrustGraph.{IsGraphText};
 ghost use Rattle.status_warnings.specs.WarnedStatus.{IsWarnedStatusIn};
 ghost use Rattle.local_answers.specs.PageAnswers.{AnswersHeld, IsHeldPage, IsMetricsPage};
-ghost use Rattle.local_answers.specs.PageAnswers.{ChoosesDomain, IsRefusal, NamesNoDomain};
+ghost use Rattle.local_answers.specs.PageAnswers.{IsRefusal};
 ghost use Rattle.local_answers.specs.PageAnswers.{ShowsHeld, page_run, refusal_status};
 ghost use Rattle.local_answers.specs.PageAnswers.{watching_by};
 
 use crate::page_source::{PageAnswer, PageSource};
 use crate::readiness::warn_limits;
+use crate::reply::exit_line;
 use byte_lines::FromWrite;
 use closure_core::Closure;
-use command_exits::{Exit, exit_status, write_exit};
-use fedbundle::read_domain;
+use command_exits::{Exit, exit_status};
+use fedbundle::read_chosen;
 use health_pages::{ContentType, HeldPage, ResponseStatus, push_loop_metrics};
 use json_reports::write_report_json;
 use key_view::{KeysForm, keys_text};
@@ -37,34 +38,20 @@ pub(crate) fn held_answer<C: Closure>(
     ensures { IfOk result (AnswersHeld (page_run source.now (C.state closure.now).meaning) page
         (option_map (λ name. name.now) named.entry)) }
 {
-    match named_domain(alloc, named) {
+    match read_chosen(alloc, named) {
         Ok(chosen) => shown_answer(alloc, closure, source, page, chosen.as_ref()),
         Err(exit) => refused_answer(alloc, &exit),
-    }
-}
-
-fn named_domain(alloc: Global, named: Option<&str>) -> Result<Option<TrustDomain>, Exit>
-    ensures ok { IfOk result (ChoosesDomain (option_map (λ name. name.now) named.entry)) }
-    ensures refused { IfErr result (NamesNoDomain (option_map (λ name. name.now) named.entry)) }
-{
-    match named {
-        Some(name) => Ok(Some(read_domain(alloc, name)?)),
-        None => Ok(None),
     }
 }
 
 fn refused_answer(alloc: Global, exit: &Exit) -> Result<PageAnswer, AllocError>
     ensures { IfOk result (IsRefusal exit.now) }
 {
-    let mut line = FromWrite::new(Vec::new(alloc));
-    match write_exit(exit, &mut line) {
-        Ok(()) => Ok(PageAnswer {
-            status: refusal_status(exit_status(exit)),
-            content: ContentType::Text,
-            body: line.into_inner(),
-        }),
-        Err(_) => Err(AllocError),
-    }
+    Ok(PageAnswer {
+        status: refusal_status(exit_status(exit)),
+        content: ContentType::Text,
+        body: exit_line(alloc, exit)?,
+    })
 }
 
 fn refusal_status(status: u8) -> ResponseStatus

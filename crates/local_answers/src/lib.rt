@@ -34,7 +34,8 @@ mod shown_calls;
 
 pub use call_words::request_words;
 pub use carrying_out::answer_request;
-pub use looking::answer_look;
+pub use changing_replies::effect_of;
+pub use looking::{answer_look, is_change};
 pub use page_answers::answer_page;
 pub use page_source::PageSource;
 pub use reply::Reply;

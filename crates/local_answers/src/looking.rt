@@ -79,8 +79,8 @@ fn look<C: Closure>(alloc: Global, closure: &C, asked: Asked<'_, '_, '_>) -> Res
     shown(alloc, closure, asked)
 }
 
-// Whether the command changes what is held, or ends the replica.
-fn is_change(name: CommandName, is_dry: bool) -> bool
+/// Whether the command changes what is held, or ends the replica.
+pub fn is_change(name: CommandName, is_dry: bool) -> bool
     ensures { result ≡ is_change name is_dry }
 {
     match name {

@@ -1,5 +1,6 @@
 //! What is sent back, and what has to be done before.
 ghost use Rattle.std.specs.Prelude.{◌≡◌, [], IfOk};
+ghost use Rattle.command_exits.specs.Exits.{IsExitLine};
 ghost use Rattle.request_lines.specs.RequestLines.{reply_line};
 ghost use Rattle.replica_texts.specs.Snapshots.{ended};
 
@@ -44,14 +45,8 @@ impl Reply {
     pub(crate) fn ended(alloc: Global, exit: &Exit) -> Result<Reply, AllocError>
         ensures { IfOk result (λ reply. IsEnded reply exit.now) }
     {
-        let mut line = FromWrite::new(Vec::new(alloc));
-        match write_exit(exit, &mut line) {
-            Ok(()) => {
-                let errors = line.into_inner();
-                Reply::of_streams(alloc, exit_status(exit), Vec::new(alloc), errors)
-            }
-            Err(_) => Err(AllocError),
-        }
+        let errors = exit_line(alloc, exit)?;
+        Reply::of_streams(alloc, exit_status(exit), Vec::new(alloc), errors)
     }
 
     pub(crate) fn of_streams(
@@ -86,4 +81,15 @@ fn head_line(alloc: Global, head: ReplyHead) -> Result<Vec<u8>, AllocError>
     let mut line = write_reply_head(alloc, head)?.into_bytes();
     line.push(b'\n')?;
     Ok(line)
+}
+
+// The line that says why a command ended.
+pub(crate) fn exit_line(alloc: Global, exit: &Exit) -> Result<Vec<u8>, AllocError>
+    ensures { IfOk result (λ line. IsExitLine exit.now line.items) }
+{
+    let mut line = FromWrite::new(Vec::new(alloc));
+    match write_exit(exit, &mut line) {
+        Ok(()) => Ok(line.into_inner()),
+        Err(_) => Err(AllocError),
+    }
 }

@@ -2,6 +2,7 @@
 use command_line::{CommandName, command_of};
 use fair_turns::Work;
 use health_pages::Page;
+use local_answers::is_change;
 
 /// The flag of a request that only shows what a change would do.
 const DRY_RUN: &str = "--dry-run";
@@ -28,8 +29,7 @@ pub(crate) fn work_of_page(page: Page) -> Work {
 fn work_of_command(name: CommandName, is_dry: bool) -> Work {
     match name {
         CommandName::Bundle | CommandName::Stop => Work::Short,
-        CommandName::Observe | CommandName::Merge => Work::Change,
-        CommandName::Distrust if !is_dry => Work::Change,
+        _ if is_change(name, is_dry) => Work::Change,
         _ => Work::Long,
     }
 }

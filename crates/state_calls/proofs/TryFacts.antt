@@ -2,13 +2,21 @@
 use native.Mathlib.Numerals.{unary_clauses}
 use Rattle.std.specs.Prelude.{◌≢◌, OnErr, OnOk}
 use Rattle.std.proofs.Math.Arith.{lt_of_le-ne}
-use Rattle.std.proofs.Common.{◌≡◌, ◌≤◌, ◌<◌, ◌-◌, Result, Ok, Err, ◌∙◌, ◌+◌, ℕ, zero, suc, Bool, List, [], ◌∷◌, Option, None, Some, ap, arith, refl, subst, sym}
-use Rattle.state_calls.specs.Tries.{HasTried, HoldsSince, MayBe}
+use Rattle.std.proofs.Common.{◌≡◌, ◌≤◌, ◌<◌, ◌-◌, Result, Ok, Err, ◌∙◌, ◌+◌, ℕ, zero, suc, Bool, true, false, List, [], ◌∷◌}
+use Rattle.std.proofs.Common.{Option, None, Some, ap, arith, refl, subst, sym}
+use Rattle.state_calls.specs.Tries.{AfterTries, HasTried, HoldsSince, MayBe}
 use Rattle.state_steps.specs.Files.{HasWholeLine}
 use Rattle.state_steps.specs.Steps.{StateTexts, WritesLine}
 use Rattle.state_steps.specs.Appends.{append_step, written_after}
+use Rattle.state_steps.specs.Folds.{fold_end, following_step}
+use Rattle.state_calls.specs.Looks.{end_of_fold, end_of_shortening}
+use Rattle.state_steps.specs.Shortenings.{following_shorten}
+use Rattle.state_steps.specs.declared.shortening.ShortenStep.{ShortenStep}
+use Rattle.state_steps.specs.declared.shortening.ShortenStep.TheVariants.{WriteJournal, SyncNew, ReplaceJournal}
+use Rattle.state_steps.specs.declared.shortening.ShortenStep.TheVariants as shorten
+use Rattle.state_steps.specs.declared.folding.FoldEnd.TheVariants.{JournalContinues}
 use Rattle.state_steps.specs.Begins.{begin_change, begin_step, begin_steps_left}
-use Rattle.state_steps.specs.Carries.{carry_step}
+use Rattle.state_steps.specs.Carries.{carry_step, carry_steps_left, following_carry}
 use Rattle.state_steps.specs.Resumes.{following_resume, resume_step, resume_steps_left}
 use Rattle.state_steps.specs.declared.appending.AppendStep.{AppendStep}
 use Rattle.state_steps.specs.declared.appending.AppendStep.TheVariants.{WriteLines, SyncLines, SeeNames}
@@ -19,6 +27,7 @@ use Rattle.state_steps.specs.declared.beginning.BeginStage as stages
 use Rattle.state_steps.specs.declared.beginning.BeginStage.TheVariants.{Change}
 use Rattle.state_steps.specs.declared.beginning.BeginStep as begin
 use Rattle.state_steps.specs.declared.carrying_over.CarryStep.{CarryStep}
+use Rattle.state_steps.specs.declared.carrying_over.CarryStep.TheVariants.{FoldState, WritePrevious, SaveState, ReplacePrevious}
 use Rattle.state_steps.specs.declared.carrying_over.CarryStage.{CarryStage}
 use Rattle.state_steps.specs.declared.carrying_over.CarryStage as carry
 use Rattle.state_steps.specs.declared.file_step.FileStep.{FileStep}
@@ -34,6 +43,9 @@ pub last_try : {P D : Type 0} (Makes : P × Bool → D → D → Type 0) (step :
     → (was : D) × MayBe Makes before first was × Makes (step, done) was disk
 last_try Makes step done before after first disk tried may = subst (λ tries. MayBe Makes tries first disk) tried may
 
+never : {A : Type 0} {a : A} → None ≡ Some a → ⊥
+never is = cc
+
 -- ---- what holds all the time
 
 pub no_try : {P : Type 0} (Holds : List (P × Bool) → Type 0) (tries : List (P × Bool)) → Holds tries → HoldsSince Holds tries tries
@@ -44,6 +56,20 @@ pub one_try : {P : Type 0} (Holds : List (P × Bool) → Type 0) (due : Option P
 one_try Holds None done before now after tried since holds = subst (HoldsSince Holds before) (sym tried.1) since
 one_try Holds (Some step) done before now after tried since holds =
     let is = tried ∙ ap (λ tries. (step, done) ∷ tries) since.1 in ((step, done) ∷ since.0, is, (subst Holds is holds, since.2))
+
+pub tried_due : {P : Type 0} (due : Option P) (step : P) (done : Bool) (before after : List (P × Bool)) → due ≡ Some step
+    → HasTried due done before after → after ≡ (step, done) ∷ before
+tried_due due step done before after is tried = subst (λ it. HasTried it done before after) is tried
+
+-- ---- a look tries nothing
+
+pub after_look : {P D : Type 0} (Makes : P × Bool → D → D → Type 0) (now before : List (P × Bool)) (first : D) (Are : D → Type 0)
+    → now ≡ before → AfterTries Makes before first Are → AfterTries Makes now first Are
+after_look Makes now before first Are same after = subst (λ tries. AfterTries Makes tries first Are) (sym same) after
+
+pub since_look : {P : Type 0} (Holds : List (P × Bool) → Type 0) (now before begun : List (P × Bool)) → now ≡ before
+    → HoldsSince Holds begun before → HoldsSince Holds begun now
+since_look Holds now before begun same since = subst (HoldsSince Holds begun) (sym same) since
 
 -- ---- what is written
 
@@ -77,6 +103,81 @@ resumed_next zero = refl
 resumed_next (suc zero) = refl
 resumed_next (suc (suc zero)) = refl
 resumed_next (suc (suc (suc more))) = simp unary_clauses refl
+
+-- ---- how far a fold came
+
+abbrev pub fold_left : Option FileStep → ℕ
+fold_left (Some WriteSnapshot) = 7
+fold_left (Some SyncSnapshot) = 6
+fold_left (Some ReplaceSnapshot) = 5
+fold_left (Some SyncFolder) = 4
+fold_left (Some BeginJournal) = 3
+fold_left (Some SyncJournal) = 2
+fold_left (Some RemoveJournal) = 1
+fold_left None = 0
+
+pub writes_after : (texts : StateTexts) (whole : Bool) (due : Option FileStep) (line : List ℕ) → WritesLine texts (following_step whole due) line
+writes_after texts whole (Some WriteSnapshot) line = tt
+writes_after texts whole (Some SyncSnapshot) line = tt
+writes_after texts whole (Some ReplaceSnapshot) line = tt
+writes_after texts true (Some SyncFolder) line = tt
+writes_after texts false (Some SyncFolder) line = tt
+writes_after texts whole (Some BeginJournal) line = tt
+writes_after texts whole (Some SyncJournal) line = tt
+writes_after texts whole (Some RemoveJournal) line = tt
+writes_after texts whole None line = tt
+
+pub fold_goes_on : (whole : Bool) (step next : FileStep) (tries : List (FileStep × Bool)) → following_step whole (Some step) ≡ Some next
+    → next ≢ SyncJournal → end_of_fold ((step, true) ∷ tries) ≡ JournalContinues
+fold_goes_on whole WriteSnapshot next tries is other = refl
+fold_goes_on whole SyncSnapshot next tries is other = refl
+fold_goes_on whole ReplaceSnapshot next tries is other = refl
+fold_goes_on whole SyncFolder next tries is other = refl
+fold_goes_on whole RemoveJournal next tries is other = refl
+fold_goes_on whole BeginJournal next tries is other = absurd (other (let same : Some SyncJournal ≡ Some next = is in cc))
+fold_goes_on whole SyncJournal next tries is other = absurd (never is)
+
+pub fold_failed : (step : FileStep) (tries : List (FileStep × Bool)) → fold_end (Some step) ≡ end_of_fold ((step, false) ∷ tries)
+fold_failed WriteSnapshot tries = refl
+fold_failed SyncSnapshot tries = refl
+fold_failed ReplaceSnapshot tries = refl
+fold_failed SyncFolder tries = refl
+fold_failed RemoveJournal tries = refl
+fold_failed BeginJournal tries = refl
+fold_failed SyncJournal tries = refl
+
+-- ---- how far a shortening came
+
+pub shortening_goes_on : (step next : ShortenStep) (lines : List ℕ) (tries : List ((ShortenStep × List ℕ) × Bool))
+    → following_shorten (Some step) ≡ Some next → next ≢ shorten.SyncFolder → end_of_shortening (((step, lines), true) ∷ tries) ≡ JournalContinues
+shortening_goes_on WriteJournal next lines tries is other = refl
+shortening_goes_on SyncNew next lines tries is other = refl
+shortening_goes_on ReplaceJournal next lines tries is other = absurd (other (let same : Some shorten.SyncFolder ≡ Some next = is in cc))
+shortening_goes_on shorten.SyncFolder next lines tries is other = absurd (never is)
+
+-- ---- how far a carry-over came
+
+abbrev pub carried_at : ℕ → CarryStage
+carried_at zero = carry.TheVariants.Due FoldState
+carried_at (suc zero) = carry.TheVariants.Due WritePrevious
+carried_at (suc (suc zero)) = carry.TheVariants.Due SaveState
+carried_at (suc (suc (suc zero))) = carry.TheVariants.Due ReplacePrevious
+carried_at (suc (suc (suc (suc more)))) = carry.TheVariants.Done
+
+pub carried_first : (stage : CarryStage) → carry_steps_left stage ≡ 4 → stage ≡ carried_at zero
+carried_first (carry.TheVariants.Due FoldState) four = refl
+carried_first (carry.TheVariants.Due WritePrevious) four = absurd (omega (arith, four))
+carried_first (carry.TheVariants.Due SaveState) four = absurd (omega (arith, four))
+carried_first (carry.TheVariants.Due ReplacePrevious) four = absurd (omega (arith, four))
+carried_first carry.TheVariants.Done four = absurd (omega (arith, four))
+carried_first carry.TheVariants.Failed four = absurd (omega (arith, four))
+
+pub carried_next : (count : ℕ) → following_carry (carried_at count) ≡ carried_at (count + 1)
+carried_next zero = refl
+carried_next (suc zero) = refl
+carried_next (suc (suc zero)) = refl
+carried_next (suc (suc (suc zero))) = refl
+carried_next (suc (suc (suc (suc more)))) = simp unary_clauses refl
 
 -- ---- what is appended
 
@@ -148,9 +249,6 @@ at_change SyncFolder = refl
 at_change RemoveJournal = refl
 at_change BeginJournal = refl
 at_change SyncJournal = refl
-
-never : {A : Type 0} {a : A} → None ≡ Some a → ⊥
-never is = cc
 
 pub not_passed : (until due : FileStep) (stage : BeginStage) → Some until ≢ Some due → begin_change stage ≡ Some due
     → begin_steps_left (Change until) ≤ begin_steps_left stage → begin_steps_left (Change until) ≤ begin_steps_left stage - 1

@@ -1,3 +1,4 @@
 pub mod Tries
+pub mod Looks
 pub mod Logs
 pub mod Inside

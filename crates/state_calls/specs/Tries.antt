@@ -1,7 +1,8 @@
 -- Steps that were tried on files, and what may be there after them.
 use Rattle.std.specs.Prelude.{◌≡◌, ◌++◌, ℕ, Bool, true, false, List, [], ◌∷◌, Option, None, Some}
 use Rattle.state_steps.specs.Appends.{FailsAppend, after_append}
-use Rattle.state_steps.specs.Carries.{CarryDisk, CarryTexts, FailsCarry, after_carry_due}
+use Rattle.state_steps.specs.Carries.{CarryDisk, CarryFound, CarryTexts, FailsCarry, IsCarrySafe}
+use Rattle.state_steps.specs.Carries.{StopLeaves, after_carry_due}
 use Rattle.state_steps.specs.Files.{KeepsLine, StateDisk}
 use Rattle.state_steps.specs.Resumes.{FailsResume, after_resume}
 use Rattle.state_steps.specs.Shortenings.{FailsShortenStep, after_shorten_step}
@@ -87,3 +88,8 @@ MakesCarried texts (step, true) disk left =
     left ≡ after_carry_due texts (carry.TheVariants.Due step) disk
 MakesCarried texts (step, false) disk left =
     FailsCarry texts (carry.TheVariants.Due step) disk left
+
+-- Whatever a stop leaves after these tries of a carry-over, a start finds the line.
+abbrev pub TriesStartWith : CarryTexts → CarryDisk → List ℕ → List (CarryStep × Bool) → Type 0
+TriesStartWith texts first line tries = AfterTries (MakesCarried texts) tries first
+    (λ disk. (found : CarryFound) → StopLeaves disk found → IsCarrySafe texts found line)

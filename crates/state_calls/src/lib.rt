@@ -18,10 +18,10 @@ mod shortens;
 
 pub use appends::{append_lines, sync_lines};
 pub use begins::begin;
-pub use calls::{LineCalls, StepCalls, StepFault};
-pub use carries::try_carry;
-pub use folds::try_fold;
+pub use calls::{FoldCalls, LineCalls, ShortenCalls, StepCalls, StepFault};
+pub use carries::carry_state;
+pub use folds::fold;
 pub use logs::{LineLog, StepLog};
 pub use resumes::resume;
 pub use saves::save;
-pub use shortens::try_shorten;
+pub use shortens::shorten;

@@ -3,25 +3,21 @@ use crate::std_calls::{CarryCalls, CarryWith};
 use closure_core::Closure;
 use command_exits::FileFault;
 use progress_line::ProgressMode;
-use replica_core::SyncError;
 use side_by_side::Sides;
-use state_calls::try_carry;
-use state_steps::CarryingOver;
+use state_calls::carry_state;
 use std::alloc::Global;
 use std::fs::{File, Files};
 use std::io::Eprint;
 use std::time::Clock;
 
-/// How many steps there are.
-const STEPS: u32 = 4;
-
 /// Makes the state file one of the next configuration, and keeps what the previous one holds in the
-/// file next to it, in the order of [`CarryingOver`]. There is no journal afterwards. The state is
-/// not replaced, and the file gets no name, unless that is as it was written.
+/// file next to it, in the order of [`CarryingOver`](state_steps::CarryingOver). There is no
+/// journal afterwards. The state is not replaced, and the file gets no name, unless that is as it
+/// was written.
 ///
 /// # Errors
-/// - [`SyncError::Io`]: the system refused a step,
-/// - [`SyncError::NoMemory`]: memory ran out.
+/// - `Io`: the system refused a step,
+/// - `NoMemory`: memory ran out.
 pub(crate) fn carry_over<C: Closure, R: Files<File = File> + Clock + Eprint>(
     files: &R,
     alloc: Global,
@@ -37,13 +33,5 @@ pub(crate) fn carry_over<C: Closure, R: Files<File = File> + Clock + Eprint>(
         path,
         mode,
     };
-    let mut carrying = CarryingOver::begin();
-    for _ in 0..STEPS {
-        try_carry(&mut calls, &with, &mut carrying)?;
-    }
-    if carrying.is_done() {
-        Ok(())
-    } else {
-        Err(FileFault::from(SyncError::Io))
-    }
+    carry_state(&mut calls, &with)
 }

@@ -1,16 +1,14 @@
 //! A fold: what is held takes the place of the state file, piece by piece, and then the journal
 //! keeps only what came since.
-use crate::journal::{Journal, StateAt};
+use crate::journal::{AppendFault, Journal, StateAt};
 use crate::made_files::MadeFiles;
-use crate::own_file::OwnFile;
-use crate::std_calls::{ChangeWith, FileCalls, ShortenWith};
+use crate::std_calls::{FoldFiles, FoldWith};
 use closure_core::Closure;
 use command_exits::FileFault;
-use fed_config::Config;
 use replica_core::SyncError;
 use snapshot_pieces::SnapshotPieces;
-use state_calls::{StepFault, try_fold, try_shorten};
-use state_steps::{FileStep, FoldEnd, Folding, LostFile, ShortenStep, Shortening, Since};
+use state_calls::{StepFault, fold, shorten};
+use state_steps::{FoldEnd, Folding, LostFile, Shortening, Since};
 use std::alloc::{AllocError, Global};
 use std::fs::{File, Files};
 use std::io::Eprint;
@@ -22,12 +20,6 @@ const PIECE_BYTES: u64 = 4_194_304;
 /// How many times the bytes that were appended to the journal since the last piece a piece has at
 /// least. So what comes during a fold has at most this part of the bytes that the fold writes.
 const PIECE_GROWTH: u64 = 8;
-
-/// How many steps follow the writing of the snapshot.
-const LATER_STEPS: u32 = 5;
-
-/// How many steps it takes to shorten the journal.
-const SHORTEN_STEPS: u32 = 4;
 
 /// Why a fold is over before its end.
 #[derive(Clone, Copy, Debug)]
@@ -75,7 +67,7 @@ pub enum FoldResult {
 /// may be appended to the journal, which notes them.
 #[derive(Drop)]
 pub struct StateFold {
-    calls: FileCalls,
+    made: MadeFiles,
     folding: Folding,
     pieces: SnapshotPieces,
     // How long the journal was at the last piece.
@@ -103,7 +95,7 @@ impl StateFold {
         }
         journal.begin_fold(alloc);
         Ok(StateFold {
-            calls: FileCalls::new(made),
+            made,
             folding: Folding::begin(),
             pieces,
             journal_bytes: journal.bytes(),
@@ -127,7 +119,7 @@ impl StateFold {
         self.journal_bytes = journal.bytes();
         let size = PIECE_BYTES.max(came.saturating_mul(PIECE_GROWTH));
         let piece = self.pieces.next(alloc, closure, size as usize)?;
-        self.calls.made.write_piece(files, piece.text.as_slice())?;
+        self.made.write_piece(files, piece.text.as_slice())?;
         if piece.is_last {
             Ok(FoldPiece::Last)
         } else {
@@ -149,114 +141,65 @@ impl StateFold {
         journal: &mut Journal,
     ) -> Result<FoldResult, FoldFault> {
         let Some(since) = journal.take_since() else {
-            self.calls.made.remove_new(at.files);
+            self.made.remove_new(at.files);
             return Err(FoldFault::Kept(FileFault::from(SyncError::Io)));
         };
-        self.folding.written(&since);
-        self.do_later_steps(at, alloc, closure, journal)?;
-        let is_empty = self.folding.is_done();
-        match self.calls.made.take_journal() {
-            Some(file) if is_empty => Ok(begin_in_place(file, journal)),
-            _ => self.shorten(at, alloc, closure.config(), journal, since),
+        let mut folding = self.folding;
+        folding.written(&since);
+        let with = FoldWith { at, alloc, closure };
+        let mut files = FoldFiles::new(self.made, journal);
+        if let Err(failed) = fold(&mut files, &with, &mut folding) {
+            return Err(files.fold_fault(at.files, failed));
         }
-    }
-
-    fn do_later_steps<C: Closure, R: Files<File = File> + Clock + Eprint>(
-        &mut self,
-        at: &StateAt<'_, R>,
-        alloc: Global,
-        closure: &C,
-        journal: &mut Journal,
-    ) -> Result<(), FoldFault> {
-        let with = ChangeWith {
-            files: at.files,
-            alloc,
-            closure,
-            path: at.path,
-        };
-        for _ in 0..LATER_STEPS {
-            let Some(step) = self.folding.next() else {
-                break;
-            };
-            // Then the journal has a new file.
-            if step != FileStep::SyncJournal {
-                self.refuse_lost(at, journal)?;
-            }
-            if let Err(failed) = try_fold(&mut self.calls, &with, &mut self.folding) {
-                return Err(fold_fault(failed));
-            }
-            if let Some(state) = self.calls.made.take_snapshot() {
-                journal.see(state);
-            }
-        }
-        Ok(())
-    }
-
-    fn refuse_lost<R: Files>(
-        &mut self,
-        at: &StateAt<'_, R>,
-        journal: &mut Journal,
-    ) -> Result<(), FoldFault> {
-        match journal.lost_file(at)? {
-            None => Ok(()),
-            Some(lost) => {
-                self.calls.made.remove_new(at.files);
-                Err(FoldFault::Lost(lost))
-            }
-        }
-    }
-
-    // No line is appended meanwhile.
-    fn shorten<R: Files<File = File>>(
-        mut self,
-        at: &StateAt<'_, R>,
-        alloc: Global,
-        config: &Config,
-        journal: &mut Journal,
-        since: Since,
-    ) -> Result<FoldResult, FoldFault> {
-        let Some(lines) = since.into_text() else {
-            return Ok(FoldResult::Long);
-        };
-        let with = ShortenWith {
-            files: at.files,
-            alloc,
-            config,
-            path: at.path,
-        };
-        let mut shortening = Shortening::begin();
-        for _ in 0..SHORTEN_STEPS {
-            let Some(step) = shortening.next() else {
-                break;
-            };
-            if step != ShortenStep::SyncFolder {
-                self.refuse_lost(at, journal)?;
-            }
-            let done = try_shorten(&mut self.calls, &with, &mut shortening, lines.as_slice());
-            if let Err(failed) = done {
-                return Err(fold_fault(failed));
-            }
-        }
-        match self.calls.made.take_journal() {
-            Some(file) if shortening.is_done() => Ok(begin_in_place(file, journal)),
-            _ => Err(FoldFault::Emptying(FileFault::from(SyncError::Io))),
+        if folding.is_done() {
+            files.continue_in_new()
+        } else {
+            files.shorten(&with, since)
         }
     }
 
     /// Gives the fold up: no new snapshot is left.
     pub fn give_up<R: Files>(mut self, files: &R) {
-        self.calls.made.remove_new(files);
+        self.made.remove_new(files);
     }
 }
 
-fn fold_fault(failed: StepFault<FileFault>) -> FoldFault {
-    match failed.end {
-        FoldEnd::JournalContinues => FoldFault::Kept(failed.fault),
-        FoldEnd::ReplicaEnds => FoldFault::Emptying(failed.fault),
+impl<'j> FoldFiles<'j> {
+    // No line is appended meanwhile.
+    fn shorten<C: Closure, R: Files<File = File>>(
+        mut self,
+        with: &FoldWith<'_, C, R>,
+        since: Since,
+    ) -> Result<FoldResult, FoldFault> {
+        let Some(lines) = since.into_text() else {
+            return Ok(FoldResult::Long);
+        };
+        let mut shortening = Shortening::begin();
+        match shorten(&mut self, with, &mut shortening, lines.as_slice()) {
+            Ok(()) => self.continue_in_new(),
+            Err(failed) => Err(self.fold_fault(with.at.files, failed)),
+        }
     }
-}
 
-fn begin_in_place(file: OwnFile, journal: &mut Journal) -> FoldResult {
-    journal.begin_with(file);
-    FoldResult::Short
+    // The journal continues in the file that was begun.
+    fn continue_in_new(mut self) -> Result<FoldResult, FoldFault> {
+        match self.made.take_journal() {
+            Some(file) => {
+                self.journal.begin_with(file);
+                Ok(FoldResult::Short)
+            }
+            None => Err(FoldFault::Emptying(FileFault::from(SyncError::Io))),
+        }
+    }
+
+    fn fold_fault<R: Files>(mut self, files: &R, failed: StepFault<AppendFault>) -> FoldFault {
+        match (failed.fault, failed.end) {
+            (AppendFault::Lost(lost), _) => {
+                self.made.remove_new(files);
+                FoldFault::Lost(lost)
+            }
+            (AppendFault::File(fault), FoldEnd::JournalContinues) => FoldFault::Kept(fault),
+            (AppendFault::File(fault), FoldEnd::ReplicaEnds) => FoldFault::Emptying(fault),
+        }
+    }
 }

@@ -3,7 +3,7 @@ use crate::file_names::{journal_path, new_path, sync_folder};
 use crate::named_files::{remove_own, stale_file};
 use crate::new_file::{create_new, write_closure};
 use crate::own_file::OwnFile;
-use crate::std_calls::{ChangeWith, ShortenWith};
+use crate::std_calls::ChangeWith;
 use closure_core::Closure;
 use command_exits::FileFault;
 use fed_config::Config;
@@ -154,9 +154,9 @@ impl MadeFiles {
 
     /// Does the step to the journal of the state file at the path. It is replaced by one that has
     /// its first line and these lines. If it fails before that, no new file is left.
-    pub(crate) fn shorten<R: Files<File = File>>(
+    pub(crate) fn shorten<C: Closure, R: Files<File = File>>(
         &mut self,
-        with: &ShortenWith<'_, R>,
+        with: &ChangeWith<'_, C, R>,
         lines: &[u8],
         step: ShortenStep,
     ) -> Result<(), FileFault> {
@@ -172,13 +172,13 @@ impl MadeFiles {
         done
     }
 
-    fn write_journal<R: Files<File = File>>(
+    fn write_journal<C: Closure, R: Files<File = File>>(
         &mut self,
-        with: &ShortenWith<'_, R>,
+        with: &ChangeWith<'_, C, R>,
         lines: &[u8],
     ) -> Result<(), FileFault> {
         let mut first = Vec::new(with.alloc);
-        begin_journal(with.alloc, with.config, &mut first)?;
+        begin_journal(with.alloc, with.closure.config(), &mut first)?;
         let file = self
             .new
             .insert(create_new(with.files, self.new_name.as_str(), with.path)?);

@@ -2,11 +2,11 @@
 //! was done. No contract says that a step does to the files what `state_steps` says of it: that is
 //! read here and in the files that are called, and shown by runs in which calls are refused and the
 //! program is killed. All else about the order of the steps is proved over whatever does them.
-ghost use Rattle.std.specs.Prelude.{◌≡◌, []};
+ghost use Rattle.std.specs.Prelude.{◌≡◌, [], is_ok};
 ghost use Rattle.state_calls.specs.Logs.{noted_lines, noted_steps};
 
 use crate::file_names::sync_folder;
-use crate::journal::{AppendFault, StateAt};
+use crate::journal::{AppendFault, Journal, StateAt};
 use crate::made_files::MadeFiles;
 use crate::own_file::OwnFile;
 use crate::previous_state::{refuse_other_new, replace_previous, write_previous};
@@ -14,11 +14,10 @@ use crate::save::save_state;
 use crate::state::SeenState;
 use closure_core::Closure;
 use command_exits::FileFault;
-use fed_config::Config;
 use progress_line::ProgressMode;
 use replica_core::SyncError;
 use side_by_side::Sides;
-use state_calls::{LineCalls, LineLog, StepCalls, StepLog};
+use state_calls::{FoldCalls, LineCalls, LineLog, ShortenCalls, StepCalls, StepLog};
 use state_steps::{
     AppendStep, CarrySide, CarryStep, FileStep, LostFile, ResumeStep, ShortenStep, lost_of,
 };
@@ -36,21 +35,11 @@ pub(crate) struct ChangeWith<'a, C, R> {
     pub(crate) path: &'a str,
 }
 
-/// What a shortening of the journal takes.
-#[derive(Drop)]
-pub(crate) struct ShortenWith<'a, R> {
-    pub(crate) files: &'a R,
-    pub(crate) alloc: Global,
-    pub(crate) config: &'a Config,
-    pub(crate) path: &'a str,
-}
-
 /// Changes the state's files.
 #[derive(Drop)]
 pub(crate) struct FileCalls {
     pub(crate) made: MadeFiles,
     changes: StepLog<FileStep>,
-    shortenings: LineLog<ShortenStep>,
 }
 
 impl FileCalls {
@@ -59,7 +48,6 @@ impl FileCalls {
         FileCalls {
             made,
             changes: StepLog::new(),
-            shortenings: LineLog::new(),
         }
     }
 }
@@ -78,19 +66,116 @@ impl<'a, C: Closure, R: Files<File = File> + Clock + Eprint> StepCalls<
     }
 }
 
-impl<'a, R: Files<File = File>> LineCalls<ShortenWith<'a, R>, ShortenStep, FileFault>
-    for FileCalls {
+/// What the end of a fold takes: the place of the state, and what is held.
+#[derive(Drop)]
+pub(crate) struct FoldWith<'a, C, R> {
+    pub(crate) at: &'a StateAt<'a, R>,
+    pub(crate) alloc: Global,
+    pub(crate) closure: &'a C,
+}
+
+impl<'a, C: Closure, R> FoldWith<'a, C, R> {
+    fn change(&self) -> ChangeWith<'a, C, R> {
+        ChangeWith {
+            files: self.at.files,
+            alloc: self.alloc,
+            closure: self.closure,
+            path: self.at.path,
+        }
+    }
+}
+
+/// Changes the state's files at the end of a fold, next to the journal that is used until then.
+#[derive(Drop)]
+pub(crate) struct FoldFiles<'j> {
+    pub(crate) made: MadeFiles,
+    pub(crate) journal: &'j mut Journal,
+    // Whether the last call was a look that found each file as it was left.
+    is_seen: bool,
+    changes: StepLog<FileStep>,
+    shortenings: LineLog<ShortenStep>,
+}
+
+impl<'j> FoldFiles<'j> {
+    /// The snapshot is written; nothing else is done yet.
+    pub(crate) fn new(made: MadeFiles, journal: &'j mut Journal) -> FoldFiles<'j> {
+        FoldFiles {
+            made,
+            journal,
+            is_seen: false,
+            changes: StepLog::new(),
+            shortenings: LineLog::new(),
+        }
+    }
+
+    fn see<R: Files>(&mut self, at: &StateAt<'_, R>) -> Result<(), AppendFault>
+        ensures changes { self.new.changes ≡ self.old.changes }
+        ensures shortenings { self.new.shortenings ≡ self.old.shortenings }
+        ensures seen { self.new.is_seen ≡ is_ok result }
+    {
+        let found = self.journal.lost_file(at);
+        self.is_seen = matches!(found, Ok(None));
+        match found {
+            Ok(None) => Ok(()),
+            Ok(Some(lost)) => Err(AppendFault::Lost(lost)),
+            Err(fault) => Err(AppendFault::File(fault)),
+        }
+    }
+
+    // The journal knows the snapshot once that has its name.
+    fn do_step<C: Closure, R: Files<File = File> + Clock + Eprint>(
+        &mut self,
+        with: &ChangeWith<'_, C, R>,
+        step: FileStep,
+    ) -> Result<(), FileFault>
+        ensures { self.new.changes ≡ self.old.changes }
+    {
+        let done = self.made.do_step(with, step);
+        if let Some(state) = self.made.take_snapshot() {
+            self.journal.see(state);
+        }
+        done
+    }
+}
+
+impl<'j, 'a, C: Closure, R: Files<File = File> + Clock + Eprint> FoldCalls<
+    FoldWith<'a, C, R>,
+    AppendFault,
+> for FoldFiles<'j> {
+    ghost tried = { λ it. noted_steps it.changes };
+
+    ghost seen = { λ it. it.is_seen };
+
+    fn look(&mut self, with: &FoldWith<'a, C, R>) -> Result<(), AppendFault> {
+        self.see(with.at)
+    }
+
+    fn try_seen(&mut self, with: &FoldWith<'a, C, R>, step: FileStep) -> Result<(), AppendFault> {
+        let done = self.do_step(&with.change(), step);
+        self.changes.note(&step, done.is_ok());
+        Ok(done?)
+    }
+}
+
+impl<'j, 'a, C: Closure, R: Files<File = File>> ShortenCalls<FoldWith<'a, C, R>, AppendFault>
+    for FoldFiles<'j> {
     ghost tried = { λ it. noted_lines it.shortenings };
 
-    fn try_lines(
+    ghost seen = { λ it. it.is_seen };
+
+    fn look(&mut self, with: &FoldWith<'a, C, R>) -> Result<(), AppendFault> {
+        self.see(with.at)
+    }
+
+    fn try_seen(
         &mut self,
-        with: &ShortenWith<'a, R>,
+        with: &FoldWith<'a, C, R>,
         step: ShortenStep,
         lines: &[u8],
-    ) -> Result<(), FileFault> {
-        let done = self.made.shorten(with, lines, step);
+    ) -> Result<(), AppendFault> {
+        let done = self.made.shorten(&with.change(), lines, step);
         self.shortenings.note(&step, lines, done.is_ok());
-        done
+        Ok(done?)
     }
 }
 

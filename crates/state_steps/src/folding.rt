@@ -79,6 +79,7 @@ impl Folding {
     /// - `settled`: when the folder is on the disk, the snapshot is exactly the new one, also if
     ///   lines came meanwhile.
     /// - `ended`: so it is if the fold ends with this step.
+    /// - `next`: which step comes next.
     /// - `steps`: after six steps in which nothing is appended the journal is emptied.
     pub fn done(&mut self)
         ensures due { (texts : StateTexts) (disk : StateDisk) → IsDueOn texts self.old.next disk
@@ -98,6 +99,7 @@ impl Folding {
         ensures ended { (texts : StateTexts) (disk : StateDisk)
             → self.new.next ≡ None → self.old.next ≢ None → IsDueOn texts self.old.next disk
             → (after_due texts self.old.next disk).snapshot ≡ kept_file texts.snapshot ∷ [] }
+        ensures next { self.new.next ≡ following_step self.old.is_whole self.old.next }
         ensures steps { IsTrue self.old.is_whole
             → steps_left self.new.next ≡ steps_left self.old.next - 1 }
         ensures fewer { steps_left self.new.next ≤ steps_left self.old.next - 1 }

@@ -81,6 +81,7 @@ impl Shortening {
     /// - `keeps`: no line is lost.
     /// - `shortened`: after the last step the journal is exactly the new one, on the disk under its
     ///   name.
+    /// - `next`: which step comes next.
     /// - `steps`: each step is one fewer.
     /// - `failed`: after a failed step it is never done.
     pub fn done(&mut self)
@@ -92,6 +93,7 @@ impl Shortening {
         ensures shortened { (text : List ℕ) (disk : StateDisk)
             → shorten_steps_left self.old.next ≡ 1 → IsShortenDue text self.old.next disk
             → (after_shorten text self.old.next disk).journal ≡ kept_file text ∷ [] }
+        ensures next { self.new.next ≡ following_shorten self.old.next }
         ensures steps { shorten_steps_left self.new.next ≡ shorten_steps_left self.old.next - 1 }
         ensures failed { self.new.has_failed ≡ self.old.has_failed }
     {

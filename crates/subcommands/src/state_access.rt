@@ -140,18 +140,18 @@ pub(crate) fn load<C: Closure>(
     config: &Config,
     state: StateAccess<'_>,
 ) -> Result<C, Exit> {
-    if !may_have_state(rt, state.path) {
-        if state.missing == MissingState::Refused {
-            return Err(Exit::NoState);
-        }
-        say_missing(rt, state);
+    let is_there = has_state(rt, state.path);
+    match (state.missing, is_there) {
+        (MissingState::Refused, Ok(false)) => return Err(Exit::NoState),
+        (MissingState::HoldsNothing, Ok(false)) => say_missing(rt, state),
+        _ => {}
     }
-    Ok(load_state(rt, rt.alloc(), config, state.path, progress_mode(rt))?)
-}
-
-// Whether there is a state, or the system does not say so: the command finds out when it loads it.
-fn may_have_state(rt: &HostRuntime, path: &str) -> bool {
-    !matches!(has_state(rt, path), Ok(false))
+    let loaded = load_state(rt, rt.alloc(), config, state.path, progress_mode(rt))?;
+    // If the look failed, nobody knows whether there is a state.
+    match is_there {
+        Err(exit) if state.missing == MissingState::Refused => Err(exit),
+        _ => Ok(loaded),
+    }
 }
 
 fn say_missing(rt: &HostRuntime, state: StateAccess<'_>) {

@@ -5,13 +5,13 @@
 use crate::connection::{Connection, connect};
 use crate::faults::status_of;
 use crate::limited_reader::LimitedReader;
-use crate::process::{options, output_line, progress_mode};
+use crate::process::{output_line, progress_mode};
 use crate::state_access::{StateAccess, leave, load, lock, room_left, save, state_access_of};
 use bucket_sums::{QuietPulling, SummedClosure, pull_quietly};
 use byte_lines::{FromRead, FromWrite};
 use closure_core::Closure;
 use command_exits::{CommandError, Exit, Step};
-use command_line::{Call, OptionName, given, is_flag_given, wanted};
+use command_line::{Call, OptionName, given, is_flag_given, read_known_address, wanted};
 use fed_config::Config;
 use fedbundle::{run_pull, write_counted};
 use progress_line::{LongWork, WatchedReader, WorkProgress};
@@ -60,7 +60,7 @@ fn pull_from<C: Closure>(
     closure: &mut SummedClosure<C>,
     most_bytes: u64,
 ) -> Result<Result<(), Exit>, Exit> {
-    let address = options::known_address(wanted(call, OptionName::Peer)?)?;
+    let address = read_known_address(OptionName::Peer, wanted(call, OptionName::Peer)?)?;
     let connection = connect(rt, address)?;
     if !is_flag_given(given(call, OptionName::Sums)) {
         return Ok(pull_with_haves(rt, closure, &connection, most_bytes));

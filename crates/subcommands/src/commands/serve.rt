@@ -11,7 +11,7 @@ use bucket_sums::{SummedClosure, serve_quietly};
 use byte_lines::{FromRead, FromWrite};
 use closure_core::Closure;
 use command_exits::{CommandError, Exit};
-use command_line::{Call, OptionName, wanted};
+use command_line::{Call, OptionName, read_address, wanted};
 use fed_config::Config;
 use fedbundle::write_served;
 use progress_line::{LongWork, WatchedWriter, WorkProgress};
@@ -56,7 +56,7 @@ fn serve_at<C: Closure>(
     address: &str,
     service: Service,
 ) -> Result<u8, Exit> {
-    let wanted = options::address(address)?;
+    let wanted = read_address(OptionName::Listen, address)?;
     let listener = listen(rt, wanted)?;
     if service.is_verbose || wanted.port() == 0 {
         // If the system does not say which port it chose, nothing else is known of it.

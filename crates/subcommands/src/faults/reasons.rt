@@ -2,10 +2,10 @@
 //! the part of it that is wrong. An error keeps no more than numbers, so this looks a second time
 //! at what the command was given, and only if these lines are wanted.
 use crate::faults::fault_places::{say_bundle, say_config, say_state, say_stream};
-use crate::process::options::{address, config, health_names, known_address, may_listen};
+use crate::process::options::config;
 use crate::process::{is_verbose_for, print_exit, quoted, say, shown, words_of};
 use command_exits::{CommandError, Exit, Step, SystemFault, status};
-use command_line::{Call, CommandName, OptionName, given};
+use command_line::{Call, CommandName, OptionName, given, may_listen, read_address};
 use fed_config::Config;
 use spiffe_name::{NameError, SpiffeId, TrustDomain};
 use std::alloc::{AllocError, Global};
@@ -57,7 +57,7 @@ fn say_why(rt: &HostRuntime, call: &Call<'_>, exit: &Exit) -> Result<(), AllocEr
         Exit::BadNumber(option) => say_option(rt, call, *option, "is no number of its range"),
         Exit::BadKey => say_option(rt, call, key_option(call), "is not 64 digits of 0-9a-f"),
         Exit::BadMoment => say_option(rt, call, OptionName::Now, "is no moment in Unix seconds"),
-        Exit::BadAddress => say_address(rt, call),
+        Exit::BadAddress(option) => say_address(rt, call, *option),
         Exit::NoBundle | Exit::NotAccepted => say_domain(rt, call),
         Exit::NoKnownKey => say_option(rt, call, key_option(call), unknown_key(call)),
         Exit::Locked => say_lock(rt, call, "another command has it"),
@@ -155,41 +155,27 @@ fn say_option(
     Ok(())
 }
 
-fn say_address(rt: &HostRuntime, call: &Call<'_>) -> Result<(), AllocError> {
-    let why = "is no IP address with a port, as 127.0.0.1:8471 or [::1]:8471";
-    match call.name {
-        CommandName::Serve => say_option(rt, call, OptionName::Listen, why),
-        CommandName::Replica => say_addresses(rt, call, why),
-        _ => say_option(rt, call, OptionName::Peer, why),
+fn say_address(rt: &HostRuntime, call: &Call<'_>, option: OptionName) -> Result<(), AllocError> {
+    if option == OptionName::HealthHost {
+        return say_option(rt, call, option, "has an empty name or a port");
     }
+    let why = match is_elsewhere(call, option) {
+        true => "is not a loopback address: --listen-anywhere allows it",
+        false => "is no IP address with a port, as 127.0.0.1:8471 or [::1]:8471",
+    };
+    say_option(rt, call, option, why)
 }
 
-// The options of a replica that have addresses. One of them is not an address.
-fn say_addresses(rt: &HostRuntime, call: &Call<'_>, why: &str) -> Result<(), AllocError> {
-    let anywhere = "is not a loopback address: --listen-anywhere allows it";
-    let listen = given(call, OptionName::Listen).map(known_address);
-    let health = given(call, OptionName::Health).map(address);
-    'options: for (option, address) in [
-        (OptionName::Listen, listen),
-        (OptionName::Health, health),
-    ] {
-        match address {
-            Some(Err(_)) => return say_option(rt, call, option, why),
-            Some(Ok(address)) if !may_listen(call, address) => {
-                return say_option(rt, call, option, anywhere);
-            }
-            _ => {}
+// Whether the option names an address at which a replica may not listen.
+fn is_elsewhere(call: &Call<'_>, option: OptionName) -> bool {
+    let is_listening = matches!(option, OptionName::Listen | OptionName::Health);
+    let address = read_address(option, given(call, option).unwrap_or(""));
+    match address {
+        Ok(address) if call.name == CommandName::Replica && is_listening => {
+            !may_listen(call, address)
         }
+        _ => false,
     }
-    if let Err(Exit::BadAddress) = health_names(rt.alloc(), call) {
-        return say_option(
-            rt,
-            call,
-            OptionName::HealthHost,
-            "has an empty name or a port",
-        );
-    }
-    say_option(rt, call, OptionName::Peers, why)
 }
 
 fn say_lock(rt: &HostRuntime, call: &Call<'_>, why: &str) -> Result<(), AllocError> {

@@ -1,11 +1,10 @@
 //! The texts of options that name a file, a socket or a number, read.
 use byte_lines::FromRead;
 use command_exits::{CommandError, Exit, read_config};
-use command_line::{Call, OptionName, given, is_flag_given, limits_given, read_sessions, wanted};
+use command_line::{Call, OptionName, given, limits_given, read_sessions, wanted};
 use fed_config::{Config, Limits};
 use std::alloc::Global;
 use std::fs::Files;
-use std::net::SocketAddr;
 use std::os::unix::fs::FileTypeExt;
 use std::{fs, io};
 
@@ -44,19 +43,6 @@ pub fn config_there(rt: &HostRuntime, call: &Call<'_>, path: &str) -> Result<Opt
     }
 }
 
-/// The address of an IP address and a port. At port 0 the system chooses the port.
-pub fn address(text: &str) -> Result<SocketAddr, Exit> {
-    text.parse::<SocketAddr>().map_err(|_| Exit::BadAddress)
-}
-
-/// The same for a port that another program has to know, so it is not 0.
-pub fn known_address(text: &str) -> Result<SocketAddr, Exit> {
-    match address(text)? {
-        known if known.port() != 0 => Ok(known),
-        _ => Err(Exit::BadAddress),
-    }
-}
-
 /// The names, other than `localhost`, by which the address of the pages may be asked: without a
 /// port, since any will do.
 pub fn health_names<'a>(alloc: Global, call: &Call<'a>) -> Result<Vec<&'a str>, Exit> {
@@ -66,7 +52,7 @@ pub fn health_names<'a>(alloc: Global, call: &Call<'a>) -> Result<Vec<&'a str>, 
     };
     for name in text.split(',') {
         if name.is_empty() || name.contains(':') {
-            return Err(Exit::BadAddress);
+            return Err(Exit::BadAddress(OptionName::HealthHost));
         }
         if names.push(name).is_err() {
             return Err(Exit::Refused(CommandError::NoMemory));
@@ -92,9 +78,4 @@ fn limits_of(call: &Call<'_>) -> Result<Limits, Exit> {
         receipts: most.receipts as usize,
         records: most.records as usize,
     })
-}
-
-/// Whether the arguments allow a replica to listen there.
-pub fn may_listen(call: &Call<'_>, address: SocketAddr) -> bool {
-    address.ip().is_loopback() || is_flag_given(given(call, OptionName::ListenAnywhere))
 }

@@ -13,7 +13,7 @@ returns-in_err-list_in g c =
       of_keys = c.is_flag_given-is_of_keys.result;
       is_of_keys = rw c.given-2.ensures at c.is_flag_given-is_of_keys.ensures;
       chosen = c.in_ok-chosen.chosen;
-      is_chosen = c.in_ok-chosen.ensures.ok;
+      is_chosen = rw c.given-3.ensures at c.in_ok-chosen.ensures.ok;
       answer = Err c.in_err-list_in.field-0.0;
       runs = list_chosen c.is_flag_given-is_of_keys.result c.in_ok-form.form (g.C.Closure.state c.args.closure.now).meaning _ _
           (device_run g.W.Sink.contents g.W.Sink.has_failed c.args.sink.now c.list_in.new.sink) (Err c.in_err-list_in.field-0.0)
@@ -28,7 +28,7 @@ returns g c = inr (record {
   of_keys = c.is_flag_given-is_of_keys.result;
   is_of_keys = rw c.given-2.ensures at c.is_flag_given-is_of_keys.ensures;
   chosen = c.in_ok-chosen.chosen;
-  is_chosen = c.in_ok-chosen.ensures.ok;
+  is_chosen = rw c.given-3.ensures at c.in_ok-chosen.ensures.ok;
   answer = Ok tt;
   runs = list_chosen c.is_flag_given-is_of_keys.result c.in_ok-form.form (g.C.Closure.state c.args.closure.now).meaning _ _
       (device_run g.W.Sink.contents g.W.Sink.has_failed c.args.sink.now c.list_in.new.sink) (Ok tt) c.as_ref.ensures.value
