@@ -12,7 +12,7 @@ from pathlib import Path
 
 TOP = Path(__file__).resolve().parent.parent
 SOURCES = TOP / "crates/command_line/src"
-VERSION = "0.14.0"
+VERSION = "0.15.0"
 
 
 def unquoted(text):

@@ -4,7 +4,7 @@ use crate::command_name::{CommandName, OptionName};
 /// What `--version` prints: the version on a line of its own; then the kit with which it is proved
 /// and built, and the formats: the numbers are those in the first lines that are written.
 pub const VERSION: &str = "\
-0.14.0
+0.15.0
 kit rattle-kit-13f logic dac8208d650f15bf
 state format 2, and 1 is read
 journal format 2

@@ -14,12 +14,12 @@ use trust_closure::ExchangeClosure;
 /// Writes the version of the library, without a line feed.
 #[unsafe(no_mangle)]
 pub extern "C" fn fedbundle_raw_version(out: &mut [u8], outcome: &mut CallOutcome) -> i64
-    ensures does { WritesOut (codes "0.14.0") (out_run out.old out.new outcome.new.length result) }
+    ensures does { WritesOut (codes "0.15.0") (out_run out.old out.new outcome.new.length result) }
     ensures count { outcome.new.count ≡ 0 }
     ensures fault { outcome.new.fault_length ≤ 240 }
     ensures stated { ReportsFault result outcome.new.fault_length }
 {
-    outcome.put(b"0.14.0", out)
+    outcome.put(b"0.15.0", out)
 }
 
 /// Opens a closed handle: it holds a replica of the configuration then, with what the snapshot
